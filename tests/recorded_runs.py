@@ -5,7 +5,8 @@ import subprocess
 import tempfile
 from collections import namedtuple
 
-# Keyspaces that are made, written and deleted, one of them made anew; some lines sync, and the others don't.
+# Keyspaces that are made, written and deleted, one of them made anew, and one of which gets two tables that are merged; some lines
+# sync, and the others don't.
 SCRIPT = """keyspace b
 keyspace a
 insert 1 6b 31
@@ -15,9 +16,14 @@ insert 1 6c 333333333333333333333333333333
 remove 1 6b
 delete 1
 insert 2 6c 3434
+rotate 2
+flush 2
 keyspace b
 insert 3 6b 35
 remove_weak 2 6c
+rotate 2
+flush 2
+merge 2
 reopen
 insert 3 6d 3636
 insert 2 6b -

@@ -13,6 +13,9 @@ pub const KEY_LEN: usize = 16;
 /// A value has 100 bytes.
 pub const VALUE_LEN: usize = 100;
 
+/// A pair has as many as both.
+pub const PAIR_LEN: u64 = (KEY_LEN + VALUE_LEN) as u64;
+
 /// The records of the machine's own limits have 150 bytes, as many as the digest of one insert's batch is taken of; the batch has 163.
 pub const RECORD_LEN: usize = 150;
 

@@ -1,4 +1,4 @@
-//! Opening, closing and flushing a database.
+//! Opening, closing, flushing and merging a database.
 
 use fjall_base::{Disk, Refused, Result};
 use fjall_core::{Call, Config, Core, JobId, Reply};
@@ -47,27 +47,45 @@ pub fn make_keyspaces<D: Disk>(alloc: Global, core: &mut Core<D>, count: u64) ->
     Ok(ids)
 }
 
-// The calls that move what a keyspace has in memory to a table, and let go of the journals that nobody wants then.
+// The calls that move what a keyspace has in memory to a table, put its tables together where that is due, and let go of the
+// journals that nobody wants then. A job is named by the place of the call that begins it.
 fn flushing(alloc: Global, id: u64) -> Result<Vec<Call>> {
-    let mut calls = Vec::with_capacity(alloc, 4)?;
+    let mut calls = Vec::with_capacity(alloc, 6)?;
     calls.push(Call::RotateMemtable(id))?;
-    let begun_by = calls.len() as u64;
     calls.push(Call::FlushBegin(id))?;
-    let job = JobId {
-        number: begun_by,
-        keyspace_id: id,
-    };
-    calls.push(Call::FlushFinish(job))?;
+    calls.push(Call::FlushFinish(JobId::of_call(1)))?;
+    calls.push(Call::MergeBegin(id))?;
+    calls.push(Call::MergeFinish(JobId::of_call(3)))?;
     calls.push(Call::Maintenance)?;
     Ok(calls)
 }
 
-/// Flushes a keyspace.
-pub fn flush<D: Disk>(alloc: Global, core: &mut Core<D>, id: u64) -> Result<()> {
-    for reply in core.run(flushing(alloc, id)?)? {
+// The calls that put all tables of a keyspace together.
+fn merging(alloc: Global, id: u64) -> Result<Vec<Call>> {
+    let mut calls = Vec::with_capacity(alloc, 3)?;
+    calls.push(Call::Gc)?;
+    calls.push(Call::MajorBegin(id))?;
+    calls.push(Call::MergeFinish(JobId::of_call(1)))?;
+    Ok(calls)
+}
+
+// Serves calls, and answers the first refusal.
+fn serve<D: Disk>(core: &mut Core<D>, calls: Vec<Call>) -> Result<()> {
+    for reply in core.run(calls)? {
         if let Reply::Refused(error) = reply {
             return Err(error);
         }
     }
     Ok(())
+}
+
+/// Flushes a keyspace, and merges its tables where as many of them are flushed as its options say.
+pub fn flush<D: Disk>(alloc: Global, core: &mut Core<D>, id: u64) -> Result<()> {
+    serve(core, flushing(alloc, id)?)
+}
+
+/// Flushes a keyspace, and merges all its tables.
+pub fn merge<D: Disk>(alloc: Global, core: &mut Core<D>, id: u64) -> Result<()> {
+    flush(alloc, core, id)?;
+    serve(core, merging(alloc, id)?)
 }

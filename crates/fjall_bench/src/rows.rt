@@ -1,5 +1,7 @@
 //! The table of workloads.
 
+ghost use Rattle.std.specs.Prelude.{◌<◌};
+
 use crate::data::{at_random, in_order};
 use std::alloc::{AllocError, Global};
 
@@ -32,6 +34,8 @@ pub enum Action {
     Remove,
     /// What is in memory is moved to a table.
     Flush,
+    /// What is in memory is moved to a table, and all tables are merged.
+    Merge,
     /// Each number's key is looked up.
     ReadHit,
     /// The key behind each number's is looked up, which isn't there.
@@ -42,6 +46,8 @@ pub enum Action {
     ScanBack,
     /// From each number's key on the next pairs are read.
     ReadRanges,
+    /// The database is closed.
+    Close,
     /// The database is opened again.
     Reopen,
 }
@@ -59,6 +65,8 @@ pub enum Choice {
     Shuffled,
     /// All in another order.
     Others,
+    /// Of that other order the first fifth.
+    Fifth,
     /// Of that other order the first ones, from which ranges are read.
     Starts,
 }
@@ -72,16 +80,19 @@ impl Choice {
             Choice::OfKeyspace => in_order(alloc, PAIRS_PER_KEYSPACE),
             Choice::Shuffled => at_random(alloc, count, FILL_SEED),
             Choice::Others => at_random(alloc, count, OTHER_SEED),
-            Choice::Starts => starts(alloc, count),
+            Choice::Fifth => first_of_others(alloc, count, 5),
+            Choice::Starts => first_of_others(alloc, count, PAIRS_TOGETHER),
         }
     }
 }
 
-// The numbers from whose keys on ranges are read: one for each range that there is room for, and one at least.
-fn starts(alloc: Global, count: u64) -> Result<Vec<u64>, AllocError> {
+// Of the numbers in the other order the first ones: one for each so many, and one at least.
+fn first_of_others(alloc: Global, count: u64, each: usize) -> Result<Vec<u64>, AllocError>
+    requires { 0 < each }
+{
     let mut numbers = at_random(alloc, count, OTHER_SEED)?;
-    let ranges = numbers.len() / PAIRS_TOGETHER;
-    numbers.truncate(ranges.max(1));
+    let first = numbers.len() / each;
+    numbers.truncate(first.max(1));
     Ok(numbers)
 }
 
@@ -142,6 +153,16 @@ const KEYSPACES_FILLED: [Workload; 2] = [
 /// A random fill alone.
 const FILL: [Workload; 1] = [Workload("fill at random", Action::Insert, Choice::Shuffled)];
 
+/// A random fill with its flushes and merges, and what is done behind it.
+const LONG: [Workload; 6] = [
+    Workload("long: fill at random", Action::Insert, Choice::Shuffled),
+    Workload("long: major merge", Action::Merge, Choice::Ordered),
+    Workload("long: read hit", Action::ReadHit, Choice::Fifth),
+    Workload("long: scan forward", Action::ScanForward, Choice::Ordered),
+    Workload("long: close", Action::Close, Choice::Ordered),
+    Workload("long: reopen", Action::Reopen, Choice::Ordered),
+];
+
 /// Workloads over one place, one after another.
 #[derive(Clone, Copy)]
 pub enum Group {
@@ -154,10 +175,12 @@ pub enum Group {
     Limits,
     /// A random fill, which is run only where it is asked for: how much memory the process takes at most is that of the fill.
     Fill,
+    /// A long run, which is run only where it is asked for.
+    Long,
 }
 
 /// All groups, in the order in which they are run.
-pub const GROUPS: [Group; 7] = [
+pub const GROUPS: [Group; 8] = [
     Group::Order,
     Group::Random,
     Group::Batches,
@@ -165,6 +188,7 @@ pub const GROUPS: [Group; 7] = [
     Group::Keyspaces,
     Group::Limits,
     Group::Fill,
+    Group::Long,
 ];
 
 impl Group {
@@ -178,6 +202,7 @@ impl Group {
             Group::Keyspaces => "keyspaces",
             Group::Limits => "limits",
             Group::Fill => "fill",
+            Group::Long => "long",
         }
     }
 
@@ -185,7 +210,7 @@ impl Group {
     pub fn is_asked_for(self, name: Option<&str>) -> bool {
         match name {
             Some(name) => self.name() == name,
-            None => !matches!(self, Group::Fill),
+            None => !matches!(self, Group::Fill | Group::Long),
         }
     }
 
@@ -207,6 +232,7 @@ impl Group {
             Group::Keyspaces => &KEYSPACES_FILLED,
             Group::Limits => &[],
             Group::Fill => &FILL,
+            Group::Long => &LONG,
         }
     }
 }

@@ -1,11 +1,12 @@
 //! All workloads, one after another.
 
 use crate::clock::Stopwatch;
-use crate::database::{closed, flush, make_keyspaces, open};
+use crate::data::PAIR_LEN;
+use crate::database::{closed, flush, make_keyspaces, merge, open};
 use crate::limits::{append_records, digest_records};
 use crate::places::Places;
 use crate::reads::{count_hits, count_misses, count_ranges, scan};
-use crate::report::Row;
+use crate::report::{Row, Space};
 use crate::rows::{Action, GROUPS, Group, Workload};
 use crate::writes::{insert_batches, insert_each, insert_synced, remove_each};
 use anyhow::{Result, bail};
@@ -18,7 +19,7 @@ use std::time::CpuClock;
 // The engine's name in the table.
 const ENGINE: &str = "pothvilai";
 
-/// Runs the group of workloads of this name, or all but the one that has to be asked for, each over a place of its own. What
+/// Runs the group of workloads of this name, or all but those that have to be asked for, each over a place of its own. What
 /// was done is told on standard output, the same in each run, and the table of times on standard error.
 pub fn run<R: Print + Eprint + Clock + CpuClock, P: Places>(
     rt: &R,
@@ -86,6 +87,9 @@ fn run_workloads<R: Print + Eprint + Clock + CpuClock, D: Disk + Drop>(
     for workload in group.workloads() {
         core = run_workload(rt, alloc, core, &ids, workload, count)?;
     }
+    if matches!(group, Group::Long) {
+        say_space(rt, &core, count)?;
+    }
     Ok(())
 }
 
@@ -117,6 +121,7 @@ fn run_workload<R: Print + Eprint + Clock + CpuClock, D: Disk + Drop>(
     let numbers = choice.numbers(alloc, count)?;
     let count = count_all(ids, &numbers);
     let (core, done) = match action {
+        Action::Close => (close(rt, alloc, core, name, count)?, count),
         Action::Reopen => (reopen(rt, alloc, core, name, count)?, count),
         _ => serve_all(rt, alloc, core, ids, workload, &numbers)?,
     };
@@ -127,6 +132,20 @@ fn run_workload<R: Print + Eprint + Clock + CpuClock, D: Disk + Drop>(
 // How many operations there are where each number has one in each keyspace.
 fn count_all(ids: &[u64], numbers: &[u64]) -> u64 {
     ids.len().saturating_mul(numbers.len()) as u64
+}
+
+// Closes a database; then it is opened again.
+fn close<R: Eprint + Clock + CpuClock, D: Disk + Drop>(
+    rt: &R,
+    alloc: Global,
+    core: Core<D>,
+    name: &'static str,
+    count: u64,
+) -> Result<Core<D>> {
+    let watch = Stopwatch::start(rt)?;
+    let disk = closed(core)?;
+    tell(rt, ENGINE, name, count, &watch)?;
+    Ok(open(alloc, disk)?)
 }
 
 // Opens a database again.
@@ -187,7 +206,8 @@ fn serve<D: Disk>(
         Action::InsertBatches => insert_batches(alloc, core, id, numbers)?,
         Action::Remove => remove_each(alloc, core, id, numbers)?,
         Action::Flush => flush(alloc, core, id)?,
-        Action::Reopen => {}
+        Action::Merge => merge(alloc, core, id)?,
+        Action::Close | Action::Reopen => {}
     }
     Ok(numbers.len() as u64)
 }
@@ -210,6 +230,17 @@ fn say<R: Print, D: Disk>(
     println!(rt;
         "{workload}: {done}, visible number {seqno}, {versions} versions, journal {journal} bytes, tables {tables} bytes"
     )?;
+    Ok(())
+}
+
+// Says how many bytes the tables and journals have, and how many times those of so many pairs that is.
+fn say_space<R: Print, D: Disk>(rt: &R, core: &Core<D>, count: u64) -> Result<()> {
+    let space = Space {
+        engine: ENGINE,
+        bytes: core.disk_space(None),
+        pair_bytes: count.saturating_mul(PAIR_LEN),
+    };
+    println!(rt; "{space}")?;
     Ok(())
 }
 

@@ -1,12 +1,12 @@
 //! What lists of steps are answered, in rows.
 
-use crate::answers::Answer::{Done, Flag, Number, Opened, Pairs, Refused, Value};
+use crate::answers::Answer::{Began, Done, Flag, Number, Opened, Pairs, Refused, Value};
 use crate::answers::{Row, core_on, is_told, served};
 use crate::steps::Act::{FetchUpdate, Get, Page, Put, Remove, Sync, Take, UpdateFetch};
 use crate::steps::Step;
 use crate::steps::Step::{
-    Begin, CloseSnapshot, Commit, Create, Delete, In, Insert, OpenSnapshots, Rollback, Seqno,
-    Snapshot,
+    Begin, BeginFlush, BeginMerge, CloseSnapshot, Commit, Create, Delete, FinishFlush, FinishMerge,
+    In, Insert, OpenSnapshots, Rollback, Rotate, Seqno, Snapshot,
 };
 use fjall_base::{Error, Result};
 use fjall_calls::Kind::{Optimistic, Single};
@@ -236,6 +236,39 @@ const REFUSALS: &[Row] = &[
     (Step::Get(1, "k"), Value(Some("v"))),
 ];
 
+const MERGES: &[Row] = &[
+    (Insert(1, "a", "1"), Done),
+    (Rotate(1), Flag(true)),
+    (BeginFlush(1), Began),
+    (FinishFlush(2), Flag(true)),
+    (Begin(Optimistic), Done),
+    (Insert(1, "a", "2"), Done),
+    (Insert(1, "b", "3"), Done),
+    (Rotate(1), Flag(true)),
+    (BeginFlush(1), Began),
+    (FinishFlush(8), Flag(true)),
+    (BeginMerge(1), Began),
+    (In(4, Get(1, "a")), Value(Some("1"))),
+    (Begin(Optimistic), Done),
+    (In(12, Get(1, "a")), Value(Some("2"))),
+    (In(12, Put(1, "b", "4")), Done),
+    (FinishFlush(10), Flag(false)),
+    (FinishMerge(8), Flag(false)),
+    (FinishMerge(10), Flag(true)),
+    (In(4, Get(1, "a")), Value(Some("1"))),
+    (In(4, Page(1, "a", Included("b"), 9)), Pairs(&[("a", "1")])),
+    (In(4, Put(1, "c", "5")), Done),
+    (
+        In(12, Page(1, "a", Included("b"), 9)),
+        Pairs(&[("a", "2"), ("b", "4")]),
+    ),
+    (Commit(Optimistic, 12), Flag(true)),
+    (Commit(Optimistic, 4), Flag(false)),
+    (FinishMerge(10), Flag(false)),
+    (Step::Get(1, "b"), Value(Some("4"))),
+    (Step::Get(1, "c"), Value(None)),
+];
+
 const SCENARIOS: &[Scenario] = &[
     ("each writes what the other read", CROSSWISE),
     ("a key at the end of a range", IN_RANGE),
@@ -252,6 +285,7 @@ const SCENARIOS: &[Scenario] = &[
     ("tickets are closed", TICKETS),
     ("names of no transaction", NAMES),
     ("refusals", REFUSALS),
+    ("reads beside a merge", MERGES),
 ];
 
 // The keyspace that each list finds.

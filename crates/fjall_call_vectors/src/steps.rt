@@ -32,6 +32,9 @@ pub enum Step {
     Rotate(u64),
     BeginFlush(u64),
     FinishFlush(u64),
+    /// A major one.
+    BeginMerge(u64),
+    FinishMerge(u64),
     Get(u64, &'static str),
     /// By the ticket of this place.
     GetAt(u64, u64, &'static str),
@@ -154,6 +157,8 @@ impl Step {
             Step::Rotate(id) => Call::RotateMemtable(*id),
             Step::BeginFlush(id) => Call::FlushBegin(*id),
             Step::FinishFlush(place) => Call::FlushFinish(JobId::of_call(*place)),
+            Step::BeginMerge(id) => Call::MajorBegin(*id),
+            Step::FinishMerge(place) => Call::MergeFinish(JobId::of_call(*place)),
             Step::Snapshot => Call::Snapshot,
             Step::CloseSnapshot(place) => Call::CloseSnapshot(Ticket::of_call(*place)),
             Step::Persist(mode) => Call::Persist(*mode),

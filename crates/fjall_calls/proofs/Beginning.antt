@@ -10,7 +10,6 @@ use Rattle.fjall_history.specs.declared.job.JobId.{JobId}
 use Rattle.fjall_base.proofs.Codecs.{some_is}
 use Rattle.fjall_history.specs.declared.ticket.Ticket.{Ticket}
 use Rattle.fjall_state.specs.Machine.{State}
-use Rattle.fjall_state.specs.Places.{resolved}
 use Rattle.fjall_state.specs.Shapes.{OfTickets, Open, shape_of}
 use Rattle.fjall_state.specs.declared.call.Call.{Call}
 use Rattle.fjall_state.specs.declared.call.Call.TheVariants.{Snapshot}
@@ -23,7 +22,7 @@ use Rattle.fjall_transactions.specs.Transactions.{Kept, Tx, begun}
 use Rattle.fjall_transactions.proofs.Standing.{served_stands, shape_stands}
 use Rattle.fjall_lists.specs.Acting.{Acts, Asks, AsksFor, AsksNothing, call_for}
 use Rattle.fjall_lists.specs.Names.{Takes, is_wanted}
-use Rattle.fjall_lists.specs.Steps.{IsBegun, IsHeldBack, OfCore, IsNotBegun, IsUnknown, IsWithin, first_marks, gone_by, name_in, with_begun, writer_after}
+use Rattle.fjall_lists.specs.Steps.{IsBegun, IsHeldBack, IsNotBegun, IsUnknown, IsWithin, first_marks, gone_by, name_in, with_begun, writer_after}
 use Rattle.fjall_lists.specs.Worlds.{Going, along}
 use Rattle.fjall_lists.specs.declared.call.Kind.{Kind}
 use Rattle.fjall_lists.specs.declared.call.Kind.TheVariants.{Optimistic, Single}
@@ -32,7 +31,7 @@ use Rattle.fjall_lists.specs.declared.call.TxCall.TheVariants as calls
 use Rattle.fjall_lists.specs.declared.call.Within.{Within}
 use Rattle.fjall_lists.specs.declared.call.Within.TheVariants as within
 use Rattle.fjall_lists.specs.declared.named.Named.{Named}
-use Rattle.fjall_calls.specs.Serving.{ActsOn, IsReplyIn, IsReplyTo, Itself, KeepsOn, Others, ServesAll, ServesTx, may_begin}
+use Rattle.fjall_calls.specs.Serving.{ActsOn, IsReplyIn, IsReplyTo, KeepsOn, Others, ServesAll, ServesTx, may_begin}
 use Rattle.fjall_calls.proofs.Acting.{none_made, one_made}
 use Rattle.fjall_calls.proofs.Chains.{each_replied}
 use Rattle.fjall_calls.proofs.Jobs.{kept_on, kept_still}
@@ -143,21 +142,6 @@ acts_so honest core left kept listed rest before name call named reply after tak
         IsWithin name call g found.others found.takes reply acts.made acts.told s after
             (subst (λ (n : Named). Acts w.told.state n.transaction call reply acts.made acts.told s after) (sym found.is) does),
       );
-}
-
--- ---- calls of the core
-
-pub core_serves : (honest : Bool) (core left : Held) (kept : Kept) (listed : List Named) (before : List Reply) (call : Call) (reply : Reply)
-    → (IsTrue honest → Serves core (shape_of (resolved before call)) reply left) → Owes core (shape_of (resolved before call)) reply left
-    → ServesTx honest core kept listed before (calls.Core call) reply left kept listed
-core_serves honest core left kept listed before call reply serves owes = record {
-  made = resolved before call ∷ [];
-  told = reply ∷ [];
-  makes = one_made honest core left (resolved before call) reply serves owes;
-  comes = Itself call reply;
-  steps = λ h w stands reads.
-      let (s, stay, on, step) = served_stands core left kept w.told (shape_of (resolved before call)) reply stands.told reads (serves h) in
-      (along w s, record { told = stay; writer = stands.writer; going = stands.going }, on, OfCore call reply s step);
 }
 
 -- ---- how a beginning is answered

@@ -8,4 +8,6 @@ pub mod Names
 pub mod Acting
 pub mod Looking
 pub mod Beginning
+pub mod Quiet
+pub mod Listed
 pub mod Ending

@@ -6,14 +6,15 @@ use Rattle.fjall_base.specs.declared.error.Error.TheVariants.{OutOfMemory}
 use Rattle.fjall_history.specs.Queries.{Get}
 use Rattle.fjall_history.specs.declared.reply.Reply.{Reply}
 use Rattle.fjall_history.specs.declared.reply.Reply.TheVariants.{Done, Flag, Pairs, Refused, Value}
-use Rattle.fjall_jobs.specs.declared.flush_job.FlushJob.{FlushJob}
+use Rattle.fjall_core.specs.declared.jobs.Jobs.{Jobs}
+use Rattle.fjall_jobs.specs.declared.merge_job.MergeJob.{MergeJob}
 use Rattle.fjall_state.specs.Machine.{State, Step}
 use Rattle.fjall_state.specs.Places.{resolved}
 use Rattle.fjall_state.specs.Shapes.{shape_of}
 use Rattle.fjall_state.specs.declared.call.Call.{Call}
 use Rattle.fjall_core.specs.Holding.{Held}
-use Rattle.fjall_core.specs.Jobs.{KeepsJobs}
-use Rattle.fjall_core.specs.Standing.{OwesAll, ReadsOn, Runs, RunsSafely, Serves, StandsFor}
+use Rattle.fjall_core.specs.Jobs.{KeepsJobs, KeepsMerges, KnowsMerges}
+use Rattle.fjall_core.specs.Standing.{OwesAll, ReadsOn, Runs, RunsSafely, Serves, ServesWhere, StandsFor}
 use Rattle.fjall_transactions.specs.Commits.{is_writing}
 use Rattle.fjall_transactions.specs.Transactions.{Kept, Tx}
 use Rattle.fjall_transactions.specs.Standing.{StandFor, Told}
@@ -41,9 +42,23 @@ pub record Makes (honest : Bool) (old : Held) (made : List Call) (told : List Re
   pub serves : IsTrue honest → ServesAll old made told new
   pub owes : OwesAll old made told new
 
+-- Calls of the core one after another, each served from whatever state knows the merges that are kept, and behind which those are known
+-- that are kept then.
+abbrev pub ServesKept : List MergeJob → Held → List Call → List Reply → Held → List MergeJob → Type 0
+ServesKept jobs old [] [] new later = (new ≡ old) × (later ≡ jobs)
+ServesKept jobs old (call ∷ calls) (reply ∷ replies) new later =
+    (mid : Held) × (left : List MergeJob) × ServesWhere (λ s. KnowsMerges s jobs) old (shape_of call) reply mid × KeepsMerges old jobs (shape_of call) reply left
+    × ServesKept left mid calls replies new later
+ServesKept jobs old calls replies new later = ⊥
+
+-- the same of calls with their replies, as these are owed over any disk
+pub record MakesKept (honest : Bool) (jobs : List MergeJob) (old : Held) (made : List Call) (told : List Reply) (new : Held) (later : List MergeJob) : Type 0 where
+  pub serves : IsTrue honest → ServesKept jobs old made told new later
+  pub owes : OwesAll old made told new
+
 -- the jobs that are kept beside a core stay known, whatever reply to these calls is told
 abbrev pub KeepsOn : Held → Held → Type 0
-KeepsOn old new = (jobs : List FlushJob) (replies : List Reply) → KeepsJobs old.memory jobs replies → KeepsJobs new.memory jobs replies
+KeepsOn old new = (jobs : Jobs) (replies : List Reply) → KeepsJobs old.memory jobs replies → KeepsJobs new.memory jobs replies
 
 -- ---- calls within a transaction
 
@@ -137,6 +152,15 @@ pub record ServesTx (honest : Bool) (core : Held) (kept : Kept) (listed : List N
   pub comes : ComesTo before call reply made told
   pub steps : IsTrue honest → (w : World) → Stands core kept listed w → ReadsOn core w.told.state
       → (v : World) × Stands left after rest v × ReadsOn left v.told.state × TxStep w before call reply made told v
+
+-- The same of whichever world knows the merges that were kept, behind which those are known that are kept then.
+pub record ServesListed (honest : Bool) (jobs later : List MergeJob) (core : Held) (kept : Kept) (listed : List Named) (before : List Reply) (call : TxCall) (reply : Reply) (left : Held) (after : Kept) (rest : List Named) : Type 0 where
+  pub made : List Call
+  pub told : List Reply
+  pub makes : MakesKept honest jobs core made told left later
+  pub comes : ComesTo before call reply made told
+  pub steps : IsTrue honest → (w : World) → Stands core kept listed w → ReadsOn core w.told.state → KnowsMerges w.told.state jobs
+      → (v : World) × Stands left after rest v × ReadsOn left v.told.state × KnowsMerges v.told.state later × TxStep w before call reply made told v
 
 -- The calls of a list, as a run: the calls of the core that they come to, of which a crash at any moment leaves what it may, and each reply is
 -- owed; and, whichever state the core and what is kept beside it stood for, one step for each call.

@@ -5,7 +5,7 @@ ghost use Rattle.fjall_base.specs.declared.error.Error.TheVariants.{TransactionO
 ghost use Rattle.fjall_core.specs.Jobs.{KeepsJobs};
 ghost use Rattle.fjall_core.specs.Standing.{Owes, Serves};
 ghost use Rattle.fjall_history.specs.declared.reply.Reply.{Reply as Told};
-ghost use Rattle.fjall_jobs.specs.declared.flush_job.FlushJob.{FlushJob};
+ghost use Rattle.fjall_core.specs.declared.jobs.Jobs.{Jobs};
 ghost use Rattle.fjall_state.specs.Shapes.{OfTickets, Open};
 ghost use Rattle.fjall_transactions.specs.Commits.{begun_reply};
 ghost use Rattle.fjall_transactions.specs.Transactions.{Kept, begun};
@@ -50,7 +50,7 @@ pub(crate) fn begin<D: Disk>(
     requires room { vec_len listed.old < vec_capacity listed.old }
     ensures serves { (before : List Told) → place ≡ length before
         → ServesTx D.honest core.old transactions.old listed.old.items before (calls.Begin kind) result core.new transactions.new listed.new.items }
-    ensures keeps { (jobs : List FlushJob) (before : List Told) → KeepsJobs core.old.memory jobs before → KeepsJobs core.new.memory jobs (before ++ result ∷ []) }
+    ensures keeps { (jobs : Jobs) (before : List Told) → KeepsJobs core.old.memory jobs before → KeepsJobs core.new.memory jobs (before ++ result ∷ []) }
     ensures room { vec_capacity listed.old ≤ vec_capacity listed.new }
     ensures len { vec_len listed.new ≤ vec_len listed.old + 1 }
 {
@@ -72,7 +72,7 @@ pub(crate) fn within<D: Disk>(
 ) -> Reply
     ensures serves { (kept : Kept) (before : List Told)
         → ServesTx D.honest core.old kept listed.old.items before (calls.Within name call) result core.new kept listed.new.items }
-    ensures keeps { (jobs : List FlushJob) (before : List Told) → KeepsJobs core.old.memory jobs before → KeepsJobs core.new.memory jobs (before ++ result ∷ []) }
+    ensures keeps { (jobs : Jobs) (before : List Told) → KeepsJobs core.old.memory jobs before → KeepsJobs core.new.memory jobs (before ++ result ∷ []) }
     ensures room { vec_capacity listed.old ≤ vec_capacity listed.new }
     ensures len { vec_len listed.new ≤ vec_len listed.old }
 {
@@ -106,7 +106,7 @@ pub(crate) fn commit<D: Disk>(
 ) -> Reply
     ensures serves { (before : List Told)
         → ServesTx D.honest core.old transactions.old listed.old.items before (calls.Commit kind name) result core.new transactions.new listed.new.items }
-    ensures keeps { (jobs : List FlushJob) (before : List Told) → KeepsJobs core.old.memory jobs before → KeepsJobs core.new.memory jobs (before ++ result ∷ []) }
+    ensures keeps { (jobs : Jobs) (before : List Told) → KeepsJobs core.old.memory jobs before → KeepsJobs core.new.memory jobs (before ++ result ∷ []) }
     ensures room { vec_capacity listed.new ≡ vec_capacity listed.old }
     ensures len { vec_len listed.new ≤ vec_len listed.old }
 {
@@ -127,7 +127,7 @@ pub(crate) fn roll_back<D: Disk>(
 ) -> Reply
     ensures serves { (before : List Told)
         → ServesTx D.honest core.old transactions.old listed.old.items before (calls.Rollback name) result core.new transactions.new listed.new.items }
-    ensures keeps { (jobs : List FlushJob) (before : List Told) → KeepsJobs core.old.memory jobs before → KeepsJobs core.new.memory jobs (before ++ result ∷ []) }
+    ensures keeps { (jobs : Jobs) (before : List Told) → KeepsJobs core.old.memory jobs before → KeepsJobs core.new.memory jobs (before ++ result ∷ []) }
     ensures room { vec_capacity listed.new ≡ vec_capacity listed.old }
     ensures len { vec_len listed.new ≤ vec_len listed.old }
 {

@@ -2,11 +2,11 @@
 
 ghost use Rattle.std.specs.Prelude.{◌≡◌, ◌+◌, ◌++◌, ◌∷◌, ◌<◌, ◌≤◌, [], IfOk, IsOkUnless, OnErr, vec_capacity, vec_len};
 ghost use Rattle.fjall_core.specs.Jobs.{KeepsJobs};
-ghost use Rattle.fjall_calls.specs.Serving.{RunsTx, ServesTx};
+ghost use Rattle.fjall_calls.specs.Serving.{RunsTx, ServesListed};
 
 use crate::ends::{begin, commit, roll_back, within};
 use fjall_base::{Disk, Error, Result};
-use fjall_core::{Core, FlushJob, Reply};
+use fjall_core::{Core, Jobs, Reply};
 use fjall_lists::{Named, TxCall};
 use fjall_transactions::Transactions;
 use std::alloc::Global;
@@ -19,17 +19,20 @@ fn serve<D: Disk>(
     call: TxCall,
     replies: &[Reply],
     listed: &mut Vec<Named>,
-    jobs: &mut Vec<FlushJob>,
+    jobs: &mut Jobs,
 ) -> Reply
     requires listed_room { vec_len listed.old < vec_capacity listed.old }
-    requires room { vec_len jobs.old < vec_capacity jobs.old }
-    requires keeps { KeepsJobs core.old.memory jobs.old.items replies.now }
-    ensures serves { ServesTx D.honest core.old transactions.old listed.old.items replies.now call result core.new transactions.new listed.new.items }
-    ensures keeps { KeepsJobs core.new.memory jobs.new.items (replies.now ++ result ∷ []) }
+    requires flush_room { vec_len jobs.old.flushes < vec_capacity jobs.old.flushes }
+    requires merge_room { vec_len jobs.old.merges < vec_capacity jobs.old.merges }
+    requires keeps { KeepsJobs core.old.memory jobs.old replies.now }
+    ensures serves { ServesListed D.honest jobs.old.merges.items jobs.new.merges.items core.old transactions.old listed.old.items replies.now call result core.new transactions.new listed.new.items }
+    ensures keeps { KeepsJobs core.new.memory jobs.new (replies.now ++ result ∷ []) }
     ensures listed_room { vec_capacity listed.old ≤ vec_capacity listed.new }
     ensures listed_len { vec_len listed.new ≤ vec_len listed.old + 1 }
-    ensures room { vec_capacity jobs.old ≤ vec_capacity jobs.new }
-    ensures len { vec_len jobs.new ≤ vec_len jobs.old + 1 }
+    ensures flush_room { vec_capacity jobs.old.flushes ≤ vec_capacity jobs.new.flushes }
+    ensures merge_room { vec_capacity jobs.old.merges ≤ vec_capacity jobs.new.merges }
+    ensures flush_len { vec_len jobs.new.flushes ≤ vec_len jobs.old.flushes + 1 }
+    ensures merge_len { vec_len jobs.new.merges ≤ vec_len jobs.old.merges + 1 }
 {
     match call {
         TxCall::Core(call) => core.serve(call, replies, jobs),
@@ -59,7 +62,7 @@ pub fn run<D: Disk>(
 {
     let mut replies = Vec::with_capacity(alloc, calls.len())?;
     let mut listed = Vec::with_capacity(alloc, calls.len())?;
-    let mut jobs = Vec::with_capacity(alloc, calls.len())?;
+    let mut jobs = Jobs::with_capacity(alloc, calls.len())?;
     for call in calls {
         let reply = serve(core, transactions, call, &replies, &mut listed, &mut jobs);
         replies.push(reply).unwrap();

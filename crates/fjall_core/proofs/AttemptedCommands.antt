@@ -15,8 +15,8 @@ use Rattle.fjall_history.specs.declared.reply.Reply.{Reply}
 use Rattle.fjall_history.specs.declared.reply.Reply.TheVariants.{Refused}
 use Rattle.fjall_history.specs.Histories.{Accepted, History, grown, extended, plain}
 use Rattle.fjall_state.specs.declared.call.Call.{Call}
-use Rattle.fjall_state.specs.Shapes.{OfChange, OfCount, OfCreation, OfDeletion, OfFlushBegin, OfFlushFinish, OfHandle, OfIngestion, OfJournalRotation, OfMaintenance, OfPersist, OfRead, OfRotation, OfTickets, OneLess, OneMore, Shape, shape_of}
-use Rattle.fjall_state.specs.Machine.{Answers, BeginsFlush, CreatesOrFinds, FinishesFlush, IngestionFails, IngestsInto, State, StepOf, ReadsTables, Refuses, MayFail, IsPoisoned, WorkFails, at_fault, begins_flush, deleted, due, facts, is_flushing, is_living, is_long, journal_rotated, journal_synced, present, rotated, rotates, takes_effect, with_sealed, written_out}
+use Rattle.fjall_state.specs.Shapes.{OfChange, OfCount, OfCreation, OfDeletion, OfFlushBegin, OfFlushFinish, OfHandle, OfIngestion, OfJournalRotation, OfMaintenance, OfMergeBegin, OfMergeFinish, OfPersist, OfRead, OfRotation, OfTickets, OneLess, OneMore, Shape, shape_of}
+use Rattle.fjall_state.specs.Machine.{Answers, BeginsFlush, BeginsMerge, CreatesOrFinds, FinishesFlush, FinishesMerge, IngestionFails, IngestsInto, State, StepOf, ReadsTables, Refuses, MayFail, IsPoisoned, WorkFails, at_fault, begins_flush, begins_merge, deleted, due, facts, is_flushing, is_living, is_long, is_merging, journal_rotated, journal_synced, present, rotated, rotates, takes_effect, with_sealed, written_out}
 use Rattle.fjall_trees.specs.Forests.{Forest}
 use Rattle.fjall_core.specs.Durables.{Durable}
 use Rattle.fjall_core.specs.Crashes.{asked, attempt, RunOn, Tried, is_io}
@@ -43,6 +43,8 @@ same_history s (OfRotation id) = refl
 same_history s OfJournalRotation = refl
 same_history s (OfFlushBegin id) = refl
 same_history s (OfFlushFinish job) = refl
+same_history s (OfMergeBegin kind id) = refl
+same_history s (OfMergeFinish job) = refl
 same_history s OfMaintenance = refl
 same_history s (OfRead view id query) = refl
 same_history s (OfTickets call) = refl
@@ -66,6 +68,8 @@ reads_ask s trees (OfRotation id) reads = absurd reads
 reads_ask s trees OfJournalRotation reads = absurd reads
 reads_ask s trees (OfFlushBegin id) reads = absurd reads
 reads_ask s trees (OfFlushFinish job) reads = absurd reads
+reads_ask s trees (OfMergeBegin kind id) reads = absurd reads
+reads_ask s trees (OfMergeFinish job) reads = absurd reads
 reads_ask s trees OfMaintenance reads = absurd reads
 reads_ask s trees (OfTickets call) reads = absurd reads
 reads_ask s trees (OfPersist mode) reads = absurd reads
@@ -97,6 +101,9 @@ work_moves : (s t : State) (shape : Shape) → due s shape ≡ None → WorkFail
 work_moves s t (OfFlushBegin id) none (begins, numbered, fault) = worked s s t (OfFlushBegin id) refl refl fault
 work_moves s t (OfFlushFinish job) none (due_so, well, inl fault) = worked s s t (OfFlushFinish job) refl refl fault
 work_moves s t (OfFlushFinish job) none (due_so, well, inr (parts, mid, flushes, (gone, left, all, may, is), fault)) = worked s mid t (OfFlushFinish job) refl (ap (λ (x : State). x.history) is) fault
+work_moves s t (OfMergeBegin kind id) none (begins, left, same) = as_it_was s t _ refl same
+work_moves s t (OfMergeFinish job) none (due_so, well, inl fault) = worked s s t (OfMergeFinish job) refl refl fault
+work_moves s t (OfMergeFinish job) none (due_so, well, inr (parts, merged, fault)) = worked s (record s { parts = parts }) t (OfMergeFinish job) refl refl fault
 work_moves s t OfMaintenance none (mid, (gone, left, all, may, is), fault) = worked s mid t OfMaintenance refl (ap (λ (x : State). x.history) is) fault
 work_moves s t (OfIngestion id []) none fails = absurd fails
 work_moves s t (OfIngestion id (item ∷ items)) due_is (left, fails) = ingestion_moves s t id (item ∷ items) due_is fails
@@ -162,6 +169,15 @@ finished_moves s t job reply true true (told, well, parts, flushes, is) = quiet 
 finished_moves s t job reply true false (told, is) = quiet s t [] refl (ap (λ (x : State). x.history) is) (ap (λ (x : State). x.poisoned) is)
 finished_moves s t job reply false takes (told, same) = as_it_was s t [] refl same
 
+merge_begun_moves : (s t : State) (id : ℕ) (reply : Reply) (begins : Bool) → BeginsMerge begins s id reply t → Moves s [] t
+merge_begun_moves s t id reply true (told, numbered, is) = quiet s t [] refl (ap (λ (x : State). x.history) is) (ap (λ (x : State). x.poisoned) is)
+merge_begun_moves s t id reply false (told, same) = as_it_was s t [] refl same
+
+merge_finished_moves : (s t : State) (job : JobId) (reply : Reply) (out lives : Bool) → FinishesMerge out lives s job reply t → Moves s [] t
+merge_finished_moves s t job reply true true (told, well, parts, merged, is) = quiet s t [] refl (ap (λ (x : State). x.history) is) (ap (λ (x : State). x.poisoned) is)
+merge_finished_moves s t job reply true false (told, is) = quiet s t [] refl (ap (λ (x : State). x.history) is) (ap (λ (x : State). x.poisoned) is)
+merge_finished_moves s t job reply false lives (told, same) = as_it_was s t [] refl same
+
 ingested_moves : (s t : State) (id : ℕ) (items : List KeyOp) (reply : Reply) → due s (OfIngestion id items) ≡ None → IngestsInto id items s reply t → Moves s (asked s (OfIngestion id items)) t
 ingested_moves s t id [] reply none (told, is) = as_it_was s t [] refl is
 ingested_moves s t id (item ∷ items) reply none (told, left, mid, ingests, is) =
@@ -186,6 +202,8 @@ answer_moves s t (OfRotation id) reply none (told, is) = rotated_moves s t id (r
 answer_moves s t OfJournalRotation reply none (told, is) = quiet s t [] refl (ap (λ (x : State). x.history) is) (ap (λ (x : State). x.poisoned) is)
 answer_moves s t (OfFlushBegin id) reply none begins = begun_moves s t id reply (begins_flush s.parts.trees id) begins
 answer_moves s t (OfFlushFinish job) reply none finishes = finished_moves s t job reply (is_flushing s.parts.trees job) (takes_effect s job) finishes
+answer_moves s t (OfMergeBegin kind id) reply none begins = merge_begun_moves s t id reply (begins_merge (present s) s.parts.trees kind id) begins
+answer_moves s t (OfMergeFinish job) reply none finishes = merge_finished_moves s t job reply (is_merging s.parts.trees job) (is_living (present s) job.keyspace_id) finishes
 answer_moves s t OfMaintenance reply none (told, is) = quiet s t [] refl (ap (λ (x : State). x.history) is) (ap (λ (x : State). x.poisoned) is)
 answer_moves s t (OfRead view id query) reply none (told, same) = as_it_was s t [] refl same
 answer_moves s t (OfTickets call) reply none (turns, is) = quiet s t [] refl (ap (λ (x : State). x.history) is) (ap (λ (x : State). x.poisoned) is)

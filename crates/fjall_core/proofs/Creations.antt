@@ -155,6 +155,7 @@ module _ (old : Held) (name : Bytes) (options : List Bytes) (id number : ℕ) (i
           tables = subst (LieThere made.disk s) (sym (ap (λ (h : Held). h.memory.trees) all.2))
               (planted_there made.disk s next old.memory.next old.memory.trees lawful.keyspaces.begun (stands.remembered.beside.unused next (omega arith)) (homes_stay old.disk made.disk s old.memory.trees homes reads.tables));
           writer = outside_same old made (ap (λ (h : Held). h.memory.poisoned) all.2) (ap (λ (h : Held). h.journal.name) all.2) reads.writer;
+          recorded = reads.recorded;
         }
 
     pub created_serves : (honest : Type 0) (made : Held) → id_of name old.memory.keyspaces.living ≡ None → Makes honest (raised name options old) id number (Ok tt) made → honest → Serves old (OfCreation name options) (Number id) made

@@ -48,7 +48,7 @@ use Rattle.fjall_core.specs.Holding.{Held}
 use Rattle.fjall_core.specs.CallParts.{Evicts, Finishes, PutInMemory, Puts, WentAway, WroteFlush}
 use Rattle.fjall_core.specs.Crashes.{BlamesDevice, IsSync, attempt, is_io}
 use Rattle.fjall_core.specs.Durables.{Durable, Knows, Passes}
-use Rattle.fjall_core.specs.Standing.{Becomes, EvictsInMemory, FlushTook, FlushedInMemory, IsDueToFinish, LeadsOn, Owes, OwesFinish, Poisons, ReadsOn, Serves, StandsFor, StandsOn, evicted_in_memory, job_of, store_in, store_with_tables}
+use Rattle.fjall_core.specs.Standing.{Becomes, EvictsInMemory, FlushTook, FlushedInMemory, IsDueToFinish, LeadsOn, Owes, OwesFinish, Poisons, ReadsOn, Serves, StandsFor, StandsOn, evicted_in_memory, job_of, store_in, store_with_tables, AreRecorded}
 use Rattle.fjall_core.specs.Standing.{takes_effect}
 use Rattle.fjall_core.proofs.BegunFlushes.{one_at}
 use Rattle.fjall_core.proofs.CrashesInRuns.{passes_on}
@@ -67,6 +67,7 @@ use Rattle.fjall_core.proofs.OwedWork.{takes_there}
 use Rattle.fjall_core.proofs.ServedCalls.{led_by, refusal_serves, served, still_led}
 use Rattle.fjall_core.proofs.TablesAtHome as at_home
 use Rattle.fjall_core.proofs.TablesAtHome.{keeps_disk, keeps_same, outside_same}
+use Rattle.fjall_core.proofs.RecordedTables.{recorded_flush}
 
 -- the call that finishes what was made
 abbrev pub finishing : FlushMade → Shape
@@ -79,7 +80,7 @@ done_reply (Err error) = Refused error
 
 -- ---- one part after another
 
-becomes_both : (old mid new : Held) (a b : Remembered) → Becomes old a mid → Becomes mid b new → Becomes old b new
+pub becomes_both : (old mid new : Held) (a b : Remembered) → Becomes old a mid → Becomes mid b new → Becomes old b new
 becomes_both old mid new a b one two =
     let first = one.faults in
     let second = two.faults in
@@ -93,11 +94,11 @@ rose_later a b c le on (inr most) = by (a == b) refl
     by true e = inr (eqb-true a b e ∙ most)
     by false e = let less : a < b = grind (arith, nat_tests, le, e) in inl (omega (arith, less, on))
 
-both_true : (a b : Bool) → a ≡ true → b ≡ true → (a && b) ≡ true
+pub both_true : (a b : Bool) → a ≡ true → b ≡ true → (a && b) ≡ true
 both_true a b one two = ap (λ c. c && b) one ∙ two
 
 -- what leads from a core's own disk
-led_on : (old new : Held) (s t : State) (shape : Shape) (reply : Reply) → attempt s shape reply ≡ [] → (IsSync s shape reply → ⊥) → StaysTidy old.disk new.disk
+pub led_on : (old new : Held) (s t : State) (shape : Shape) (reply : Reply) → attempt s shape reply ≡ [] → (IsSync s shape reply → ⊥) → StaysTidy old.disk new.disk
     → ((d : Durable) → StandsOn old s.parts.entries d → IsTidy (state_in old.disk) → BlamesDevice reply old.disk new.disk) → ((d : Durable) → StandsOn old s.parts.entries d → Leads t.parts.entries new d [])
     → LeadsOn old s shape reply new t
 led_on old new s t shape reply none unsynced stays blames leads d on =
@@ -369,6 +370,10 @@ module _ (honest : Type 0) (old new : Held) (made : FlushMade) (may : MayPut old
     first_leads : (d : Durable) → WroteFlush old.memory made old.disk mid.disk true → StandsOn old s.parts.entries d → Leads (entries_after old made may s.parts.entries) mid d []
     first_leads d wrote on = put_leads s.parts.entries old mid made may d stands.remembered.lawful wrote fin becomes same_present on
 
+    -- the records list its tables, and the new one
+    recorded_with : ReadsOn old s → AreRecorded parts_with
+    recorded_with reads = recorded_flush id s.parts parts_with (shape_in id s.parts.trees).flush both.0 reads.recorded
+
     -- ---- it was done
 
     module _ (after : Becomes mid (evicted_in_memory mid.memory) new) where
@@ -388,11 +393,11 @@ module _ (honest : Type 0) (old new : Held) (made : FlushMade) (may : MayPut old
       pub goes_on : (wrote : WroteFlush old.memory made old.disk mid.disk true) → WentAway mid.memory mid.disk new.disk true → ReadsOn old s
           → (t : State) × StandsFor new t × ReadsOn new t × StepOf s (finishing made) (Flag true) t × LeadsOn old s (finishing made) (Flag true) new t
       goes_on wrote away reads =
-          let there = put_reads old mid made may s stands reads wrote fin becomes state_with refl refl records_grown records_other in
+          let there = put_reads old mid made may s stands reads wrote fin becomes state_with refl refl records_grown records_other (recorded_with reads) in
           let kept_reads = evicted_keeps mid new after away state_with stands_with there in (
             machine.evicted state_with,
             stands_after,
-            record { tables = kept_reads.tables; writer = kept_reads.writer },
+            record { tables = kept_reads.tables; writer = kept_reads.writer; recorded = kept_reads.recorded },
             steps_after,
             led_on old new s (machine.evicted state_with) (finishing made) (Flag true) refl (λ sync. sync) (stays_both old.disk mid.disk new.disk wrote.kinds away.kinds)
                 (λ d on tidy.
@@ -429,11 +434,11 @@ module _ (honest : Type 0) (old new : Held) (made : FlushMade) (may : MayPut old
       pub goes_ill : (kind : _) (wrote : WroteFlush old.memory made old.disk mid.disk true) → WentAway mid.memory mid.disk new.disk false → ReadsOn old s
           → (t : State) × StandsFor new t × ReadsOn new t × StepOf s (finishing made) (Refused (Io kind)) t × LeadsOn old s (finishing made) (Refused (Io kind)) new t
       goes_ill kind wrote away reads =
-          let there = put_reads old mid made may s stands reads wrote fin becomes state_with refl refl records_grown records_other in
+          let there = put_reads old mid made may s stands reads wrote fin becomes state_with refl refl records_grown records_other (recorded_with reads) in
           let kept_reads = unevicted_keeps mid new left evicts fault away state_with stands_with there in (
             poisoned_state new some_left,
             poisoned_stands left mid new table some_left fault held_left,
-            record { tables = kept_reads.tables; writer = kept_reads.writer },
+            record { tables = kept_reads.tables; writer = kept_reads.writer; recorded = kept_reads.recorded },
             inr (inr fails),
             led_on old new s (poisoned_state new some_left) (finishing made) (Refused (Io kind)) refl (λ sync. sync) (stays_both old.disk mid.disk new.disk wrote.kinds away.kinds)
                 (λ d on tidy.
@@ -461,7 +466,7 @@ module _ (honest : Type 0) (old new : Held) (made : FlushMade) (may : MayPut old
         let effect : machine.takes_effect s job ≡ true = takes_there old old s stands job ∙ takes in (
           poisoned_state new s,
           poisoned_stands old.memory old new old.catalog.next_table_id s fault stands.remembered,
-          record { tables = kept_reads.tables; writer = kept_reads.writer },
+          record { tables = kept_reads.tables; writer = kept_reads.writer; recorded = kept_reads.recorded },
           inr (inr ((out, effect), stands.remembered.poisoned ∙ may.well, inl (record { is = refl; trees = refl; entries = refl; records = refl; journals = refl }))),
           led_on old new s (poisoned_state new s) (finishing made) (Refused (Io kind)) refl (λ sync. sync) wrote.kinds
               (λ d on tidy. record { rose = fault.faults; served = put_serves s.parts.entries old new made may d false stands.remembered.lawful wrote on tidy })

@@ -2,7 +2,7 @@
 use Rattle.std.proofs.Common.{◌≡◌, ◌⊎◌, inl, inr, ℕ, zero, suc, ◌+◌, ◌<◌, ◌≤◌, ◌^◌, ◌==◌, Bool, true, false, cond, List, []}
 use Rattle.std.proofs.Common.{◌∷◌, ◌++◌, All, Some, get_or, length, map, slice_get, refl, sym, ◌∙◌, ap, subst, arith}
 use Rattle.std.proofs.lemmas.Bool.{eq-eqb, true≢false}
-use Rattle.std.proofs.lemmas.List.Elements.{All-append, All-cons, All-map, All-nil, All-weaker}
+use Rattle.std.proofs.lemmas.List.Elements.{All-cons, All-map, All-nil, All-weaker}
 use Rattle.fjall_base.specs.Disk.{Meaning}
 use Rattle.fjall_base.proofs.Codecs.{some_is}
 use Rattle.fjall_blocks.specs.Readers.{AreRead, HoldsAWrongBlock, Reader, Reads, SomeTableIsWrong}
@@ -13,7 +13,8 @@ use Rattle.fjall_jobs.specs.declared.flush_made.FlushMade.{FlushMade}
 use Rattle.fjall_jobs.specs.declared.made_table.MadeTable.{MadeTable}
 use Rattle.fjall_jobs.specs.Flushes.{flush_task}
 use Rattle.fjall_jobs.specs.Sequences.{AreMadeTables, IsMadeTable}
-use Rattle.fjall_loading.specs.Known.{IsGiven, last_known}
+use Rattle.fjall_loading.specs.Known.{AreListed, IsGiven, last_known}
+use Rattle.fjall_loading.proofs.Listed.{AreNext, listed_behind, listed_later}
 use Rattle.fjall_lsm.specs.Jobs.{flush_finished}
 use Rattle.fjall_lsm.proofs.Several.{read_both}
 use Rattle.fjall_flush.specs.Plans.{HaveFiles}
@@ -23,6 +24,7 @@ use Rattle.fjall_state.proofs.Flushing.{known_record}
 use Rattle.fjall_tree.specs.Records.{Fields}
 use Rattle.fjall_state.specs.Machine.{State, is_among}
 use Rattle.fjall_state.specs.Remembered.{IsLawful, Remembered}
+use Rattle.fjall_table.specs.declared.table_info.TableInfo.{TableInfo}
 use Rattle.fjall_table.specs.Blocks.{Entry}
 use Rattle.fjall_table.specs.Files.{bytes_in, entry_at}
 use Rattle.fjall_table.specs.Tables.{Handle, IsTable, handles_of}
@@ -34,10 +36,10 @@ use Rattle.fjall_trees.proofs.Outstanding.{flushing_tree}
 use Rattle.fjall_versions.proofs.Slots.{same_id}
 use Rattle.fjall_core.specs.Holding.{Held}
 use Rattle.fjall_core.specs.CallParts.{WroteFlush}
-use Rattle.fjall_core.specs.Standing.{Becomes, LieAtHome, Poisons, ReadsOn, StandsFor}
+use Rattle.fjall_core.specs.Standing.{Becomes, LieAtHome, Poisons, ReadsOn, StandsFor, AreRecorded}
 use Rattle.fjall_core.proofs.FlushesOnDisk.{MayPut, entries_after, flushed_there, lists_there, lives_there, living_there}
 use Rattle.fjall_core.proofs.TablesAtHome as at_home
-use Rattle.fjall_core.proofs.TablesAtHome.{files_read, files_wrong, given_on, kept_files, outside_ill, outside_same, under_home}
+use Rattle.fjall_core.proofs.TablesAtHome.{files_read, files_wrong, kept_files, outside_ill, outside_same, under_home}
 
 -- ---- readers of what was made
 
@@ -63,15 +65,41 @@ none_wrong disk id next (t ∷ tables) (es ∷ lists) (s ∷ readers) names made
     let others : map (λ t. t.name) readers ≡ map (λ t. table_name id t.id) (infos_from (next + 1) tables) = cc in
     none_wrong disk id (next + 1) tables lists readers others made.1 files.2 read.1 (at, r, has, wrong)
 
--- they are the keyspace's own, of ids that were given out
-pub new_given : (id next from : ℕ) (tables : List MadeTable) (readers : List Reader) → map (λ t. t.name) readers ≡ map (λ t. table_name id t.id) (infos_from from tables) → from + length tables < 2 ^ 64
-    → from + length tables ≤ next → All (IsGiven id next) readers
-new_given id next from tables [] names fits within = All-nil (IsGiven id next)
-new_given id next from [] (r ∷ readers) names fits within = let bad : ⊥ = cc in absurd bad
-new_given id next from (t ∷ tables) (r ∷ readers) names fits within =
-    let called : r.name ≡ table_name id from = cc in
-    let others : map (λ t. t.name) readers ≡ map (λ t. table_name id t.id) (infos_from (from + 1) tables) = cc in
-    All-cons (IsGiven id next) r readers (from, omega (arith, within), omega (arith, fits), called) (new_given id next (from + 1) tables readers others (omega (arith, fits)) (omega (arith, within)))
+-- what is said of the readers of made tables, in files of the next ids
+record AreNew (id next : ℕ) (tables : List MadeTable) (readers : List Reader) : Type 0 where
+  ids : AreNext next readers
+  named : All (λ t. t.name ≡ table_name id t.info.id) readers
+  count : length readers ≡ length tables
+
+are_new : (id next : ℕ) (tables : List MadeTable) (readers : List Reader) → map (λ t. t.name) readers ≡ map (λ t. table_name id t.id) (infos_from next tables)
+    → map (λ t. t.info) readers ≡ infos_from next tables → AreNew id next tables readers
+are_new id next [] [] names infos = record { ids = tt; named = All-nil (λ (t : Reader). t.name ≡ table_name id t.info.id); count = refl }
+are_new id next [] (r ∷ readers) names infos = let bad : ⊥ = cc in absurd bad
+are_new id next (t ∷ tables) [] names infos = let bad : ⊥ = cc in absurd bad
+are_new id next (t ∷ tables) (r ∷ readers) names infos =
+    let called : r.name ≡ table_name id next = cc in
+    let other_names : map (λ t. t.name) readers ≡ map (λ t. table_name id t.id) (infos_from (next + 1) tables) = cc in
+    let other_infos : map (λ t. t.info) readers ≡ infos_from (next + 1) tables = cc in
+    let ids : r.info.id ∷ map (λ (x : TableInfo). x.id) (map (λ (x : Reader). x.info) readers) ≡ next ∷ map (λ (x : TableInfo). x.id) (infos_from (next + 1) tables) =
+    ap (λ (l : List TableInfo). map (λ (x : TableInfo). x.id) l) infos in
+    let numbered : r.info.id ≡ next = cc in
+    let others = are_new id (next + 1) tables readers other_names other_infos in
+    let count = others.count in
+    record {
+      ids = (numbered, others.ids);
+      named = All-cons (λ (x : Reader). x.name ≡ table_name id x.info.id) r readers (called ∙ ap (table_name id) (sym numbered)) others.named;
+      count = omega (arith, count);
+    }
+
+-- they stand behind tables that were listed, under ids that were given out
+pub new_listed : (id next later : ℕ) (old : List Reader) (tables : List MadeTable) (readers : List Reader) → AreListed id next old
+    → map (λ t. t.name) readers ≡ map (λ t. table_name id t.id) (infos_from next tables) → map (λ t. t.info) readers ≡ infos_from next tables → next + length tables < 2 ^ 64
+    → next + length tables ≤ later → AreListed id later (old ++ readers)
+new_listed id next later old tables readers listed names infos fits within =
+    let new = are_new id next tables readers names infos in
+    let count = new.count in
+    listed_later id (next + length readers) (old ++ readers) (listed_behind id next old listed readers new.ids new.named (omega (arith, fits, count))) later
+    (omega (arith, within, count))
 
 -- of two lists of tables that have a wrong one, one has
 pub wrong_parts : (disk : Meaning) (a b : List Reader) → SomeTableIsWrong disk (a ++ b) → SomeTableIsWrong disk a ⊎ SomeTableIsWrong disk b
@@ -104,10 +132,10 @@ module _ (old new : Held) (made : FlushMade) (may : MayPut old made) (done : Boo
   own_kept k same named =
       All-weaker (IsGiven k.id (s.parts.records k.id).next_table_id) (λ (t : Reader). entry_at new.disk t.name ≡ entry_at old.disk t.name)
       (λ t given.
-      let at : t.name ≡ table_name id given.0 = given.3 ∙ ap (λ (n : ℕ). table_name n given.0) same in
+      let at : t.name ≡ table_name id t.info.id = given.2 ∙ ap (λ (n : ℕ). table_name n t.info.id) same in
       let next : (s.parts.records k.id).next_table_id ≡ (last_known old.memory.records living).next_table_id = ap (λ (n : ℕ). (s.parts.records n).next_table_id) same ∙ next_there in
-      let below = given.1 in
-      ap (entry_at new.disk) at ∙ wrote.beside living may.out.out (lives_there old made may) may.out.is given.0 given.2 (λ e. omega (arith, e, next, below)) ∙ sym (ap (entry_at old.disk) at))
+      let below = given.0 in
+      ap (entry_at new.disk) at ∙ wrote.beside living may.out.out (lives_there old made may) may.out.is t.info.id given.1 (λ e. omega (arith, e, next, below)) ∙ sym (ap (entry_at old.disk) at))
       k.shape.tables named
 
   -- the flush's keyspace keeps the files of its tables, and each other keyspace its folder
@@ -121,7 +149,7 @@ module _ (old new : Held) (made : FlushMade) (may : MayPut old made) (done : Boo
 
       by : (k : Planted) (b : Bool) → (k.id == id) ≡ b → LieAtHome old.disk k.id (s.parts.records k.id).next_table_id (s.parts.entries k.id) (is_among s.damaged k.id) k.shape.tables
           → k.id < old.memory.keyspaces.next → at_home.HaveFiles old.disk new.disk k.shape.tables
-      by k true e lie given = own_kept k (same_id k.id id e) lie.named
+      by k true e lie given = own_kept k (same_id k.id id e) lie.named.given
       by k false e lie given =
           let own : id < old.memory.keyspaces.next = tree_under (λ (j : Planted). j.id < old.memory.keyspaces.next) old.memory.trees id (shape_in id old.memory.trees) lawful.given has in
           let fits = lawful.keyspaces.fits in
@@ -146,6 +174,7 @@ module _ (old new : Held) (made : FlushMade) (may : MayPut old made) (done : Boo
     tables = subst (λ (x : Remembered). at_home.LieThere new.disk s x.trees) (sym fault.memory_is)
         (λ i d lt. still_lie (get_or old.memory.trees i d) (tables_kept i d lt) (reads.tables i d lt));
     writer = outside_ill old new (ap (λ (x : Remembered). x.poisoned) fault.memory_is) reads.writer;
+    recorded = reads.recorded;
   }
 
 -- ---- with the new one
@@ -182,8 +211,10 @@ module _ (old new : Held) (made : FlushMade) (may : MayPut old made) (s : State)
       record {
         positive = lie.positive;
         read = subst (λ (n : ℕ). AreRead new.disk (k.shape.tables ++ fin.readers) (s.parts.entries n ++ lists)) same (read_both new.disk k.shape.tables fin.readers (s.parts.entries k.id) lists lie.read read_new);
-        named = All-append (IsGiven k.id next) k.shape.tables fin.readers (given_on k.id (s.parts.records k.id).next_table_id next k.shape.tables (omega (arith, old_next, more_given)) lie.named)
-            (subst (λ (n : ℕ). All (IsGiven n next) fin.readers) (sym same) (new_given own next from made.tables.items fin.readers fin.are.names fits (omega (arith, known, more_given))));
+        named = subst (λ (n : ℕ). AreListed n next (k.shape.tables ++ fin.readers)) (sym same)
+            (new_listed own from next k.shape.tables made.tables.items fin.readers
+            (subst (λ (x : ℕ × ℕ). AreListed x.0 x.1 k.shape.tables) (λ i. (same i, (old_next ∙ known) i)) lie.named) fin.are.names fin.are.infos fits
+            (omega (arith, known, more_given)));
         damage = λ wrong. elim (wrong_parts new.disk k.shape.tables fin.readers wrong) [
           | inl before ↦ lie.damage before
           | inr added ↦ absurd (none_wrong new.disk own from made.tables.items lists fin.readers fin.are.names (flushed_there old made may).made files read_new added)
@@ -213,8 +244,9 @@ module _ (old new : Held) (made : FlushMade) (may : MayPut old made) (s : State)
         (subst (λ (e : ℕ → List (List Entry)). LieAtHome new.disk k.id (t.parts.records k.id).next_table_id (e k.id) (is_among s.damaged k.id) shape.tables) (sym entries)
         (lies k (k.id == own) refl (still_lie old new made may true s stands reads wrote k (tables_kept old new made may true s stands reads wrote i d lt) (reads.tables i d lt)))))
 
-    pub put_reads : ReadsOn new t
-    put_reads = record {
+    pub put_reads : AreRecorded t.parts → ReadsOn new t
+    put_reads told = record {
       tables = subst (λ (x : Remembered). at_home.LieThere new.disk t x.trees) (sym fin.is) all_there;
       writer = outside_same old new (ap (λ (x : Remembered). x.poisoned) fin.is) (ap (λ j. j.name) becomes.journal) reads.writer;
+      recorded = told;
     }

@@ -247,7 +247,7 @@ module _ (old : Held) (made : FlushMade) (may : MayPut old made) where
 -- ---- where it leads
 
 -- it is enough to look at the core's own disk, also where tables have more
-leads_over : (entries others : ℕ → List (List Entry)) (old new : Held) (d : Durable) (tried : List Command)
+pub leads_over : (entries others : ℕ → List (List Entry)) (old new : Held) (d : Durable) (tried : List Command)
     → ((base : Store) (pending : List Command) → StandsOn old entries (held_on old base pending) → Leads others new (held_on old base pending) tried) → StandsOn old entries d → Leads others new d tried
 leads_over entries others old new d tried leads stands =
     let here : d ≡ held_on old d.base d.pending = λ i. record { meaning = stands.same i; base = d.base; pending = d.pending } in

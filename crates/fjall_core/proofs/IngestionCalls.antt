@@ -92,7 +92,7 @@ module _ (honest : Type 0) (old new : Held) (k : LivingKeyspace) (item : KeyOp) 
               let kept_reads = unsynced_keeps old new due.may.well numbered fault took went s stands reads in (
                 poisoned_state new s,
                 poisoned_stands old.memory old new old.catalog.next_table_id s fault stands.remembered,
-                record { tables = kept_reads.tables; writer = kept_reads.writer },
+                record { tables = kept_reads.tables; writer = kept_reads.writer; recorded = kept_reads.recorded },
                 fails kind s (poisoned_state new s) stands (stays_left s stands) (inl (record { is = refl; trees = refl; entries = refl; records = refl; journals = refl })),
                 leads_by old new s (poisoned_state new s) call (Refused (Io kind)) (command ∷ []) refl (went_kinds old new due.may.well numbered (is_long old.journal) false went)
                     (λ d on tidy. record {
@@ -173,6 +173,7 @@ module _ (honest : Type 0) (old new : Held) (k : LivingKeyspace) (item : KeyOp) 
               record {
                 tables = subst (λ (x : Remembered). LieThere new.disk s1 x.trees) (sym fault.memory_is) (all_lie synced k items p may new.disk false s1 held there wrote);
                 writer = outside_ill synced new ill there.writer;
+                recorded = there.recorded;
               },
               fails kind s (poisoned_state new s1) stands (left_there old synced k item rest p due at s stands)
                   (inr (inl (record { is = refl; trees = refl; entries = refl; records = refl; journals = refl }))),
@@ -259,7 +260,7 @@ module _ (honest : Type 0) (old new : Held) (k : LivingKeyspace) (item : KeyOp) 
                   journal = held.journal ∙ ap (λ (j : Journal). j.len) (sym becomes.journal);
                   buffer = held.buffer ∙ ap (λ (j : Journal). length j.buffer) (sym becomes.journal);
                 },
-                record { tables = kept_reads.tables; writer = kept_reads.writer },
+                record { tables = kept_reads.tables; writer = kept_reads.writer; recorded = kept_reads.recorded },
                 (
                   same_due old s call stands ∙ due.none,
                   (refl, left_there old synced k item rest p due at s stands, t1, ingests old synced k item rest p due at s stands, refl),
@@ -359,6 +360,7 @@ module _ (honest : Type 0) (old new : Held) (k : LivingKeyspace) (item : KeyOp) 
                 record {
                   tables = subst (λ (x : Remembered). LieThere new.disk s1 x.trees) (sym left_memory) lie;
                   writer = outside_ill synced new ill there.writer;
+                  recorded = there.recorded;
                 },
                 fails kind s (poisoned_state new some_left) stands (left_there old synced k item rest p due at s stands)
                     (inr (inr (

@@ -40,6 +40,7 @@ use Rattle.fjall_core.proofs.IngestionTables.{taken_reads}
 use Rattle.fjall_core.proofs.IngestionWrites.{MayWrite, lists_made, record_planned, taken_on, write_leads}
 use Rattle.fjall_core.proofs.OwedWork.{long_agrees}
 use Rattle.fjall_core.proofs.JournalWrites.{held_on}
+use Rattle.fjall_core.proofs.RecordedTables.{recorded_ingestion}
 
 -- An ingestion that nothing refuses was planned, and a journal has its number.
 pub record IsDue (old : Held) (k : LivingKeyspace) (items : List KeyOp) (p : PlannedIngestion) : Type 0 where
@@ -157,7 +158,7 @@ module _ (old synced : Held) (k : LivingKeyspace) (item : KeyOp) (rest : List Ke
         (state_synced.parts.records id)) e
 
     pub reads_taken : ReadsOn synced state_synced → WroteIngestion p synced.disk disk true → ReadsOn taken state_taken
-    reads_taken reads wrote = taken_reads synced k items p may disk state_synced stands_synced reads wrote state_taken refl refl own_record other_record
+    reads_taken reads wrote = taken_reads synced k items p may disk state_synced stands_synced reads wrote state_taken refl refl own_record other_record (recorded_ingestion state_synced state_taken k.id items ingests reads.recorded)
 
     -- where the core stands on a disk without the command, it stands with it then
     pub leads_taken : (base : Store) → (on : StandsSynced synced state_synced.parts.entries base) → WroteIngestion p synced.disk disk true

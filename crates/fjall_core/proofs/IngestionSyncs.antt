@@ -236,7 +236,7 @@ sync_stands old new s stands at =
 -- which says the same of tables
 pub synced_reads : (core : Held) (s : State) → ReadsOn core s → ReadsOn core (machine.journal_synced s)
 synced_reads core s reads =
-    state_synced (λ t. ReadsOn core t) s (record { tables = reads.tables; writer = reads.writer }) (record { tables = reads.tables; writer = reads.writer })
+    state_synced (λ t. ReadsOn core t) s (record { tables = reads.tables; writer = reads.writer; recorded = reads.recorded }) (record { tables = reads.tables; writer = reads.writer; recorded = reads.recorded })
 
 pub synced_entries : (s : State) → (machine.journal_synced s).parts.entries ≡ s.parts.entries
 synced_entries s = state_synced (λ t. t.parts.entries ≡ s.parts.entries) s refl refl

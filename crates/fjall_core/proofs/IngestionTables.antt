@@ -1,7 +1,7 @@
 -- A core's disk has the tables of its trees still, and those of an ingestion that was written.
 use Rattle.std.proofs.Common.{◌≡◌, inl, inr, ℕ, ◌+◌, ◌<◌, ◌≤◌, ◌^◌, ◌==◌, Bool, true, false, cond, List, [], ◌∷◌, ◌++◌, All, get_or, length, refl, sym, ◌∙◌, ap, subst, arith, length-append}
 use Rattle.std.proofs.lemmas.Bool.{eq-eqb, true≢false}
-use Rattle.std.proofs.lemmas.List.Elements.{All-append, All-map, All-weaker}
+use Rattle.std.proofs.lemmas.List.Elements.{All-map, All-weaker}
 use Rattle.fjall_base.specs.Disk.{Meaning}
 use Rattle.fjall_blocks.specs.Readers.{AreRead, Reader}
 use Rattle.fjall_commit.proofs.KeptHomes.{within_others}
@@ -12,7 +12,7 @@ use Rattle.fjall_ingest.specs.declared.whole.PlannedIngestion.{PlannedIngestion}
 use Rattle.fjall_ingest.specs.Whole.{last_flushed, last_ingested, memory_flush}
 use Rattle.fjall_jobs.specs.declared.made_table.MadeTable.{MadeTable}
 use Rattle.fjall_jobs.specs.Sequences.{AreMadeTables}
-use Rattle.fjall_loading.specs.Known.{IsGiven, last_known}
+use Rattle.fjall_loading.specs.Known.{AreListed, IsGiven, last_known}
 use Rattle.fjall_lsm.specs.Ingestions.{has_memory, ingested}
 use Rattle.fjall_lsm.specs.Trees.{Shape}
 use Rattle.fjall_lsm.proofs.Several.{read_both}
@@ -29,11 +29,11 @@ use Rattle.fjall_versions.proofs.Slots.{same_id}
 use Rattle.fjall_writes.specs.Ingestions.{KeyOp}
 use Rattle.fjall_core.specs.Holding.{Held}
 use Rattle.fjall_core.specs.CallParts.{WroteIngestion}
-use Rattle.fjall_core.specs.Standing.{LieAtHome, ReadsOn, StandsFor}
-use Rattle.fjall_core.proofs.FlushedTables.{new_given, none_wrong, wrong_parts}
+use Rattle.fjall_core.specs.Standing.{LieAtHome, ReadsOn, StandsFor, AreRecorded}
+use Rattle.fjall_core.proofs.FlushedTables.{new_listed, none_wrong, wrong_parts}
 use Rattle.fjall_core.proofs.IngestionWrites.{MayWrite, entries_more, lists_made, record_planned, taken_on}
 use Rattle.fjall_core.proofs.TablesAtHome as at_home
-use Rattle.fjall_core.proofs.TablesAtHome.{files_read, files_wrong, given_on, kept_files, under_home}
+use Rattle.fjall_core.proofs.TablesAtHome.{files_read, files_wrong, kept_files, under_home}
 
 -- tables of two lists were made, of two lists' entries
 pub made_both : (xs ys : List MadeTable) (ls ms : List (List Entry)) → AreMadeTables xs ls → AreMadeTables ys ms → AreMadeTables (xs ++ ys) (ls ++ ms)
@@ -98,10 +98,10 @@ module _ (core : Held) (k : LivingKeyspace) (items : List KeyOp) (p : PlannedIng
     own_kept q same named =
         All-weaker (IsGiven q.id (s.parts.records q.id).next_table_id) (λ (t : Reader). entry_at new t.name ≡ entry_at core.disk t.name)
         (λ t given.
-        let at : t.name ≡ table_name k.id given.0 = given.3 ∙ ap (λ (n : ℕ). table_name n given.0) same in
+        let at : t.name ≡ table_name k.id t.info.id = given.2 ∙ ap (λ (n : ℕ). table_name n t.info.id) same in
         let next : (s.parts.records q.id).next_table_id ≡ last.next_table_id = ap (λ (n : ℕ). (s.parts.records n).next_table_id) same ∙ next_there in
-        let below = given.1 in
-        ap (entry_at new) at ∙ wrote.beside shape k.id m.tickets.watermark m.next items last may.planned given.0 (omega (arith, below, next)) given.2 ∙ sym (ap (entry_at core.disk) at))
+        let below = given.0 in
+        ap (entry_at new) at ∙ wrote.beside shape k.id m.tickets.watermark m.next items last may.planned t.info.id (omega (arith, below, next)) given.1 ∙ sym (ap (entry_at core.disk) at))
         q.shape.tables named
 
     -- and each other keyspace its folder
@@ -112,7 +112,7 @@ module _ (core : Held) (k : LivingKeyspace) (items : List KeyOp) (p : PlannedIng
       where
         by : (q : Planted) (b : Bool) → (q.id == k.id) ≡ b → LieAtHome core.disk q.id (s.parts.records q.id).next_table_id (s.parts.entries q.id) (is_among s.damaged q.id) q.shape.tables
             → q.id < core.memory.keyspaces.next → at_home.HaveFiles core.disk new q.shape.tables
-        by q true e lie given = own_kept q (same_id q.id k.id e) lie.named
+        by q true e lie given = own_kept q (same_id q.id k.id e) lie.named.given
         by q false e lie given =
             let own = id_given core.memory k.id k lawful may.living in
             let fits = lawful.keyspaces.fits in
@@ -159,8 +159,9 @@ module _ (core : Held) (k : LivingKeyspace) (items : List KeyOp) (p : PlannedIng
         record {
           positive = lie.positive;
           read = subst (λ (n : ℕ). AreRead disk (q.shape.tables ++ readers) (s.parts.entries n ++ lists)) same (read_both disk q.shape.tables readers (s.parts.entries q.id) lists lie.read read_new);
-          named = All-append (IsGiven q.id next) q.shape.tables readers (given_on q.id (s.parts.records q.id).next_table_id next q.shape.tables (omega (arith, old_next, known, more)) lie.named)
-              (subst (λ (n : ℕ). All (IsGiven n next) readers) (sym same) (new_given k.id next last.next_table_id tables readers may.planned.read.names ids_fit more));
+          named = subst (λ (n : ℕ). AreListed n next (q.shape.tables ++ readers)) (sym same)
+              (new_listed k.id last.next_table_id next q.shape.tables tables readers (subst (λ (x : ℕ × ℕ). AreListed x.0 x.1 q.shape.tables) (λ i. (same i, (old_next ∙ known) i)) lie.named)
+              may.planned.read.names may.planned.read.infos ids_fit more);
           damage = λ wrong. elim (wrong_parts disk q.shape.tables readers wrong) [
             | inl before ↦ lie.damage before
             | inr added ↦ absurd (none_wrong disk k.id last.next_table_id tables lists readers may.planned.read.names are_made files read_new added)
@@ -195,5 +196,5 @@ module _ (core : Held) (k : LivingKeyspace) (items : List KeyOp) (p : PlannedIng
           (lies q (q.id == k.id) refl (all_lie disk true s stands reads wrote i d lt))))
 
       -- the core that has taken the ingestion has them all
-      pub taken_reads : ReadsOn (taken_on core k items p may disk) t
-      taken_reads = record { tables = all_there; writer = reads.writer }
+      pub taken_reads : AreRecorded t.parts → ReadsOn (taken_on core k items p may disk) t
+      taken_reads told = record { tables = all_there; writer = reads.writer; recorded = told }

@@ -1,4 +1,4 @@
--- No step but a flush that is finished and an ingestion changes what tables hold, and none which keyspaces are damaged.
+-- No step but a flush or a merge that is finished and an ingestion changes what tables hold, and none which keyspaces are damaged.
 use Rattle.std.proofs.Common.{◌≡◌, ◌⊎◌, inl, inr, ℕ, ◌≤◌, ◌==◌, Bool, true, false, if◌then◌else◌, List, [], ◌∷◌, Option, Some, None, refl, sym, ◌∙◌, ap, arith}
 use Rattle.std.proofs.lemmas.Bool.{eqb-true, true≢false}
 use Rattle.fjall_base.specs.Pairs.{Bytes}
@@ -9,10 +9,10 @@ use Rattle.fjall_journal.specs.Changes.{Emptied, Items}
 use Rattle.fjall_tree.specs.Records.{Fields}
 use Rattle.fjall_history.specs.declared.reply.Reply.{Reply}
 use Rattle.fjall_history.specs.declared.reply.Reply.TheVariants.{Refused}
-use Rattle.fjall_state.specs.Shapes.{OfChange, OfCount, OfCreation, OfDeletion, OfFlushBegin, OfFlushFinish, OfHandle, OfIngestion, OfJournalRotation, OfMaintenance, OfPersist, OfRead, OfRotation, OfTickets, OneLess, OneMore, Shape}
+use Rattle.fjall_state.specs.Shapes.{OfChange, OfCount, OfCreation, OfDeletion, OfFlushBegin, OfFlushFinish, OfHandle, OfIngestion, OfJournalRotation, OfMaintenance, OfMergeBegin, OfMergeFinish, OfPersist, OfRead, OfRotation, OfTickets, OneLess, OneMore, Shape}
 use Rattle.fjall_history.specs.Histories.{number}
 use Rattle.fjall_core.specs.Crashes.{is_io}
-use Rattle.fjall_state.specs.Machine.{Answers, BeginsFlush, CreatesOrFinds, State, StepOf, Refuses, MayFail, IsPoisoned, WorkFails, at_fault, begins_flush, created, deleted, due, is_living, is_long, journal_rotated, journal_synced, present, records_with, rotated, rotates, written_out}
+use Rattle.fjall_state.specs.Machine.{Answers, BeginsFlush, BeginsMerge, CreatesOrFinds, State, StepOf, Refuses, MayFail, IsPoisoned, WorkFails, at_fault, begins_flush, begins_merge, created, deleted, due, is_living, is_long, journal_rotated, journal_synced, present, records_with, rotated, rotates, written_out}
 
 -- Of each keyspace but one that is made the number below which the ids of its tables are is no less.
 abbrev pub HasGiven : State → State → Type 0
@@ -52,15 +52,18 @@ fault_keeps s (OfRotation id) = alike s (at_fault s (OfRotation id)) refl refl r
 fault_keeps s OfJournalRotation = alike s (at_fault s OfJournalRotation) refl refl refl
 fault_keeps s (OfFlushBegin id) = alike s (at_fault s (OfFlushBegin id)) refl refl refl
 fault_keeps s (OfFlushFinish job) = alike s (at_fault s (OfFlushFinish job)) refl refl refl
+fault_keeps s (OfMergeBegin kind id) = alike s (at_fault s (OfMergeBegin kind id)) refl refl refl
+fault_keeps s (OfMergeFinish job) = alike s (at_fault s (OfMergeFinish job)) refl refl refl
 fault_keeps s OfMaintenance = alike s (at_fault s OfMaintenance) refl refl refl
 fault_keeps s (OfRead view id query) = alike s (at_fault s (OfRead view id query)) refl refl refl
 fault_keeps s (OfTickets call) = alike s (at_fault s (OfTickets call)) refl refl refl
 fault_keeps s (OfPersist mode) = alike s (at_fault s (OfPersist mode)) refl refl refl
 fault_keeps s (OfCount count) = alike s (at_fault s (OfCount count)) refl refl refl
 
--- a call that finishes a flush, or ingests some items
+-- a call that finishes a flush or a merge, or ingests some items
 abbrev pub Finishes : Shape → Type 0
 Finishes (OfFlushFinish job) = Unit {0}
+Finishes (OfMergeFinish job) = Unit {0}
 Finishes (OfIngestion id (item ∷ items)) = Unit {0}
 Finishes shape = ⊥
 
@@ -71,6 +74,8 @@ poison_keeps s left t kept fault = record { entries = fault.entries ∙ kept.ent
 work_keeps : (s t : State) (shape : Shape) → (Finishes shape → ⊥) → WorkFails shape s t → KeepsTables s t
 work_keeps s t (OfFlushBegin id) other (begins, numbered, fault) = poison_keeps s s t (as_before s s refl) fault
 work_keeps s t (OfFlushFinish job) other fails = absurd (other tt)
+work_keeps s t (OfMergeBegin kind id) other (begins, left, same) = as_before s t same
+work_keeps s t (OfMergeFinish job) other fails = absurd (other tt)
 work_keeps s t OfMaintenance other (mid, (gone, left, all, may, is), fault) =
     poison_keeps s mid t (alike s mid (ap (λ (x : State). x.parts.entries) is) (ap (λ (x : State). x.damaged) is) (ap (λ (x : State). x.parts.records) is)) fault
 work_keeps s t (OfIngestion id []) other fails = absurd fails
@@ -151,6 +156,10 @@ begun_keeps s t id reply true (told, numbered, is) =
     }
 begun_keeps s t id reply false (told, same) = as_before s t same
 
+merge_begun_keeps : (s t : State) (id : ℕ) (reply : Reply) (begins : Bool) → BeginsMerge begins s id reply t → KeepsTables s t
+merge_begun_keeps s t id reply true (told, numbered, is) = alike s t (ap (λ (x : State). x.parts.entries) is) (ap (λ (x : State). x.damaged) is) (ap (λ (x : State). x.parts.records) is)
+merge_begun_keeps s t id reply false (told, same) = as_before s t same
+
 answer_keeps : (s t : State) (shape : Shape) (reply : Reply) → (Finishes shape → ⊥) → Answers s shape reply t → KeepsTables s t
 answer_keeps s t (OfChange (Items []) how) reply other (told, is) = as_before s t is
 answer_keeps s t (OfChange (Items (item ∷ items)) how) reply other (told, is) = alike s t (ap (λ (x : State). x.parts.entries) is) (ap (λ (x : State). x.damaged) is) (ap (λ (x : State). x.parts.records) is)
@@ -165,6 +174,8 @@ answer_keeps s t (OfRotation id) reply other (told, is) = rotated_keeps s t id (
 answer_keeps s t OfJournalRotation reply other (told, is) = alike s t (ap (λ (x : State). x.parts.entries) is) (ap (λ (x : State). x.damaged) is) (ap (λ (x : State). x.parts.records) is)
 answer_keeps s t (OfFlushBegin id) reply other begins = begun_keeps s t id reply (begins_flush s.parts.trees id) begins
 answer_keeps s t (OfFlushFinish job) reply other finishes = absurd (other tt)
+answer_keeps s t (OfMergeBegin kind id) reply other begins = merge_begun_keeps s t id reply (begins_merge (present s) s.parts.trees kind id) begins
+answer_keeps s t (OfMergeFinish job) reply other finishes = absurd (other tt)
 answer_keeps s t OfMaintenance reply other (told, is) = alike s t (ap (λ (x : State). x.parts.entries) is) (ap (λ (x : State). x.damaged) is) (ap (λ (x : State). x.parts.records) is)
 answer_keeps s t (OfRead view id query) reply other (told, same) = as_before s t same
 answer_keeps s t (OfTickets call) reply other (turns, is) = alike s t (ap (λ (x : State). x.parts.entries) is) (ap (λ (x : State). x.damaged) is) (ap (λ (x : State). x.parts.records) is)

@@ -1,14 +1,9 @@
 -- Jobs that are kept stay known, whatever calls are served.
-use Rattle.std.proofs.Common.{◌≡◌, ◌⊎◌, inl, inr, ℕ, ◌+◌, ◌-◌, ◌<◌, ◌≤◌, ◌^◌, ◌==◌, ◌&&◌, ◌||◌, All, Bool, true, false, if◌then◌else◌, get_or, List, [], ◌∷◌, ◌++◌, length, take, drop, Option, Some, None, unwrap_or, zero, suc, refl, sym, ◌∙◌, ap, subst, arith}
-use Rattle.std.specs.List.{list_any, position, position_or_len, slice_get}
+use Rattle.std.proofs.Common.{◌≡◌, ◌⊎◌, inl, inr, ℕ, ◌+◌, ◌-◌, ◌<◌, ◌^◌, All, Bool, true, false, if◌then◌else◌, get_or, List, [], ◌∷◌, ◌++◌, take, drop, Option, Some, None, unwrap_or, zero, suc, refl, sym, ◌∙◌, ap, subst, arith}
+use Rattle.std.specs.List.{list_any, slice_get}
 use Rattle.std.specs.Option.{option_map}
-use Rattle.std.proofs.lemmas.Bool.{eq-eqb, eqb-true, true≢false}
-use Rattle.std.proofs.lemmas.List.Elements.{All-append, All-drop, All-nil, All-push, All-take}
-use Rattle.std.proofs.lemmas.Grind.{common_steps}
-use Rattle.std.proofs.lemmas.List.Folds.{Any-from_list_any, list_any-append, list_any_none}
-use Rattle.std.proofs.lemmas.List.Quantifiers.{position-Some}
-use Rattle.std.proofs.lemmas.List.Sums.{fails_before_first}
-use Rattle.std.proofs.lemmas.Option.{get_or_from_slice_get, slice_get-get_or, slice_get_within}
+use Rattle.std.proofs.lemmas.Bool.{true≢false}
+use Rattle.std.proofs.lemmas.List.Elements.{All-nil, All-push}
 use Rattle.fjall_base.proofs.Codecs.{some_is}
 use Rattle.fjall_base.specs.declared.error.Error.{Error}
 use Rattle.fjall_base.specs.declared.error.Error.TheVariants.{Io, NumbersUsedUp, OutOfMemory, Poisoned, Storage, TooManyItems, ValueTooLong}
@@ -18,7 +13,9 @@ use Rattle.fjall_history.specs.declared.reply.Reply.{Reply}
 use Rattle.fjall_history.specs.declared.reply.Reply.TheVariants.{Began, Flag, Refused}
 use Rattle.fjall_history.specs.Queries.{Get, Page, Query}
 use Rattle.fjall_jobs.specs.declared.flush_job.FlushJob.{FlushJob}
+use Rattle.fjall_jobs.specs.declared.merge_job.MergeJob.{MergeJob}
 use Rattle.fjall_jobs.specs.Flushes.{flush_task}
+use Rattle.fjall_jobs.specs.Merges.{merge_task}
 use Rattle.fjall_jobs.specs.Tasks.{Task}
 use Rattle.fjall_flush.specs.Flushes.{record_after}
 use Rattle.fjall_journal.specs.Changes.{Change, Emptied, Items}
@@ -27,28 +24,32 @@ use Rattle.fjall_ingest.specs.Whole.{last_ingested}
 use Rattle.fjall_loading.specs.Known.{last_known}
 use Rattle.fjall_writes.specs.Ingestions.{KeyOp}
 use Rattle.fjall_manager.specs.Journals.{staying}
-use Rattle.fjall_lsm.specs.Jobs.{flush_dropped, flush_finished, is_flush_out}
+use Rattle.fjall_merge.specs.Finishing.{merge_out}
+use Rattle.fjall_merge.specs.Merges as merges
+use Rattle.fjall_lsm.specs.Jobs.{flush_dropped, flush_finished, is_flush_out, is_merge_out, merge_dropped, merge_finished}
 use Rattle.fjall_lsm.specs.Puts.{bare_tree}
-use Rattle.fjall_lsm.specs.Trees.{Flushing, Shape as Tree}
-use Rattle.fjall_state.specs.Machine.{begins_flush, flush_with, is_flushing, rotates}
+use Rattle.fjall_lsm.specs.Trees.{Shape as Tree}
+use Rattle.fjall_state.specs.Machine.{begins_flush, flush_with, is_flushing, is_living, is_merging, rotates}
 use Rattle.fjall_state.specs.declared.call.Call.{Call}
-use Rattle.fjall_state.specs.declared.call.Call.TheVariants.{FlushBegin, FlushFinish}
+use Rattle.fjall_state.specs.declared.call.Call.TheVariants.{FlushBegin, FlushFinish, MajorBegin, MergeBegin, MergeFinish}
+use Rattle.fjall_state.specs.declared.merges.MergeKind.{MergeKind}
 use Rattle.fjall_state.specs.Places.{job_begun, resolved}
-use Rattle.fjall_state.specs.Remembered.{IsBegun, IsLawful, KnowsTask, Remembered}
+use Rattle.fjall_state.specs.Remembered.{IsLawful, KnowsTask, Remembered}
 use Rattle.fjall_state.specs.Remembered as memory
-use Rattle.fjall_state.specs.Shapes.{AsKeyspace, Clone, Close, Collect, Count, DiskSpace, Entries, Exists, Flushes, JournalSpace, Keyspaces, Next, OfChange, OfCount, OfCreation, OfDeletion, OfFlushBegin, OfFlushFinish, OfHandle}
-use Rattle.fjall_state.specs.Shapes.{OfIngestion}
+use Rattle.fjall_state.specs.Shapes.{Clone, Close, Collect, Count, DiskSpace, Entries, Exists, Flushes, JournalSpace, Keyspaces, MergesDone, MergesOut, Next, OfChange, OfCount, OfCreation, OfDeletion, OfFlushBegin, OfFlushFinish, OfHandle}
+use Rattle.fjall_state.specs.Shapes.{OfIngestion, OfMergeBegin, OfMergeFinish}
 use Rattle.fjall_state.specs.Shapes.{OfJournalRotation, OfMaintenance, OfPersist, OfRead, OfRotation, OfTickets, OneLess, OneMore, Open, OpenTickets, Persistence, SealedMemtables, Shape, Tables, TablesL0, ToFlush, Visible, WriteBuffer, shape_of}
 use Rattle.fjall_state.specs.Shapes as shapes
-use Rattle.fjall_trees.specs.Forests.{Forest, Planted, altered_at, tree_at}
+use Rattle.fjall_trees.specs.Forests.{Forest, altered_at, tree_at}
 use Rattle.fjall_trees.specs.Tables.{shape_in}
-use Rattle.fjall_trees.proofs.Changing.{tree_under}
 use Rattle.fjall_trees.proofs.Others.{altered_here}
+use Rattle.fjall_core.specs.declared.jobs.Jobs.{Jobs}
 use Rattle.fjall_core.specs.Holding.{Held}
-use Rattle.fjall_core.specs.Jobs.{Finds, IsGivenBack, IsKnown, IsPlain, Keeps, KeepsJobs, KeepsOthers, is_kept, is_named}
-use Rattle.fjall_core.proofs.GoneFlushes.{IsGone, StaysTrue, gone_stays, task_stays}
-use Rattle.fjall_core.specs.Standing.{EvictsInMemory, FlushedInMemory, Gives, GivesRead, HeldCount, IngestedInMemory, IngestionPoisons, Looks, LooksAt, Owes, OwesBegin, OwesChange, OwesFailure, OwesFinish, OwesIngestion}
-use Rattle.fjall_core.specs.Standing.{OwesRefusal, RanOut, WorkPoisons, at_fault, evicted_in_memory, held_due, is_long, job_of, journal_synced, tables_of, takes_effect}
+use Rattle.fjall_core.specs.Jobs.{IsGivenBack, IsKnown, IsMergeGivenBack, IsPlain, Keeps, KeepsJobs, KeepsMerge, KeepsOtherMerges, KeepsOthers, has_name, is_kept, is_merge_kept, is_merge_named, is_named}
+use Rattle.fjall_core.proofs.FoundJobs.{any_last, any_more, any_without, at_place, same_name, without_one}
+use Rattle.fjall_core.proofs.GoneFlushes.{IsGone, IsMergeGone, StaysTrue, flush_given, flushes_before, given_stays, gone_stays, merge_given, merge_gone_stays, merges_before, task_stays}
+use Rattle.fjall_core.specs.Standing.{EvictsInMemory, FindsDisorder, FlushedInMemory, Gives, GivesRead, HeldCount, IngestedInMemory, IngestionPoisons, Looks, LooksAt, MergedInMemory, Owes, OwesBegin, OwesChange, OwesFailure, OwesFinish, OwesIngestion, OwesMerge, OwesMergeBegin}
+use Rattle.fjall_core.specs.Standing.{OwesRefusal, RanOut, WorkPoisons, at_fault, begins_merge_in, evicted_in_memory, held_due, is_long, journal_synced, store_in, tables_of, takes_effect}
 
 -- ---- what stays true of memory
 
@@ -70,6 +71,8 @@ module _ (Knows : Remembered → Type 0) (stays : StaysTrue Knows) (old new : He
   fault_knows OfJournalRotation knows = knows
   fault_knows (OfFlushBegin id) knows = knows
   fault_knows (OfFlushFinish job) knows = knows
+  fault_knows (OfMergeBegin kind id) knows = knows
+  fault_knows (OfMergeFinish job) knows = knows
   fault_knows OfMaintenance knows = knows
   fault_knows (OfRead view id query) knows = knows
   fault_knows (OfTickets call) knows = knows
@@ -88,6 +91,9 @@ module _ (Knows : Remembered → Type 0) (stays : StaysTrue Knows) (old new : He
 
   flushed_knows : (id : ℕ) (mid : Remembered) → FlushedInMemory old.memory id mid → Knows old.memory → Knows mid
   flushed_knows id mid f knows = subst Knows (sym f.is) (stays.finished old.memory id f.begun.out f.readers (record_after (flush_with (shape_in id old.memory.trees) f.begun.out f.tables) (last_known old.memory.records f.k)) knows)
+
+  merged_knows : (id : ℕ) (mid : Remembered) → MergedInMemory old.memory id mid → Knows old.memory → Knows mid
+  merged_knows id mid f knows = subst Knows (sym f.is) (stays.merged old.memory id f.out f.readers (merges.record_after (merge_out f.out f.tables f.clears) (last_known old.memory.records f.k)) knows)
 
   -- the journal was synced, or sealed
   sealed_knows : (long : Bool) (len : ℕ) → Knows old.memory → Knows (if long then memory.journal_rotated len old.memory else old.memory)
@@ -114,6 +120,9 @@ module _ (Knows : Remembered → Type 0) (stays : StaysTrue Knows) (old new : He
   work_knows (OfFlushFinish job) (due, well, inl fault) knows = becomes (memory.poisoned old.memory) fault.memory_is (stays.fault old.memory knows)
   work_knows (OfFlushFinish job) (due, well, inr (mid, left, f, evicts, fault)) knows =
       becomes (memory.poisoned left) fault.memory_is (stays.fault left (evicts_knows mid left evicts (flushed_knows job.keyspace_id mid f knows)))
+  work_knows (OfMergeBegin kind id) (begins, numbered, looks, rose) knows = looks_knows looks knows
+  work_knows (OfMergeFinish job) (due, well, inl fault) knows = becomes (memory.poisoned old.memory) fault.memory_is (stays.fault old.memory knows)
+  work_knows (OfMergeFinish job) (due, well, inr (mid, f, fault)) knows = becomes (memory.poisoned mid) fault.memory_is (stays.fault mid (merged_knows job.keyspace_id mid f knows))
   work_knows OfMaintenance (left, evicts, fault) knows = becomes (memory.poisoned left) fault.memory_is (stays.fault left (evicts_knows old.memory left evicts knows))
   work_knows (OfIngestion id []) fails knows = absurd fails
   work_knows (OfIngestion id (item ∷ items)) (left, fails) knows = ingestion_knows id (item ∷ items) fails knows
@@ -139,11 +148,18 @@ module _ (Knows : Remembered → Type 0) (stays : StaysTrue Knows) (old new : He
   out_knows OfJournalRotation same knows = same_core same knows
   out_knows (OfFlushBegin id) same knows = same_core same knows
   out_knows (OfFlushFinish job) same knows = same_core same knows
+  out_knows (OfMergeBegin kind id) (begins, looks) knows = looks_knows looks knows
+  out_knows (OfMergeFinish job) same knows = same_core same knows
   out_knows OfMaintenance same knows = same_core same knows
   out_knows (OfRead view id query) looks knows = looked_knows (tables_of old id) looks knows
   out_knows (OfTickets call) same knows = same_core same knows
   out_knows (OfPersist mode) same knows = same_core same knows
   out_knows (OfCount count) same knows = same_core same knows
+
+  disorder_knows : (shape : Shape) → FindsDisorder old shape new → Knows old.memory → Knows new.memory
+  disorder_knows (OfMergeBegin kind id) (begins, numbered, looks) knows = looks_knows looks knows
+  disorder_knows (OfMergeFinish job) (out, same) knows = same_core same knows
+  disorder_knows shape none knows = absurd none
 
   failure_knows : (shape : Shape) (error : Error) → OwesFailure old shape error new → Knows old.memory → Knows new.memory
   failure_knows shape (Io kind) (inl (changes, fault)) knows =
@@ -151,7 +167,8 @@ module _ (Knows : Remembered → Type 0) (stays : StaysTrue Knows) (old new : He
   failure_knows shape (Io kind) (inr (inl (reads, looks, rose))) knows = looks_knows looks knows
   failure_knows shape (Io kind) (inr (inr fails)) knows = work_knows shape fails knows
   failure_knows shape OutOfMemory (takes, out) knows = out_knows shape out knows
-  failure_knows shape (Storage told) (is, reads, looks) knows = looks_knows looks knows
+  failure_knows shape (Storage told) (is, inl (reads, looks)) knows = looks_knows looks knows
+  failure_knows shape (Storage told) (is, inr found) knows = disorder_knows shape found knows
   failure_knows shape ValueTooLong (long, same) knows = same_core same knows
   failure_knows shape Poisoned (late, same) knows = same_core same knows
   failure_knows shape NumbersUsedUp (used, same) knows = same_core same knows
@@ -182,6 +199,16 @@ module _ (Knows : Remembered → Type 0) (stays : StaysTrue Knows) (old new : He
   finish_knows job reply true false (told, is) knows = becomes (memory.flush_gone job.keyspace_id old.memory) (ap (λ (h : Held). h.memory) is) (stays.dropped old.memory job.keyspace_id knows)
   finish_knows job reply false takes (told, same) knows = same_core same knows
 
+  merge_begin_knows : (id : ℕ) (reply : Reply) (begins : Bool) → OwesMergeBegin begins old id reply new → Knows old.memory → Knows new.memory
+  merge_begin_knows id reply true (told, numbered, at) knows =
+      becomes (memory.with_trees new.memory.trees (memory.merge_out id old.memory)) at.memory_is (stays.merging old.memory id new.memory.trees at.trees knows)
+  merge_begin_knows id reply false (told, same) knows = same_core same knows
+
+  merge_knows : (job : JobId) (reply : Reply) (out lives : Bool) → OwesMerge out lives old job reply new → Knows old.memory → Knows new.memory
+  merge_knows job reply true true (told, well, mid, f, at) knows = becomes (memory.with_merge_done mid) at.memory_is (stays.counted mid (merged_knows job.keyspace_id mid f knows))
+  merge_knows job reply true false (told, is) knows = becomes (memory.merge_gone job.keyspace_id old.memory) (ap (λ (h : Held). h.memory) is) (stays.unmerged old.memory job.keyspace_id knows)
+  merge_knows job reply false lives (told, same) knows = same_core same knows
+
   ingest_knows : (id : ℕ) (items : List KeyOp) (reply : Reply) → OwesIngestion id items old reply new → Knows old.memory → Knows new.memory
   ingest_knows id [] reply (told, same) knows = same_core same knows
   ingest_knows id (item ∷ items) reply (told, left, at) knows =
@@ -203,6 +230,8 @@ module _ (Knows : Remembered → Type 0) (stays : StaysTrue Knows) (old new : He
       becomes (memory.journal_rotated (written_out old.journal).len old.memory) turns.memory_is (stays.journal old.memory (written_out old.journal).len knows)
   gives_knows (OfFlushBegin id) reply begins knows = begin_knows id reply (begins_flush old.memory.trees id) begins knows
   gives_knows (OfFlushFinish job) reply finishes knows = finish_knows job reply (is_flushing old.memory.trees job) (takes_effect old job) finishes knows
+  gives_knows (OfMergeBegin kind id) reply begins knows = merge_begin_knows id reply (begins_merge_in old kind id) begins knows
+  gives_knows (OfMergeFinish job) reply finishes knows = merge_knows job reply (is_merging old.memory.trees job) (is_living (store_in old) job.keyspace_id) finishes knows
   gives_knows OfMaintenance reply (told, at) knows =
       becomes (evicted_in_memory old.memory) at.memory_is (stays.evicted old.memory (staying (memory.flushed_by old.memory.keyspaces old.memory.records) old.memory.journals.sealed) knows)
   gives_knows (OfRead view id query) reply (told, looks) knows = looked_knows (tables_of old id) looks knows
@@ -215,49 +244,36 @@ module _ (Knows : Remembered → Type 0) (stays : StaysTrue Knows) (old new : He
   owed_stays shape (Refused error) owes knows = refusal_knows shape error (held_due old shape) owes knows
   owed_stays shape reply (none, gives) knows = gives_knows shape reply gives knows
 
--- what is known of a task stays known
-owed_knows : (old new : Held) (task : Task) (shape : Shape) (reply : Reply) → Owes old shape reply new → KnowsTask old.memory task → KnowsTask new.memory task
-owed_knows old new task = owed_stays (λ m. KnowsTask m task) (task_stays task) old new
+-- ---- a job that is known
 
--- ---- a job that is out no more
-
--- where it isn't out before a call, it isn't out behind it
-gone_on : (old new : Held) (shape : Shape) (reply : Reply) (job : JobId) → Owes old shape reply new → job.number < old.memory.next_job → is_flushing old.memory.trees job ≡ false → IsGone job new.memory
-gone_on old new shape reply job owes given none = owed_stays (IsGone job) (gone_stays job) old new shape reply owes (given, λ is. true≢false (sym is ∙ none))
-
--- ---- jobs by their names
-
--- a kept job of a name is found in the list
-found : (job : JobId) (jobs : List FlushJob) → is_kept job jobs ≡ true → (i : ℕ) × (kept : FlushJob) × (i < length jobs) × (get_or jobs i kept ≡ kept) × (is_named job kept ≡ true)
-found job jobs is = Any-from_list_any (is_named job) jobs is
-
-both : (a b : Bool) → (a && b) ≡ true → (a ≡ true) × (b ≡ true)
-both true true is = (refl, refl)
-both true false is = absurd (true≢false (sym is))
-both false b is = absurd (true≢false (sym is))
-
--- the name is that of its task
-named_task : (job : JobId) (kept : FlushJob) → is_named job kept ≡ true → ((flush_task kept).id ≡ job.number) × ((flush_task kept).keyspace ≡ job.keyspace_id)
-named_task job kept is =
-    let two = both ((flush_task kept).id == job.number) ((flush_task kept).keyspace == job.keyspace_id) is in
-    (eqb-true (flush_task kept).id job.number two.0, eqb-true (flush_task kept).keyspace job.keyspace_id two.1)
-
--- a job that is known, with what is kept behind a call
 module _ (old new : Held) (shape : Shape) (reply : Reply) (owes : Owes old shape reply new) where
+  -- what is known of tasks stays known
   pub all_known : (jobs : List FlushJob) → All (λ kept. KnowsTask old.memory (flush_task kept)) jobs → All (λ kept. KnowsTask new.memory (flush_task kept)) jobs
-  all_known jobs known i d lt = owed_knows old new (flush_task (get_or jobs i d)) shape reply owes (known i d lt)
+  all_known jobs known i d lt = owed_stays (λ m. KnowsTask m (flush_task (get_or jobs i d))) (task_stays (flush_task (get_or jobs i d))) old new shape reply owes (known i d lt)
 
-  pub still_known : (jobs others : List FlushJob) (job : JobId) → All (λ kept. KnowsTask old.memory (flush_task kept)) jobs → (is_flushing new.memory.trees job ≡ true → is_kept job jobs ≡ true → is_kept job others ≡ true)
-      → IsKnown old.memory jobs job → IsKnown new.memory others job
-  still_known jobs others job known carry (given, kept) = by (is_flushing old.memory.trees job) refl
+  -- a flush that isn't out before a call isn't out behind it, and no merge is
+  gone_on : (job : JobId) → job.number < old.memory.next_job → is_flushing old.memory.trees job ≡ false → is_flushing new.memory.trees job ≡ true → ⊥
+  gone_on job given none = (owed_stays (IsGone job) (gone_stays job) old new shape reply owes (given, λ is. true≢false (sym is ∙ none))).1
+
+  merge_gone_on : (job : JobId) → job.number < old.memory.next_job → is_merging old.memory.trees job ≡ false → is_merging new.memory.trees job ≡ true → ⊥
+  merge_gone_on job given none = (owed_stays (IsMergeGone job) (merge_gone_stays job) old new shape reply owes (given, λ is. true≢false (sym is ∙ none))).1
+
+  -- it stays known where those stay kept that are out
+  pub still_known : (jobs others : Jobs) (job : JobId) → (is_flushing new.memory.trees job ≡ true → is_kept job jobs.flushes.items ≡ true → is_kept job others.flushes.items ≡ true)
+      → (is_merging new.memory.trees job ≡ true → is_merge_kept job jobs.merges.items ≡ true → is_merge_kept job others.merges.items ≡ true) → IsKnown old.memory jobs job → IsKnown new.memory others job
+  still_known jobs others job carry carry_merge known = record {
+    given = owed_stays (λ m. job.number < m.next_job) (given_stays job.number) old new shape reply owes known.given;
+    flush = by_flush (is_flushing old.memory.trees job) refl;
+    merge = by_merge (is_merging old.memory.trees job) refl;
+  }
     where
-      by : (out : Bool) → is_flushing old.memory.trees job ≡ out → IsKnown new.memory others job
-      by false none = let gone = gone_on old new shape reply job owes given none in (gone.0, λ is. absurd (gone.1 is))
-      by true is =
-          let here = found job jobs (kept is) in
-          let low : here.1 ≡ get_or jobs here.0 here.1 = sym here.3 in
-          let after = owed_knows old new (flush_task here.1) shape reply owes (subst (λ (k : FlushJob). KnowsTask old.memory (flush_task k)) here.3 (known here.0 here.1 here.2)) in
-          (subst (λ (n : ℕ). n < new.memory.next_job) (named_task job here.1 here.4).0 after.0, λ out. carry out (kept is))
+      by_flush : (out : Bool) → is_flushing old.memory.trees job ≡ out → is_flushing new.memory.trees job ≡ true → is_kept job others.flushes.items ≡ true
+      by_flush false none out = absurd (gone_on job known.given none out)
+      by_flush true is out = carry out (known.flush is)
+
+      by_merge : (out : Bool) → is_merging old.memory.trees job ≡ out → is_merging new.memory.trees job ≡ true → is_merge_kept job others.merges.items ≡ true
+      by_merge false none out = absurd (merge_gone_on job known.given none out)
+      by_merge true is out = carry_merge out (known.merge is)
 
 -- a reply more
 at_reply : (replies : List Reply) (reply : Reply) (place : ℕ) (other : Reply) → slice_get (replies ++ reply ∷ []) place ≡ Some other → (slice_get replies place ≡ Some other) ⊎ (reply ≡ other)
@@ -286,6 +302,8 @@ count_begins core (Tables id) job told = let bad : ⊥ = cc in bad
 count_begins core (TablesL0 id) job told = let bad : ⊥ = cc in bad
 count_begins core (DiskSpace id) job told = let bad : ⊥ = cc in bad
 count_begins core Flushes job told = let bad : ⊥ = cc in bad
+count_begins core MergesOut job told = let bad : ⊥ = cc in bad
+count_begins core MergesDone job told = let bad : ⊥ = cc in bad
 count_begins core ToFlush job (ids, told, is) = let bad : ⊥ = cc in bad
 
 read_begins : (old : Held) (view : _) (id : ℕ) (query : Query) (job : JobId) (tables : List Reader) → GivesRead tables old view id query (Began (Some job)) → ⊥
@@ -299,8 +317,19 @@ finish_begins old new named job true true (told, well, mid, f, at) = let bad : �
 finish_begins old new named job true false (told, is) = let bad : ⊥ = cc in bad
 finish_begins old new named job false takes (told, same) = let bad : ⊥ = cc in bad
 
--- no call but one that begins a flush is answered with a job
-pub none_begun : (old new : Held) (shape : Shape) (job : JobId) → ((id : ℕ) → shape ≡ OfFlushBegin id → ⊥) → Gives old shape (Began (Some job)) new → ⊥
+merge_begins : (old new : Held) (named job : JobId) (out lives : Bool) → OwesMerge out lives old named (Began (Some job)) new → ⊥
+merge_begins old new named job true true (told, well, mid, f, at) = let bad : ⊥ = cc in bad
+merge_begins old new named job true false (told, is) = let bad : ⊥ = cc in bad
+merge_begins old new named job false lives (told, same) = let bad : ⊥ = cc in bad
+
+-- a call that begins no job
+abbrev pub BeginsNone : Shape → Type 0
+BeginsNone (OfFlushBegin id) = ⊥
+BeginsNone (OfMergeBegin kind id) = ⊥
+BeginsNone shape = Unit {0}
+
+-- no such call is answered with a job
+pub none_begun : (old new : Held) (shape : Shape) (job : JobId) → BeginsNone shape → Gives old shape (Began (Some job)) new → ⊥
 none_begun old new (OfChange change how) job other (told, owes) = let bad : ⊥ = cc in bad
 none_begun old new (OfIngestion id []) job other (told, same) = let bad : ⊥ = cc in bad
 none_begun old new (OfIngestion id (item ∷ items)) job other (told, left, at) = let bad : ⊥ = cc in bad
@@ -310,8 +339,10 @@ none_begun old new (OfHandle OneMore id) job other (told, is) = let bad : ⊥ = 
 none_begun old new (OfHandle OneLess id) job other (told, counts) = let bad : ⊥ = cc in bad
 none_begun old new (OfRotation id) job other (told, is) = let bad : ⊥ = cc in bad
 none_begun old new OfJournalRotation job other (told, turns) = let bad : ⊥ = cc in bad
-none_begun old new (OfFlushBegin id) job other begins = other id refl
+none_begun old new (OfFlushBegin id) job other begins = absurd other
 none_begun old new (OfFlushFinish named) job other finishes = finish_begins old new named job (is_flushing old.memory.trees named) (takes_effect old named) finishes
+none_begun old new (OfMergeBegin kind id) job other begins = absurd other
+none_begun old new (OfMergeFinish named) job other finishes = merge_begins old new named job (is_merging old.memory.trees named) (is_living (store_in old) named.keyspace_id) finishes
 none_begun old new OfMaintenance job other (told, at) = let bad : ⊥ = cc in bad
 none_begun old new (OfRead view id query) job other (told, looks) = read_begins old view id query job (tables_of old id) told
 none_begun old new (OfTickets Open) job other ((told, turns), is) = let bad : ⊥ = cc in bad
@@ -323,117 +354,188 @@ none_begun old new (OfCount count) job other (told, same) = count_begins old cou
 
 -- ---- what is kept behind a call
 
-module _ (old new : Held) (jobs : List FlushJob) (replies : List Reply) (keeps : KeepsJobs old.memory jobs replies) (shape : Shape) (reply : Reply) (owes : Owes old shape reply new) where
-  -- the jobs that calls began before, where those stay that are out
-  before : (others : List FlushJob) → ((job : JobId) → is_flushing new.memory.trees job ≡ true → is_kept job jobs ≡ true → is_kept job others ≡ true)
-      → (place : ℕ) (job : JobId) → slice_get replies place ≡ Some (Began (Some job)) → IsKnown new.memory others job
-  before others carry place job told = still_known old new shape reply owes jobs others job keeps.known (carry job) (keeps.named place job told)
-
-  -- a call that begins no flush, and leaves the list as it is
-  pub keeps_on : ((id : ℕ) → shape ≡ OfFlushBegin id → ⊥) → KeepsJobs new.memory jobs (replies ++ reply ∷ [])
-  keeps_on other = record {
-    known = all_known old new shape reply owes jobs keeps.known;
-    named = λ place job told. by place job (at_reply replies reply place (Began (Some job)) told);
-  }
+module _ (old new : Held) (jobs : Jobs) (replies : List Reply) (keeps : KeepsJobs old.memory jobs replies) (shape : Shape) (reply : Reply) (owes : Owes old shape reply new) where
+  -- other lists of jobs, of which the flushes are known, which have those that are out, and the one that began
+  pub keeps_with : (others : Jobs) → All (λ kept. KnowsTask new.memory (flush_task kept)) others.flushes.items
+      → ((job : JobId) → is_flushing new.memory.trees job ≡ true → is_kept job jobs.flushes.items ≡ true → is_kept job others.flushes.items ≡ true)
+      → ((job : JobId) → is_merging new.memory.trees job ≡ true → is_merge_kept job jobs.merges.items ≡ true → is_merge_kept job others.merges.items ≡ true)
+      → ((job : JobId) → reply ≡ Began (Some job) → IsKnown new.memory others job) → KeepsJobs new.memory others (replies ++ reply ∷ [])
+  keeps_with others known carry carry_merge began = record { known = known; named = λ place job told. by place job (at_reply replies reply place (Began (Some job)) told) }
     where
-      by : (place : ℕ) (job : JobId) → (slice_get replies place ≡ Some (Began (Some job))) ⊎ (reply ≡ Began (Some job)) → IsKnown new.memory jobs job
-      by place job (inl told) = before jobs (λ q out kept. kept) place job told
-      by place job (inr is) = absurd (none_begun old new shape job other (subst (λ (r : Reply). Owes old shape r new) is owes).1)
+      by : (place : ℕ) (job : JobId) → (slice_get replies place ≡ Some (Began (Some job))) ⊎ (reply ≡ Began (Some job)) → IsKnown new.memory others job
+      by place job (inl told) = still_known old new shape reply owes jobs others job (carry job) (carry_merge job) (keeps.named place job told)
+      by place job (inr is) = began job is
 
--- ---- lists of jobs
+  -- a call that begins no job is answered with none
+  unbegun : (others : Jobs) → BeginsNone shape → (job : JobId) → reply ≡ Began (Some job) → IsKnown new.memory others job
+  unbegun others none job is = absurd (none_begun old new shape job none (subst (λ (r : Reply). Owes old shape r new) is owes).1)
 
--- a job more in the list
-kept_more : (job : JobId) (jobs : List FlushJob) (kept : FlushJob) → is_kept job jobs ≡ true → is_kept job (jobs ++ kept ∷ []) ≡ true
-kept_more job jobs kept is = list_any-append (is_named job) jobs (kept ∷ []) ∙ ap (λ (b : Bool). b || list_any (is_named job) (kept ∷ [])) is
+  -- a call that begins no job, and leaves the lists as they are
+  pub keeps_on : BeginsNone shape → KeepsJobs new.memory jobs (replies ++ reply ∷ [])
+  keeps_on none = keeps_with jobs (all_known old new shape reply owes jobs.flushes.items keeps.known) (λ job out kept. kept) (λ job out kept. kept) (unbegun jobs none)
 
-or_true : (a b : Bool) → b ≡ true → (a || b) ≡ true
-or_true true b is = refl
-or_true false b is = is
+  -- a call that leaves the flushes as they are, or the merges
+  same_flushes : (others : Jobs) → others.flushes.items ≡ jobs.flushes.items → All (λ kept. KnowsTask new.memory (flush_task kept)) others.flushes.items
+  same_flushes others same = subst (λ (l : List FlushJob). All (λ kept. KnowsTask new.memory (flush_task kept)) l) (sym same) (all_known old new shape reply owes jobs.flushes.items keeps.known)
 
-kept_last : (job : JobId) (jobs : List FlushJob) (kept : FlushJob) → is_named job kept ≡ true → is_kept job (jobs ++ kept ∷ []) ≡ true
-kept_last job jobs kept is =
-    list_any-append (is_named job) jobs (kept ∷ []) ∙ or_true (list_any (is_named job) jobs) (list_any (is_named job) (kept ∷ [])) (ap (λ (b : Bool). b || false) is)
+  same_kept : (others : Jobs) → others.flushes.items ≡ jobs.flushes.items → (job : JobId) → is_flushing new.memory.trees job ≡ true → is_kept job jobs.flushes.items ≡ true → is_kept job others.flushes.items ≡ true
+  same_kept others same job out kept = ap (is_kept job) same ∙ kept
 
--- one job less, of another name
-kept_without : (job : JobId) (jobs : List FlushJob) (place : ℕ) (kept : FlushJob) → slice_get jobs place ≡ Some kept → is_named job kept ≡ false → is_kept job jobs ≡ true → is_kept job (take place jobs ++ drop (place + 1) jobs) ≡ true
-kept_without job [] place kept at other is = absurd (true≢false (sym is))
-kept_without job (k ∷ jobs) zero kept at other is =
-    let here : is_named job k ≡ false = ap (is_named job) (some_is k kept at) ∙ other in
-    ap (λ (b : Bool). b || is_kept job jobs) (sym here) ∙ is
-kept_without job (k ∷ jobs) (suc place) kept at other is =
-    let more : (suc place) + 1 ≡ suc (place + 1) = omega arith in
-    ap (λ (n : ℕ). is_named job k || is_kept job (take place jobs ++ drop n (k ∷ jobs))) more ∙ by (is_named job k) refl (λ rest. kept_without job jobs place kept at other rest)
-  where
-    by : (b : Bool) → is_named job k ≡ b → (is_kept job jobs ≡ true → is_kept job (take place jobs ++ drop (place + 1) jobs) ≡ true) → (is_named job k || is_kept job (take place jobs ++ drop (place + 1) jobs)) ≡ true
-    by true here later = ap (λ (b : Bool). b || is_kept job (take place jobs ++ drop (place + 1) jobs)) here
-    by false here later =
-        or_true (is_named job k) (is_kept job (take place jobs ++ drop (place + 1) jobs)) (later (ap (λ (b : Bool). b || is_kept job jobs) (sym here) ∙ is))
-
--- two jobs of one name are named alike
-same_name : (one other : JobId) (kept : FlushJob) → is_named one kept ≡ true → is_named other kept ≡ true → one ≡ other
-same_name one other kept is was =
-    let a = named_task one kept is in
-    let b = named_task other kept was in
-    λ i. record { number = (sym a.0 ∙ b.0) i; keyspace_id = (sym a.1 ∙ b.1) i }
-
-without_one : (P : FlushJob → Type 0) (jobs : List FlushJob) (place : ℕ) → All P jobs → All P (take place jobs ++ drop (place + 1) jobs)
-without_one P jobs place all = All-append P (take place jobs) (drop (place + 1) jobs) (All-take P place jobs all) (All-drop P (place + 1) jobs all)
+  same_merges : (others : Jobs) → others.merges.items ≡ jobs.merges.items → (job : JobId) → is_merging new.memory.trees job ≡ true → is_merge_kept job jobs.merges.items ≡ true → is_merge_kept job others.merges.items ≡ true
+  same_merges others same job out kept = ap (is_merge_kept job) same ∙ kept
 
 -- ---- a flush that begins
 
-module _ (old new : Held) (id : ℕ) (jobs : List FlushJob) (replies : List Reply) (keeps : KeepsJobs old.memory jobs replies) where
-  begun_on : (reply : Reply) (others : List FlushJob) → Owes old (OfFlushBegin id) reply new → others ≡ jobs → ((job : JobId) → reply ≡ Began (Some job) → ⊥) → KeepsJobs new.memory others (replies ++ reply ∷ [])
-  begun_on reply others owes same none = subst (λ (l : List FlushJob). KeepsJobs new.memory l (replies ++ reply ∷ [])) (sym same) (record {
-    known = all_known old new (OfFlushBegin id) reply owes jobs keeps.known;
-    named = λ place job told. by place job (at_reply replies reply place (Began (Some job)) told);
-  })
-    where
-      by : (place : ℕ) (job : JobId) → (slice_get replies place ≡ Some (Began (Some job))) ⊎ (reply ≡ Began (Some job)) → IsKnown new.memory jobs job
-      by place job (inl told) = before old new jobs replies keeps (OfFlushBegin id) reply owes jobs (λ q out kept. kept) place job told
-      by place job (inr is) = absurd (none job is)
-
-  begun_more : (began : JobId) (others : List FlushJob) → Owes old (OfFlushBegin id) (Began (Some began)) new → Keeps new.memory (Began (Some began)) jobs others → KeepsJobs new.memory others (replies ++ Began (Some began) ∷ [])
-  begun_more began others owes (kept, is, knows, name) = subst (λ (l : List FlushJob). KeepsJobs new.memory l (replies ++ Began (Some began) ∷ [])) (sym is) (record {
-    known = All-push (λ (k : FlushJob). KnowsTask new.memory (flush_task k)) jobs kept (all_known old new (OfFlushBegin id) (Began (Some began)) owes jobs keeps.known) knows;
-    named = λ place job told. by place job (at_reply replies (Began (Some began)) place (Began (Some job)) told);
-  })
-    where
-      here : IsKnown new.memory (jobs ++ kept ∷ []) began
-      here = (subst (λ (n : ℕ). n < new.memory.next_job) (named_task began kept name).0 knows.0, λ out. kept_last began jobs kept name)
-
-      by : (place : ℕ) (job : JobId) → (slice_get replies place ≡ Some (Began (Some job))) ⊎ (Began (Some began) ≡ Began (Some job)) → IsKnown new.memory (jobs ++ kept ∷ []) job
-      by place job (inl told) = before old new jobs replies keeps (OfFlushBegin id) (Began (Some began)) owes (jobs ++ kept ∷ []) (λ q out was. kept_more q jobs kept was) place job told
-      by place job (inr same) = let is : began ≡ job = cc in subst (IsKnown new.memory (jobs ++ kept ∷ [])) is here
-
-  pub keeps_begun : (reply : Reply) (others : List FlushJob) → Owes old (OfFlushBegin id) reply new → Keeps new.memory reply jobs others → KeepsJobs new.memory others (replies ++ reply ∷ [])
-  keeps_begun (Began (Some began)) others owes more = begun_more began others owes more
-  keeps_begun (Began None) others owes same = begun_on (Began None) others owes same (λ job is. let bad : ⊥ = cc in bad)
-  keeps_begun reply others owes same = begun_on reply others owes same (λ job is. let bad : ⊥ = cc in bad)
-
--- ---- a flush that is finished
-
--- no flush is out of the tree that gave its own up
-gone_here : (id : ℕ) (change : Tree → Tree) → ((tree : Tree) → (change tree).flush ≡ None) → (trees : Forest) → (shape_in id (altered_at id change trees)).flush ≡ None
-gone_here id change none trees = ap (λ (o : Option Tree). (unwrap_or o (bare_tree 0)).flush) (altered_here id change trees) ∙ by (tree_at id trees)
+-- It is named by the next number, and no merge has that.
+begun_flush : (old new : Held) (id : ℕ) (job : JobId) → IsLawful old.memory → Owes old (OfFlushBegin id) (Began (Some job)) new → (job.number < new.memory.next_job) × (is_merging new.memory.trees job ≡ true → ⊥)
+begun_flush old new id job lawful (none, gives) = by (begins_flush old.memory.trees id) gives
   where
-    by : (o : Option Tree) → (unwrap_or (option_map change o) (bare_tree 0)).flush ≡ None
-    by None = refl
-    by (Some tree) = none tree
+    synced_trees : (long : Bool) (len : ℕ) → (if long then memory.journal_rotated len old.memory else old.memory).trees ≡ old.memory.trees
+    synced_trees true len = refl
+    synced_trees false len = refl
+
+    synced_next : (long : Bool) (len : ℕ) → (if long then memory.journal_rotated len old.memory else old.memory).next_job ≡ old.memory.next_job
+    synced_next true len = refl
+    synced_next false len = refl
+
+    by : (begins : Bool) → OwesBegin begins old id (Began (Some job)) new → (job.number < new.memory.next_job) × (is_merging new.memory.trees job ≡ true → ⊥)
+    by true (told, free, at) =
+        let named : job ≡ record { number = old.memory.next_job; keyspace_id = id } = cc in
+        let number : job.number ≡ old.memory.next_job = ap (λ (j : JobId). j.number) named in
+        let next : new.memory.next_job ≡ old.memory.next_job + 1 = ap (λ (m : Remembered). m.next_job) at.memory_is ∙ ap (λ (n : ℕ). n + 1) (synced_next (is_long old.journal) (written_out old.journal).len) in (
+          omega (arith, number, next),
+          λ out.
+              let there = merges_before (journal_synced old) id job (ap (λ (m : Remembered). is_merging m.trees job) (sym at.memory_is) ∙ out) in
+              let given = merge_given old.memory job lawful (ap (λ (trees : Forest). is_merging trees job) (sym (synced_trees (is_long old.journal) (written_out old.journal).len)) ∙ there) in
+              omega (arith, given, number),
+        )
+    by false (told, same) = let bad : ⊥ = cc in absurd bad
+
+module _ (old new : Held) (id : ℕ) (jobs others : Jobs) (replies : List Reply) (keeps : KeepsJobs old.memory jobs replies) (lawful : IsLawful old.memory) (same : others.merges.items ≡ jobs.merges.items) where
+  none_more : (reply : Reply) → Owes old (OfFlushBegin id) reply new → others.flushes.items ≡ jobs.flushes.items → ((job : JobId) → reply ≡ Began (Some job) → ⊥) → KeepsJobs new.memory others (replies ++ reply ∷ [])
+  none_more reply owes alike none =
+      let shape = OfFlushBegin id in
+      keeps_with old new jobs replies keeps shape reply owes others (same_flushes old new jobs replies keeps shape reply owes others alike) (same_kept old new jobs replies keeps shape reply owes others alike)
+      (same_merges old new jobs replies keeps shape reply owes others same) (λ job is. absurd (none job is))
+
+  one_more : (began : JobId) → Owes old (OfFlushBegin id) (Began (Some began)) new → Keeps new.memory (Began (Some began)) jobs.flushes.items others.flushes.items → KeepsJobs new.memory others (replies ++ Began (Some began) ∷ [])
+  one_more began owes (kept, is, knows, name) =
+      let shape = OfFlushBegin id in
+      let reply = Began (Some began) in
+      let all = All-push (λ (k : FlushJob). KnowsTask new.memory (flush_task k)) jobs.flushes.items kept (all_known old new shape reply owes jobs.flushes.items keeps.known) knows in
+      keeps_with old new jobs replies keeps shape reply owes others (subst (λ (l : List FlushJob). All (λ k. KnowsTask new.memory (flush_task k)) l) (sym is) all)
+      (λ q out was. ap (is_kept q) is ∙ any_more (is_named q) jobs.flushes.items kept was) (same_merges old new jobs replies keeps shape reply owes others same) (λ q told. by q told)
+    where
+      by : (q : JobId) → Began (Some began) ≡ Began (Some q) → IsKnown new.memory others q
+      by q told =
+          let same : began ≡ q = cc in
+          let fresh = begun_flush old new id began lawful owes in
+          subst (IsKnown new.memory others) same
+          (record { given = fresh.0; flush = λ out. ap (is_kept began) is ∙ any_last (is_named began) jobs.flushes.items kept name; merge = λ out. absurd (fresh.1 out) })
+
+  pub keeps_begun : (reply : Reply) → Owes old (OfFlushBegin id) reply new → Keeps new.memory reply jobs.flushes.items others.flushes.items → KeepsJobs new.memory others (replies ++ reply ∷ [])
+  keeps_begun (Began (Some began)) owes more = one_more began owes more
+  keeps_begun (Began None) owes alike = none_more (Began None) owes alike (λ job is. let bad : ⊥ = cc in bad)
+  keeps_begun reply owes alike = none_more reply owes alike (λ job is. let bad : ⊥ = cc in bad)
+
+-- ---- a merge that begins
+
+-- It is named by the next number, and no flush has that.
+begun_merge : (old new : Held) (kind : MergeKind) (id : ℕ) (job : JobId) → IsLawful old.memory → Owes old (OfMergeBegin kind id) (Began (Some job)) new → (job.number < new.memory.next_job) × (is_flushing new.memory.trees job ≡ true → ⊥)
+begun_merge old new kind id job lawful (none, gives) = by (begins_merge_in old kind id) gives
+  where
+    by : (begins : Bool) → OwesMergeBegin begins old id (Began (Some job)) new → (job.number < new.memory.next_job) × (is_flushing new.memory.trees job ≡ true → ⊥)
+    by true (told, numbered, at) =
+        let named : job ≡ record { number = old.memory.next_job; keyspace_id = id } = cc in
+        let number : job.number ≡ old.memory.next_job = ap (λ (j : JobId). j.number) named in
+        let next : new.memory.next_job ≡ old.memory.next_job + 1 = ap (λ (m : Remembered). m.next_job) at.memory_is in (
+          omega (arith, number, next),
+          λ out. let given = flush_given old.memory job lawful (flushes_before old.memory id new.memory.trees at.trees job out) in omega (arith, given, number),
+        )
+    by false (told, same) = let bad : ⊥ = cc in absurd bad
+
+module _ (old new : Held) (kind : MergeKind) (id : ℕ) (jobs others : Jobs) (replies : List Reply) (keeps : KeepsJobs old.memory jobs replies) (lawful : IsLawful old.memory) (same : others.flushes.items ≡ jobs.flushes.items) where
+  no_merge_more : (reply : Reply) → Owes old (OfMergeBegin kind id) reply new → others.merges.items ≡ jobs.merges.items → ((job : JobId) → reply ≡ Began (Some job) → ⊥) → KeepsJobs new.memory others (replies ++ reply ∷ [])
+  no_merge_more reply owes alike none =
+      let shape = OfMergeBegin kind id in
+      keeps_with old new jobs replies keeps shape reply owes others (same_flushes old new jobs replies keeps shape reply owes others same) (same_kept old new jobs replies keeps shape reply owes others same)
+      (same_merges old new jobs replies keeps shape reply owes others alike) (λ job is. absurd (none job is))
+
+  one_merge_more : (began : JobId) → Owes old (OfMergeBegin kind id) (Began (Some began)) new → KeepsMerge (Began (Some began)) jobs.merges.items others.merges.items → KeepsJobs new.memory others (replies ++ Began (Some began) ∷ [])
+  one_merge_more began owes (kept, is, name) =
+      let shape = OfMergeBegin kind id in
+      let reply = Began (Some began) in
+      keeps_with old new jobs replies keeps shape reply owes others (same_flushes old new jobs replies keeps shape reply owes others same) (same_kept old new jobs replies keeps shape reply owes others same)
+      (λ q out was. ap (is_merge_kept q) is ∙ any_more (is_merge_named q) jobs.merges.items kept was) (λ q told. by q told)
+    where
+      by : (q : JobId) → Began (Some began) ≡ Began (Some q) → IsKnown new.memory others q
+      by q told =
+          let same : began ≡ q = cc in
+          let fresh = begun_merge old new kind id began lawful owes in
+          subst (IsKnown new.memory others) same
+          (record { given = fresh.0; flush = λ out. absurd (fresh.1 out); merge = λ out. ap (is_merge_kept began) is ∙ any_last (is_merge_named began) jobs.merges.items kept name })
+
+  pub keeps_merging : (reply : Reply) → Owes old (OfMergeBegin kind id) reply new → KeepsMerge reply jobs.merges.items others.merges.items → KeepsJobs new.memory others (replies ++ reply ∷ [])
+  keeps_merging (Began (Some began)) owes more = one_merge_more began owes more
+  keeps_merging (Began None) owes alike = no_merge_more (Began None) owes alike (λ job is. let bad : ⊥ = cc in bad)
+  keeps_merging reply owes alike = no_merge_more reply owes alike (λ job is. let bad : ⊥ = cc in bad)
+
+-- ---- a job that is finished
+
+-- what a change of one tree makes of what is told of it
+tree_here : (id : ℕ) (change : Tree → Tree) (Holds : Tree → Type 0) → Holds (bare_tree 0) → ((tree : Tree) → Holds (change tree)) → (trees : Forest) → Holds (shape_in id (altered_at id change trees))
+tree_here id change Holds bare has trees = subst (λ (o : Option Tree). Holds (unwrap_or o (bare_tree 0))) (sym (altered_here id change trees)) (by (tree_at id trees))
+  where
+    by : (o : Option Tree) → Holds (unwrap_or (option_map change o) (bare_tree 0))
+    by None = bare
+    by (Some tree) = has tree
 
 -- behind an answer its flush isn't out
 finished_out : (old new : Held) (job : JobId) (done : Bool) → Owes old (OfFlushFinish job) (Flag done) new → is_flushing new.memory.trees job ≡ false
 finished_out old new job done (none, gives) = by (is_flushing old.memory.trees job) refl (takes_effect old job) gives
   where
-    id : ℕ
-    id = job.keyspace_id
+    gone : (change : Tree → Tree) → ((tree : Tree) → (change tree).flush ≡ None) → is_flushing (altered_at job.keyspace_id change old.memory.trees) job ≡ false
+    gone change none = tree_here job.keyspace_id change (λ tree. is_flush_out job.number tree.flush ≡ false) refl (λ tree. ap (is_flush_out job.number) (none tree)) old.memory.trees
 
     by : (out : Bool) → is_flushing old.memory.trees job ≡ out → (takes : Bool) → OwesFinish out takes old job (Flag done) new → is_flushing new.memory.trees job ≡ false
     by true is true (told, well, mid, f, at) =
-        ap (λ (m : Remembered). is_flushing m.trees job) at.memory_is ∙ ap (λ (m : Remembered). is_flushing m.trees job) f.is
-        ∙ ap (is_flush_out job.number) (gone_here id (flush_finished f.readers f.begun.out) (λ tree. refl) old.memory.trees)
-    by true is false (told, at) =
-        ap (λ (h : Held). is_flushing h.memory.trees job) at ∙ ap (is_flush_out job.number) (gone_here id flush_dropped (λ tree. refl) old.memory.trees)
+        ap (λ (m : Remembered). is_flushing m.trees job) at.memory_is ∙ ap (λ (m : Remembered). is_flushing m.trees job) f.is ∙ gone (flush_finished f.readers f.begun.out) (λ tree. refl)
+    by true is false (told, at) = ap (λ (h : Held). is_flushing h.memory.trees job) at ∙ gone flush_dropped (λ tree. refl)
     by false is takes (told, same) = ap (λ (h : Held). is_flushing h.memory.trees job) same ∙ is
+
+-- and so of its merge
+merged_out : (old new : Held) (job : JobId) (done : Bool) → Owes old (OfMergeFinish job) (Flag done) new → is_merging new.memory.trees job ≡ false
+merged_out old new job done (none, gives) = by (is_merging old.memory.trees job) refl (is_living (store_in old) job.keyspace_id) gives
+  where
+    gone : (change : Tree → Tree) → ((tree : Tree) → (change tree).merge ≡ None) → is_merging (altered_at job.keyspace_id change old.memory.trees) job ≡ false
+    gone change none = tree_here job.keyspace_id change (λ tree. is_merge_out job.number tree.merge ≡ false) refl (λ tree. ap (is_merge_out job.number) (none tree)) old.memory.trees
+
+    by : (out : Bool) → is_merging old.memory.trees job ≡ out → (lives : Bool) → OwesMerge out lives old job (Flag done) new → is_merging new.memory.trees job ≡ false
+    by true is true (told, well, mid, f, at) =
+        ap (λ (m : Remembered). is_merging m.trees job) at.memory_is ∙ ap (λ (m : Remembered). is_merging m.trees job) f.is ∙ gone (merge_finished f.readers f.out) (λ tree. refl)
+    by true is false (told, at) = ap (λ (h : Held). is_merging h.memory.trees job) at ∙ gone merge_dropped (λ tree. refl)
+    by false is lives (told, same) = ap (λ (h : Held). is_merging h.memory.trees job) same ∙ is
+
+-- A list without the job that has this name, which is out no more; or with it once more.
+module _ {Job : Type 0} (task_of : Job → Task) (jobs : List Job) (job : JobId) (kept : Job) (name : has_name job (task_of kept) ≡ true) (place : ℕ) (at : slice_get jobs place ≡ Some kept) where
+  abbrev rest : List Job
+  rest = take place jobs ++ drop (place + 1) jobs
+
+  one_less : (is_out : JobId → Bool) → is_out job ≡ false → (q : JobId) → is_out q ≡ true → list_any (λ k. has_name q (task_of k)) jobs ≡ true → list_any (λ k. has_name q (task_of k)) rest ≡ true
+  one_less is_out none q out was = by (has_name q (task_of kept)) refl
+    where
+      by : (b : Bool) → has_name q (task_of kept) ≡ b → list_any (λ k. has_name q (task_of k)) rest ≡ true
+      by true is = absurd (true≢false (sym out ∙ ap is_out (same_name q job (task_of kept) is name) ∙ none))
+      by false other = any_without (λ (k : Job). has_name q (task_of k)) jobs place kept at other was
+
+  one_back : (back : Job) → task_of back ≡ task_of kept → (q : JobId) → list_any (λ k. has_name q (task_of k)) jobs ≡ true → list_any (λ k. has_name q (task_of k)) (rest ++ back ∷ []) ≡ true
+  one_back back same q was = by (has_name q (task_of kept)) refl
+    where
+      by : (b : Bool) → has_name q (task_of kept) ≡ b → list_any (λ k. has_name q (task_of k)) (rest ++ back ∷ []) ≡ true
+      by true is = any_last (λ (k : Job). has_name q (task_of k)) rest back (ap (has_name q) same ∙ is)
+      by false other = any_more (λ (k : Job). has_name q (task_of k)) rest back (any_without (λ (k : Job). has_name q (task_of k)) jobs place kept at other was)
+
+-- ---- a flush that is finished
 
 -- what was given back
 gave_none : (kept : FlushJob) (reply : Reply) → IsGivenBack kept reply None → (done : Bool) × (reply ≡ Flag done)
@@ -446,140 +548,124 @@ gave_back kept (Flag done) back given = let no : Some back ≡ None = given in a
 gave_back kept (Refused error) back given = given
 gave_back kept reply back given = absurd given
 
-module _ (old new : Held) (job : JobId) (reply : Reply) (jobs : List FlushJob) (replies : List Reply) (keeps : KeepsJobs old.memory jobs replies) (owes : Owes old (OfFlushFinish job) reply new) where
-  plain : (id : ℕ) → OfFlushFinish job ≡ OfFlushBegin id → ⊥
-  plain id is = let bad : ⊥ = cc in bad
+module _ (old new : Held) (job : JobId) (reply : Reply) (jobs others : Jobs) (replies : List Reply) (keeps : KeepsJobs old.memory jobs replies) (owes : Owes old (OfFlushFinish job) reply new) (same : others.merges.items ≡ jobs.merges.items) where
+  -- another list of flushes that are known, which has those that are out
+  other_flushes : (list : List FlushJob) → others.flushes.items ≡ list → All (λ kept. KnowsTask new.memory (flush_task kept)) list
+      → ((q : JobId) → is_flushing new.memory.trees q ≡ true → is_kept q jobs.flushes.items ≡ true → is_kept q list ≡ true) → KeepsJobs new.memory others (replies ++ reply ∷ [])
+  other_flushes list is known carry =
+      let shape = OfFlushFinish job in
+      keeps_with old new jobs replies keeps shape reply owes others (subst (λ (l : List FlushJob). All (λ kept. KnowsTask new.memory (flush_task kept)) l) (sym is) known)
+      (λ q out was. ap (is_kept q) is ∙ carry q out was) (same_merges old new jobs replies keeps shape reply owes others same) (unbegun old new jobs replies keeps shape reply owes others tt)
 
-  -- another list of jobs that are known, which has those that are out
-  other_list : (others : List FlushJob) → All (λ kept. KnowsTask new.memory (flush_task kept)) others → ((q : JobId) → is_flushing new.memory.trees q ≡ true → is_kept q jobs ≡ true → is_kept q others ≡ true)
-      → KeepsJobs new.memory others (replies ++ reply ∷ [])
-  other_list others known carry = record { known = known; named = λ place q told. by place q (at_reply replies reply place (Began (Some q)) told) }
-    where
-      by : (place : ℕ) (q : JobId) → (slice_get replies place ≡ Some (Began (Some q))) ⊎ (reply ≡ Began (Some q)) → IsKnown new.memory others q
-      by place q (inl told) = before old new jobs replies keeps (OfFlushFinish job) reply owes others carry place q told
-      by place q (inr is) = absurd (none_begun old new (OfFlushFinish job) q plain (subst (λ (r : Reply). Owes old (OfFlushFinish job) r new) is owes).1)
+  all : All (λ kept. KnowsTask new.memory (flush_task kept)) jobs.flushes.items
+  all = all_known old new (OfFlushFinish job) reply owes jobs.flushes.items keeps.known
 
-  all : All (λ kept. KnowsTask new.memory (flush_task kept)) jobs
-  all = all_known old new (OfFlushFinish job) reply owes jobs keeps.known
-
-  module _ (kept : FlushJob) (name : is_named job kept ≡ true) (place : ℕ) (at : slice_get jobs place ≡ Some kept) where
-    abbrev rest : List FlushJob
-    rest = take place jobs ++ drop (place + 1) jobs
-
-    all_rest : All (λ k. KnowsTask new.memory (flush_task k)) rest
-    all_rest = without_one (λ (k : FlushJob). KnowsTask new.memory (flush_task k)) jobs place all
-
-    -- it is out no more
-    one_less : is_flushing new.memory.trees job ≡ false → KeepsJobs new.memory rest (replies ++ reply ∷ [])
-    one_less none = other_list rest all_rest (λ q out was. by q out was (is_named q kept) refl)
-      where
-        by : (q : JobId) → is_flushing new.memory.trees q ≡ true → is_kept q jobs ≡ true → (b : Bool) → is_named q kept ≡ b → is_kept q rest ≡ true
-        by q out was true is = absurd (true≢false (sym out ∙ ap (is_flushing new.memory.trees) (same_name q job kept is name) ∙ none))
-        by q out was false other = kept_without q jobs place kept at other was
-
-    -- or it is kept again
-    one_back : (back : FlushJob) → flush_task back ≡ flush_task kept → KeepsJobs new.memory (rest ++ back ∷ []) (replies ++ reply ∷ [])
-    one_back back same =
-        let knows = all place kept (slice_get_within jobs place kept at) in
-        let here = subst (λ (k : FlushJob). KnowsTask new.memory (flush_task k)) (get_or_from_slice_get jobs place kept kept at) knows in
-        other_list (rest ++ back ∷ []) (All-push (λ (k : FlushJob). KnowsTask new.memory (flush_task k)) rest back all_rest (subst (KnowsTask new.memory) (sym same) here))
-        (λ q out was. by q was (is_named q kept) refl)
-      where
-        by : (q : JobId) → is_kept q jobs ≡ true → (b : Bool) → is_named q kept ≡ b → is_kept q (rest ++ back ∷ []) ≡ true
-        by q was true is = kept_last q rest back (ap (λ (t : Task). (t.id == q.number) && (t.keyspace == q.keyspace_id)) same ∙ is)
-        by q was false other = kept_more q rest back (kept_without q jobs place kept at other was)
-
-  pub keeps_finished : (others : List FlushJob) → KeepsOthers job reply jobs others → KeepsJobs new.memory others (replies ++ reply ∷ [])
-  keeps_finished others (inl same) = subst (λ (l : List FlushJob). KeepsJobs new.memory l (replies ++ reply ∷ [])) (sym same) (keeps_on old new jobs replies keeps (OfFlushFinish job) reply owes plain)
-  keeps_finished others (inr (kept, left, (name, place, at, is), inl (same, given))) =
+  pub keeps_finished : KeepsOthers job reply jobs.flushes.items others.flushes.items → KeepsJobs new.memory others (replies ++ reply ∷ [])
+  keeps_finished (inl alike) = other_flushes jobs.flushes.items alike all (λ q out was. was)
+  keeps_finished (inr (kept, left, (name, place, at, is), inl (alike, given))) =
       let told = gave_none kept reply given in
       let none = finished_out old new job told.0 (subst (λ (r : Reply). Owes old (OfFlushFinish job) r new) told.1 owes) in
-      subst (λ (l : List FlushJob). KeepsJobs new.memory l (replies ++ reply ∷ [])) (sym (same ∙ is)) (one_less kept name place at none)
-  keeps_finished others (inr (kept, left, (name, place, at, is), inr (back, same, given))) =
-      subst (λ (l : List FlushJob). KeepsJobs new.memory l (replies ++ reply ∷ [])) (sym (same ∙ ap (λ (l : List FlushJob). l ++ back ∷ []) is)) (one_back kept name place at back (gave_back kept reply back given))
+      other_flushes (take place jobs.flushes.items ++ drop (place + 1) jobs.flushes.items) (alike ∙ is) (without_one (λ (k : FlushJob). KnowsTask new.memory (flush_task k)) jobs.flushes.items place all)
+      (one_less flush_task jobs.flushes.items job kept name place at (is_flushing new.memory.trees) none)
+  keeps_finished (inr (kept, left, (name, place, at, is), inr (back, alike, given))) =
+      let task = gave_back kept reply back given in
+      let P = λ (k : FlushJob). KnowsTask new.memory (flush_task k) in
+      let others_left = take place jobs.flushes.items ++ drop (place + 1) jobs.flushes.items in
+      other_flushes (others_left ++ back ∷ []) (alike ∙ ap (λ (l : List FlushJob). l ++ back ∷ []) is)
+      (All-push P others_left back (without_one P jobs.flushes.items place all) (subst (KnowsTask new.memory) (sym task) (at_place P jobs.flushes.items place kept all at)))
+      (λ q out was. one_back flush_task jobs.flushes.items job kept name place at back task q was)
 
--- ---- jobs that are found
+-- ---- a merge that is finished
 
--- it has this name
-pub named_so : (job : JobId) (kept : FlushJob) → job.number ≡ (flush_task kept).id → job.keyspace_id ≡ (flush_task kept).keyspace → is_named job kept ≡ true
-named_so job kept number keyspace = ap (λ (b : Bool). b && ((flush_task kept).keyspace == job.keyspace_id)) (eq-eqb (flush_task kept).id job.number (sym number)) ∙ eq-eqb (flush_task kept).keyspace job.keyspace_id (sym keyspace)
+merge_gave_none : (kept : MergeJob) (reply : Reply) → IsMergeGivenBack kept reply None → (done : Bool) × (reply ≡ Flag done)
+merge_gave_none kept (Flag done) given = (done, refl)
+merge_gave_none kept (Refused error) given = absurd given
+merge_gave_none kept reply given = absurd given
 
--- the job of a name is that of its task
-pub named_job : (job : JobId) (kept : FlushJob) → is_named job kept ≡ true → job_of (flush_task kept) ≡ job
-named_job job kept is = let two = named_task job kept is in λ i. record { number = two.0 i; keyspace_id = two.1 i }
+pub merge_gave_back : (kept : MergeJob) (reply : Reply) (back : MergeJob) → IsMergeGivenBack kept reply (Some back) → (merge_task back ≡ merge_task kept) × (back.target ≡ kept.target)
+merge_gave_back kept (Flag done) back given = let no : Some back ≡ None = given in absurd cc
+merge_gave_back kept (Refused error) back given = given
+merge_gave_back kept reply back given = absurd given
 
--- what is known of all is known of the one that is taken out
-pub found_known : (m : Remembered) (job : JobId) (jobs others : List FlushJob) (kept : FlushJob) → All (λ k. KnowsTask m (flush_task k)) jobs → Finds job jobs (Some kept) others → KnowsTask m (flush_task kept)
-found_known m job jobs others kept known (name, place, at, left) =
-    subst (λ (k : FlushJob). KnowsTask m (flush_task k)) (get_or_from_slice_get jobs place kept kept at) (known place kept (slice_get_within jobs place kept at))
+module _ (old new : Held) (job : JobId) (reply : Reply) (jobs others : Jobs) (replies : List Reply) (keeps : KeepsJobs old.memory jobs replies) (owes : Owes old (OfMergeFinish job) reply new) (same : others.flushes.items ≡ jobs.flushes.items) where
+  -- another list of merges, which has those that are out
+  other_merges : (list : List MergeJob) → others.merges.items ≡ list → ((q : JobId) → is_merging new.memory.trees q ≡ true → is_merge_kept q jobs.merges.items ≡ true → is_merge_kept q list ≡ true)
+      → KeepsJobs new.memory others (replies ++ reply ∷ [])
+  other_merges list is carry =
+      let shape = OfMergeFinish job in
+      keeps_with old new jobs replies keeps shape reply owes others (same_flushes old new jobs replies keeps shape reply owes others same) (same_kept old new jobs replies keeps shape reply owes others same)
+      (λ q out was. ap (is_merge_kept q) is ∙ carry q out was) (unbegun old new jobs replies keeps shape reply owes others tt)
 
--- the number of a flush that is out was given out
-pub out_given : (m : Remembered) (job : JobId) → IsLawful m → is_flushing m.trees job ≡ true → job.number < 2 ^ 64 - 1
-out_given m job lawful out = by (tree_at job.keyspace_id m.trees) refl out
-  where
-    begun : (flush : Option Flushing) → IsBegun m.next_job m.tickets.watermark flush → is_flush_out job.number flush ≡ true → job.number < 2 ^ 64 - 1
-    begun None low is = absurd (true≢false (sym is))
-    begun (Some flush) low is =
-        let same = eqb-true job.number flush.id is in
-        let given = low.0 in
-        let last = lawful.jobs in
-        omega (arith, same, given, last)
-
-    by : (found : Option Tree) → tree_at job.keyspace_id m.trees ≡ found → is_flush_out job.number (unwrap_or found (bare_tree 0)).flush ≡ true → job.number < 2 ^ 64 - 1
-    by None at is = absurd (true≢false (sym is))
-    by (Some tree) at is =
-        begun tree.flush (tree_under (λ (k : Planted). IsBegun m.next_job m.tickets.watermark k.shape.flush) m.trees job.keyspace_id tree lawful.begun at) is
+  pub keeps_merged : KeepsOtherMerges job reply jobs.merges.items others.merges.items → KeepsJobs new.memory others (replies ++ reply ∷ [])
+  keeps_merged (inl alike) = other_merges jobs.merges.items alike (λ q out was. was)
+  keeps_merged (inr (kept, left, (name, place, at, is), inl (alike, given))) =
+      let told = merge_gave_none kept reply given in
+      let none = merged_out old new job told.0 (subst (λ (r : Reply). Owes old (OfMergeFinish job) r new) told.1 owes) in
+      other_merges (take place jobs.merges.items ++ drop (place + 1) jobs.merges.items) (alike ∙ is) (one_less merge_task jobs.merges.items job kept name place at (is_merging new.memory.trees) none)
+  keeps_merged (inr (kept, left, (name, place, at, is), inr (back, alike, given))) =
+      other_merges ((take place jobs.merges.items ++ drop (place + 1) jobs.merges.items) ++ back ∷ []) (alike ∙ ap (λ (l : List MergeJob). l ++ back ∷ []) is)
+      (λ q out was. one_back merge_task jobs.merges.items job kept name place at back (merge_gave_back kept reply back given).0 q was)
 
 -- ---- the job that a finish names
 
+-- the number of a flush that is out, or of a merge, isn't the greatest
+pub out_given : (m : Remembered) (job : JobId) → IsLawful m → is_flushing m.trees job ≡ true → job.number < 2 ^ 64 - 1
+out_given m job lawful out = let given = flush_given m job lawful out in let last = lawful.jobs in omega (arith, given, last)
+
+pub merge_out_given : (m : Remembered) (job : JobId) → IsLawful m → is_merging m.trees job ≡ true → job.number < 2 ^ 64 - 1
+merge_out_given m job lawful out = let given = merge_given m job lawful out in let last = lawful.jobs in omega (arith, given, last)
+
 -- a name that the replies told
-names_kept : (m : Remembered) (jobs : List FlushJob) (replies : List Reply) → KeepsJobs m jobs replies → (place : ℕ) → (job_begun (slice_get replies place)).number < 2 ^ 64 - 1 → is_flushing m.trees (job_begun (slice_get replies place)) ≡ true
-    → is_kept (job_begun (slice_get replies place)) jobs ≡ true
-names_kept m jobs replies keeps place = by (slice_get replies place) refl
+names_known : (m : Remembered) (jobs : Jobs) (replies : List Reply) → KeepsJobs m jobs replies → (place : ℕ) → (job_begun (slice_get replies place)).number < 2 ^ 64 - 1 → IsKnown m jobs (job_begun (slice_get replies place))
+names_known m jobs replies keeps place = by (slice_get replies place) refl
   where
-    by : (o : Option Reply) → slice_get replies place ≡ o → (job_begun o).number < 2 ^ 64 - 1 → is_flushing m.trees (job_begun o) ≡ true → is_kept (job_begun o) jobs ≡ true
-    by (Some (Began (Some job))) told given out = (keeps.named place job told).1 out
-    by (Some (Began None)) told given out = let bad : ⊥ = omega (arith, given) in absurd bad
-    by (Some reply) told given out = let bad : ⊥ = omega (arith, given) in absurd bad
-    by None told given out = let bad : ⊥ = omega (arith, given) in absurd bad
+    by : (o : Option Reply) → slice_get replies place ≡ o → (job_begun o).number < 2 ^ 64 - 1 → IsKnown m jobs (job_begun o)
+    by (Some (Began (Some job))) told given = keeps.named place job told
+    by (Some (Began None)) told given = let bad : ⊥ = omega (arith, given) in absurd bad
+    by (Some reply) told given = let bad : ⊥ = omega (arith, given) in absurd bad
+    by None told given = let bad : ⊥ = omega (arith, given) in absurd bad
 
 finish_named : (replies : List Reply) (call : Call) (job : JobId) → FlushFinish job ≡ resolved replies call → (place : ℕ) × (job ≡ job_begun (slice_get replies place))
 finish_named replies (FlushFinish named) job is = let same : job ≡ job_begun (slice_get replies named.number) = cc in (named.number, same)
 finish_named replies call job is = let bad : ⊥ = cc in absurd bad
 
+merge_named : (replies : List Reply) (call : Call) (job : JobId) → MergeFinish job ≡ resolved replies call → (place : ℕ) × (job ≡ job_begun (slice_get replies place))
+merge_named replies (MergeFinish named) job is = let same : job ≡ job_begun (slice_get replies named.number) = cc in (named.number, same)
+merge_named replies call job is = let bad : ⊥ = cc in absurd bad
+
 -- the job that a finish in a list names is kept where it is out
-pub finish_kept : (m : Remembered) (jobs : List FlushJob) (replies : List Reply) → KeepsJobs m jobs replies → (call : Call) (job : JobId) → FlushFinish job ≡ resolved replies call → job.number < 2 ^ 64 - 1 → is_flushing m.trees job ≡ true
-    → is_kept job jobs ≡ true
-finish_kept m jobs replies keeps call job is =
+pub finish_kept : (m : Remembered) (jobs : Jobs) (replies : List Reply) → KeepsJobs m jobs replies → (call : Call) (job : JobId) → FlushFinish job ≡ resolved replies call → job.number < 2 ^ 64 - 1 → is_flushing m.trees job ≡ true
+    → is_kept job jobs.flushes.items ≡ true
+finish_kept m jobs replies keeps call job is given =
     let at = finish_named replies call job is in
-    subst (λ (j : JobId). j.number < 2 ^ 64 - 1 → is_flushing m.trees j ≡ true → is_kept j jobs ≡ true) (sym at.1) (names_kept m jobs replies keeps at.0)
+    (subst (λ (j : JobId). j.number < 2 ^ 64 - 1 → IsKnown m jobs j) (sym at.1) (names_known m jobs replies keeps at.0) given).flush
+
+pub merge_kept : (m : Remembered) (jobs : Jobs) (replies : List Reply) → KeepsJobs m jobs replies → (call : Call) (job : JobId) → MergeFinish job ≡ resolved replies call → job.number < 2 ^ 64 - 1 → is_merging m.trees job ≡ true
+    → is_merge_kept job jobs.merges.items ≡ true
+merge_kept m jobs replies keeps call job is given =
+    let at = merge_named replies call job is in
+    (subst (λ (j : JobId). j.number < 2 ^ 64 - 1 → IsKnown m jobs j) (sym at.1) (names_known m jobs replies keeps at.0) given).merge
 
 -- ---- calls
 
--- a call that is none of the two
-pub plain_call : (call : Call) → ((id : ℕ) → call ≡ FlushBegin id → ⊥) → ((job : JobId) → call ≡ FlushFinish job → ⊥) → IsPlain (shape_of call)
-plain_call (FlushBegin id) begins finishes = absurd (begins id refl)
-plain_call (FlushFinish job) begins finishes = absurd (finishes job refl)
-plain_call call begins finishes = tt
+-- a call that is none of the five
+pub plain_call : (call : Call) → ((id : ℕ) → call ≡ FlushBegin id → ⊥) → ((job : JobId) → call ≡ FlushFinish job → ⊥) → ((id : ℕ) → call ≡ MergeBegin id → ⊥)
+    → ((id : ℕ) → call ≡ MajorBegin id → ⊥) → ((job : JobId) → call ≡ MergeFinish job → ⊥) → IsPlain (shape_of call)
+plain_call (FlushBegin id) begins finishes merges majors ends = absurd (begins id refl)
+plain_call (FlushFinish job) begins finishes merges majors ends = absurd (finishes job refl)
+plain_call (MergeBegin id) begins finishes merges majors ends = absurd (merges id refl)
+plain_call (MajorBegin id) begins finishes merges majors ends = absurd (majors id refl)
+plain_call (MergeFinish job) begins finishes merges majors ends = absurd (ends job refl)
+plain_call call begins finishes merges majors ends = tt
 
-pub plain_begins : (shape : Shape) → IsPlain shape → (id : ℕ) → shape ≡ OfFlushBegin id → ⊥
-plain_begins shape plain id is = subst IsPlain is plain
+pub plain_begins : (shape : Shape) → IsPlain shape → BeginsNone shape
+plain_begins (OfFlushBegin id) plain = plain
+plain_begins (OfMergeBegin kind id) plain = plain
+plain_begins shape plain = tt
 
 -- no job is kept before the first call
-pub none_kept : (m : Remembered) (jobs : List FlushJob) (replies : List Reply) → jobs ≡ [] → replies ≡ [] → KeepsJobs m jobs replies
+pub none_kept : (m : Remembered) (jobs : Jobs) (replies : List Reply) → jobs.flushes.items ≡ [] → replies ≡ [] → KeepsJobs m jobs replies
 none_kept m jobs replies no_jobs no_replies = record {
   known = subst (λ (l : List FlushJob). All (λ kept. KnowsTask m (flush_task kept)) l) (sym no_jobs) (All-nil (λ (kept : FlushJob). KnowsTask m (flush_task kept)));
   named = λ place job told. let no : None ≡ Some (Began (Some job)) = sym (ap (λ (l : List Reply). slice_get l place) no_replies) ∙ told in absurd cc;
 }
-
--- ---- the search in the list
-
-pub none_found : (job : JobId) (jobs : List FlushJob) → position (is_named job) jobs ≡ None → is_kept job jobs ≡ false
-none_found job jobs none =
-    let past : length jobs ≤ position_or_len (is_named job) jobs = grind (arith, common_steps) in
-    list_any_none (is_named job) jobs (λ k d lt. fails_before_first (is_named job) jobs k d (omega (arith, past, lt)))
-
-pub one_found : (job : JobId) (jobs others : List FlushJob) (place : ℕ) (kept : FlushJob) → position (is_named job) jobs ≡ Some place → kept ≡ get_or jobs place kept → others ≡ take place jobs ++ drop (place + 1) jobs → Finds job jobs (Some kept) others
-one_found job jobs others place kept is at left =
-    let there = position-Some (is_named job) jobs place kept is in
-    (ap (is_named job) at ∙ there.1, place, slice_get-get_or jobs place kept there.0 ∙ ap (λ (k : FlushJob). Some k) (sym at), left)

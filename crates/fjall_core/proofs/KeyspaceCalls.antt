@@ -90,7 +90,7 @@ present_along false d a b same is = is ∙ same
 present_along true d a b same (inl is) = inl (is ∙ same)
 present_along true d a b same (inr (front, last, all, is)) = inr (front, last, all, is ∙ same)
 
-recounted_lies : (entries : ℕ → List (List Entry)) (old new : Held) (base : Store) (pending : List Command) → Recounts entries old new → (lies : Lies old (held_on old base pending)) → Within (codes "keyspaces") old.disk new.disk → LiesInTree (state_in new.disk) lies.records lies.tree
+pub recounted_lies : (entries : ℕ → List (List Entry)) (old new : Held) (base : Store) (pending : List Command) → Recounts entries old new → (lies : Lies old (held_on old base pending)) → Within (codes "keyspaces") old.disk new.disk → LiesInTree (state_in new.disk) lies.records lies.tree
     → Lies new (held_on new base pending)
 recounted_lies entries old new base pending c lies run in_tree = record {
   journals = lies.journals;
@@ -107,7 +107,7 @@ recounted_lies entries old new base pending c lies run in_tree = record {
 }
 
 -- what is known of homes
-recounted_knows : (entries : ℕ → List (List Entry)) (old new : Held) (base : Store) (pending : List Command) (c : Recounts entries old new)
+pub recounted_knows : (entries : ℕ → List (List Entry)) (old new : Held) (base : Store) (pending : List Command) (c : Recounts entries old new)
     (lies : Lies old (held_on old base pending)) (run : Within (codes "keyspaces") old.disk new.disk) (in_tree : LiesInTree (state_in new.disk) lies.records lies.tree)
     → Knows old entries lies.journals lies.tree
     → Knows new entries (recounted_lies entries old new base pending c lies run in_tree).journals (recounted_lies entries old new base pending c lies run in_tree).tree

@@ -6,7 +6,7 @@ use Rattle.fjall_journal.specs.declared.persist_mode.PersistMode.{PersistMode}
 use Rattle.fjall_journal.specs.declared.persist_mode.PersistMode.TheVariants.{Buffer, SyncAll, SyncData}
 use Rattle.fjall_state.specs.declared.call.Call.{Call}
 use Rattle.fjall_journal.specs.Changes.{Emptied, Items}
-use Rattle.fjall_state.specs.Shapes.{OfChange, OfCount, OfCreation, OfDeletion, OfFlushBegin, OfFlushFinish, OfHandle, OfIngestion, OfJournalRotation, OfMaintenance, OfPersist, OfRead, OfRotation, OfTickets, Shape, shape_of}
+use Rattle.fjall_state.specs.Shapes.{OfChange, OfCount, OfCreation, OfDeletion, OfFlushBegin, OfFlushFinish, OfHandle, OfIngestion, OfJournalRotation, OfMaintenance, OfMergeBegin, OfMergeFinish, OfPersist, OfRead, OfRotation, OfTickets, Shape, shape_of}
 use Rattle.fjall_history.specs.declared.reply.Reply.{Reply}
 use Rattle.fjall_history.specs.declared.reply.Reply.TheVariants.{Refused}
 use Rattle.fjall_state.specs.Machine.{State, begins_flush, has_name, is_living, mode_in, present}
@@ -49,6 +49,8 @@ syncs_or_not s (OfRotation id) = inr (λ sync. sync)
 syncs_or_not s OfJournalRotation = inl tt
 syncs_or_not s (OfFlushBegin id) = is_true_or_not (begins_flush s.parts.trees id)
 syncs_or_not s (OfFlushFinish job) = inr (λ sync. sync)
+syncs_or_not s (OfMergeBegin kind id) = inr (λ sync. sync)
+syncs_or_not s (OfMergeFinish job) = inr (λ sync. sync)
 syncs_or_not s OfMaintenance = inr (λ sync. sync)
 syncs_or_not s (OfTickets call) = inr (λ sync. sync)
 syncs_or_not s (OfPersist mode) = mode_or_not mode

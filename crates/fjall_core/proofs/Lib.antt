@@ -13,6 +13,7 @@ mod JournalWrites
 mod Syncs
 mod TablesAtHome
 mod KeptEntries
+mod LookedDisks
 mod ReadCalls
 mod RootUnchanged
 mod CatalogChanges
@@ -20,10 +21,13 @@ mod NextNumbers
 mod CatalogOnDisk
 mod KeyspaceCalls
 mod OwedStates
+mod OwedMerges
 mod OwedWork
 pub mod OwedSteps
 mod GoneFlushes
+mod FoundJobs
 pub mod KeptJobs
+pub mod KeptMerges
 mod DeviceFaults
 pub mod ServedCalls
 mod TicketCalls
@@ -51,6 +55,8 @@ mod FlushedTables
 mod FinishedFlushes
 mod BegunFlushes
 mod FlushBegins
+mod MergesOut
+mod MergeBegins
 mod Evictions
 mod IngestionSyncs
 mod IngestionWrites
@@ -60,3 +66,9 @@ mod IngestionSteps
 mod IngestionCalls
 mod PutIngestions
 mod IngestionRefusals
+mod PutMerges
+mod MadeMerges
+mod MergesOnDisk
+mod MergedTables
+mod FinishedMerges
+mod RecordedTables

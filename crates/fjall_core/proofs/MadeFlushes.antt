@@ -32,7 +32,7 @@ before_prop Less n m = hlevel props
 before_prop Equal n m = hlevel props
 before_prop Greater n m = hlevel props
 
-ordered_prop : (vs : List Entry) → IsProp (IsOrdered vs)
+pub ordered_prop : (vs : List Entry) → IsProp (IsOrdered vs)
 ordered_prop [] = hlevel props
 ordered_prop (v ∷ []) = hlevel props
 ordered_prop (v ∷ w ∷ vs) = hlevel (props, before_prop (byte_order v.key w.key) v.number w.number, ordered_prop (w ∷ vs))
@@ -52,7 +52,7 @@ full_prop (b ∷ next ∷ blocks) = hlevel (props, full_prop (next ∷ blocks))
 blocks_prop : (blocks : List (List Entry)) → IsProp (AreBlocks blocks)
 blocks_prop blocks = hlevel (props, each_prop blocks, full_prop blocks, ordered_prop (entries_of blocks))
 
-coded_entry : Coded Entry
+pub coded_entry : Coded Entry
 coded_entry = hlevel codes
 
 -- what is said of a table's blocks
@@ -77,13 +77,13 @@ table_prop bytes entries x y =
 made_prop : (t : MadeTable) (entries : List Entry) → IsProp (IsMadeTable t entries)
 made_prop t entries = hlevel (props, table_prop t.bytes.items entries)
 
-all_made_prop : (tables : List MadeTable) (lists : List (List Entry)) → IsProp (AreMadeTables tables lists)
+pub all_made_prop : (tables : List MadeTable) (lists : List (List Entry)) → IsProp (AreMadeTables tables lists)
 all_made_prop [] [] = hlevel props
 all_made_prop [] (l ∷ lists) = hlevel props
 all_made_prop (t ∷ tables) [] = hlevel props
 all_made_prop (t ∷ tables) (l ∷ lists) = hlevel (props, made_prop t l, all_made_prop tables lists)
 
-one_lists : (tables : List MadeTable) (a b : List (List Entry)) → AreMadeTables tables a → AreMadeTables tables b → a ≡ b
+pub one_lists : (tables : List MadeTable) (a b : List (List Entry)) → AreMadeTables tables a → AreMadeTables tables b → a ≡ b
 one_lists [] [] [] one two = refl
 one_lists [] [] (l ∷ b) one two = absurd two
 one_lists [] (k ∷ a) b one two = absurd one
@@ -99,7 +99,7 @@ parted_prop [] = hlevel props
 parted_prop (l ∷ []) = hlevel props
 parted_prop (l ∷ k ∷ lists) = hlevel props
 
-same_prop : (xs ys : List Entry) → IsProp (Same xs ys)
+pub same_prop : (xs ys : List Entry) → IsProp (Same xs ys)
 same_prop xs ys = hlevel props
 
 abbrev IsFlushedIn : Task → List MadeTable → List ℕ → List (List Entry) → Type 0

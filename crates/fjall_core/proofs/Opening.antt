@@ -44,7 +44,7 @@ use Rattle.fjall_commit.proofs.RootAfterWrites.{active_fits, begins}
 use Rattle.fjall_repair.specs.declared.opened.Opened.{Opened}
 use Rattle.fjall_repair.specs.Opened.{ComesBack, IsOpenedFrom, IsUnopened, WritesJournal, store_entries}
 use Rattle.fjall_repair.specs.Opened as repair
-use Rattle.fjall_state.specs.Remembered.{AreBeside, IsBegun, Remembered, journals_of, remembered}
+use Rattle.fjall_state.specs.Remembered.{AreBeside, IsBegun, IsMergeBegun, Remembered, journals_of, remembered}
 use Rattle.fjall_history.proofs.Values.{all_none}
 use Rattle.fjall_state.specs.Remembered as memory
 use Rattle.fjall_state.specs.Machine.{is_among, opened_state}
@@ -81,7 +81,8 @@ lawful_of o lawful = record {
   above = all_none (λ i. 0 < 0 → 0 < i);
   recorded = lawful.recorded;
   kept = lawful.kept;
-  begun = λ i d lt. subst (IsBegun 0 0) (sym (lawful.still i d lt)) tt;
+  begun = λ i d lt. subst (IsBegun 0 0) (sym (lawful.still i d lt).0) tt;
+  merging = λ i d lt. subst (IsMergeBegun 0 0) (sym (lawful.still i d lt).1) tt;
   jobs = omega arith;
 }
 
@@ -119,7 +120,7 @@ opens disk o entries store damaged next lawful beside made number =
     record {
       remembered = subst (λ (s : Store). memory.StandsFor m table (opened_state s damaged next parts)) made
           (subst (λ (n : ℕ). memory.StandsFor m table (opened_state (store_with entries o.keyspaces (forest_of o.trees)) damaged n parts)) number
-          (an_opening_stands m (lawful_of o lawful) refl refl refl refl refl table parts refl refl refl (records_of disk o entries lawful) beside damaged));
+          (an_opening_stands m (lawful_of o lawful) refl refl refl refl refl refl table parts refl refl refl (records_of disk o entries lawful) beside damaged));
       journal = refl;
       buffer = refl;
     }
@@ -154,8 +155,9 @@ told_all disk o damaged lawful all = λ i d lt wrong.
 reads_of : (disk : Meaning) (o : Opened) (entries : ℕ → List (List Entry)) (store : Store) (damaged : List ℕ) (next : ℕ) → repair.IsLawful o → AreReadOn disk (forest_of o.trees) entries → AreAtHome o.records (forest_of o.trees)
     → IsTold disk damaged (forest_of o.trees) → is_of_keyspaces o.journal.name ≡ false → ReadsOn (core_of disk o) (opened_as (core_of disk o) store entries damaged next)
 reads_of disk o entries store damaged next lawful on named wrong outside = record {
-  tables = λ i d lt. record { positive = lawful.positive i d lt; read = (on i d lt).tables; named = named i d lt; damage = wrong i d lt };
+  tables = λ i d lt. record { positive = lawful.positive i d lt; read = (on i d lt).tables; named = (named i d lt).0; damage = wrong i d lt };
   writer = λ well. outside;
+  recorded = λ i d lt. (named i d lt).1;
 }
 
 pub opens_on : (old new : Meaning) (o : Opened) → repair.IsLawful o → WritesJournal o → IsOpenedFrom old new o → OpensOn old (core_of new o)
@@ -223,7 +225,7 @@ module _ (disk : Meaning) (folder : Option Contents) (o : Opened) (is : repair.O
   knows lawful = record {
     shown = subst (λ (b : List Written). AreReplayedWith is.entries is.t.keyspaces (stored_in is.t.homes is.t.versions) (map shown (read.batches_in (journals_with is.j b))) (forest_of o.trees)) (sym is.later) is.shown;
     homes = is.known;
-    covered = λ i d lt out at. let no : None ≡ Some out = sym (lawful.still i d lt) ∙ at in absurd cc;
+    covered = λ i d lt out at. let no : None ≡ Some out = sym (lawful.still i d lt).0 ∙ at in absurd cc;
   }
 
   -- the active journal's file holds the batches, all of them synced

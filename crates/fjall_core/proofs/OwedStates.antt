@@ -1,5 +1,5 @@
 -- States that a core stands for behind parts of calls.
-use Rattle.std.proofs.Common.{◌≡◌, ℕ, ◌+◌, true, None, length, refl, sym, ap, subst, arith}
+use Rattle.std.proofs.Common.{◌≡◌, ℕ, ◌+◌, true, None, length, refl, sym, ◌∙◌, ap, subst, arith}
 use Rattle.fjall_journal.specs.Writer.{Journal, counted}
 use Rattle.fjall_journal.specs.Writer as writer
 use Rattle.fjall_history.specs.declared.reply.Reply.{Reply}
@@ -9,7 +9,7 @@ use Rattle.fjall_state.specs.Remembered.{Remembered}
 use Rattle.fjall_state.specs.Remembered as memory
 use Rattle.fjall_state.proofs.Standing as law
 use Rattle.fjall_core.specs.Holding.{Held}
-use Rattle.fjall_core.specs.Standing.{Poisons, StandsFor, held_due}
+use Rattle.fjall_core.specs.Standing.{Looks, Poisons, StandsFor, held_due}
 
 -- the machine may step so, to a state that the core stands for now
 abbrev pub Steps : Held → State → Shape → Reply → Type 0
@@ -40,6 +40,16 @@ poisoned_stands left old new table s fault stands = record {
 
 pub still : (old new : Held) (s : State) → new ≡ old → StandsFor old s → StandsFor new s
 still old new s same stands = subst (λ c. StandsFor c s) (sym same) stands
+
+-- a core that a read looked at the disk for
+pub looked_stands : (old new : Held) (s : State) → Looks old new → StandsFor old s → StandsFor new s
+looked_stands old new s looks stands = record {
+  remembered = subst (λ (m : Remembered). memory.StandsFor m new.catalog.next_table_id s) (sym looks.memory_is)
+      (subst (λ c. memory.StandsFor (memory.with_trees new.memory.trees old.memory) c s) (ap (λ c. c.next_table_id) (sym looks.catalog))
+      (law.a_read_stands old.memory old.catalog.next_table_id s stands.remembered new.memory.trees looks.trees));
+  journal = stands.journal ∙ ap (λ (j : Journal). j.len) (sym looks.journal);
+  buffer = stands.buffer ∙ ap (λ (j : Journal). length j.buffer) (sym looks.journal);
+}
 
 pub none_more : (j : Journal) (parts : Parts) → parts.journal ≡ j.len → parts.buffer ≡ length j.buffer → (written_out parts 0).journal ≡ (writer.written_out j).len
 none_more j parts journal buffer = ap counted (let sum : parts.journal + (parts.buffer + 0) ≡ j.len + length j.buffer = omega (arith, journal, buffer) in sum)

@@ -6,6 +6,7 @@ use Rattle.std.specs.Prelude.{IsPermutation}
 use Rattle.std.specs.FinMap.{get, len, values}
 use Rattle.fjall_base.specs.Pairs.{Bytes}
 use Rattle.fjall_base.specs.declared.error.Error.{Error}
+use Rattle.fjall_base.specs.declared.error.StorageError.{StorageError}
 use Rattle.fjall_base.specs.declared.error.Error.TheVariants.{Io, NumbersUsedUp, OutOfMemory, Poisoned, Storage, TooManyItems, ValueTooLong}
 use Rattle.fjall_journal.specs.Changes.{Change, Emptied, Items, change_text}
 use Rattle.fjall_journal.specs.Writer.{Journal, after_command, counted, filled, goes_out}
@@ -22,23 +23,25 @@ use Rattle.fjall_history.specs.Histories.{number}
 use Rattle.fjall_history.specs.Queries.{Query, Tells}
 use Rattle.fjall_history.specs.Tickets.{Tickets, closed, collected, opened}
 use Rattle.fjall_state.specs.declared.call.Call.{Call}
-use Rattle.fjall_state.specs.Shapes.{AsKeyspace, ByMode, Clone, Close, Collect, Count, DiskSpace, Exists, Flushes, JournalSpace, Keyspaces, Next, OfChange, OfCount, OfCreation, OfDeletion, OfFlushBegin, OfFlushFinish, OfHandle, OfIngestion, OfJournalRotation, OfMaintenance, OfPersist, OfRead, OfRotation, OfTickets, OneLess, OneMore, Open, OpenTickets, Persistence, Entries, SealedMemtables, Shape, Tables, TablesL0, TicketCall, ToFlush, Visible, WriteBuffer, shape_of}
+use Rattle.fjall_state.specs.Shapes.{AsKeyspace, ByMode, Clone, Close, Collect, Count, DiskSpace, Exists, Flushes, JournalSpace, Keyspaces, MergesDone, MergesOut, Next, OfChange, OfCount, OfCreation, OfDeletion, OfFlushBegin, OfFlushFinish, OfHandle, OfIngestion, OfJournalRotation, OfMaintenance, OfMergeBegin, OfMergeFinish, OfPersist, OfRead, OfRotation, OfTickets, OneLess, OneMore, Open, OpenTickets, Persistence, Entries, SealedMemtables, Shape, Tables, TablesL0, TicketCall, ToFlush, Visible, WriteBuffer, shape_of}
 use Rattle.fjall_state.specs.Shapes as shapes
 use Rattle.fjall_state.specs.Allowed.{MayChange}
-use Rattle.fjall_state.specs.Machine.{ChangesDisk, CountIs, MayFail, Parts, ReadsTables, Refuses, State, TakesMemory, TooLong, TurnsTickets, accepted, begins_flush, created, creation_refusals, deleted, due, facts, first_due, has_name, is_flushing, is_living, leaves_buffer, mode_in, present, rotates, written, written_out}
+use Rattle.fjall_state.specs.Machine.{ChangesDisk, CountIs, MayFail, Parts, ReadsTables, Refuses, State, TakesMemory, TooLong, TurnsTickets, accepted, begins_flush, created, creation_refusals, deleted, due, facts, first_due, has_name, is_flushing, is_living, is_merging, leaves_buffer, mode_in, present, rotates, written, written_out}
 use Rattle.fjall_state.specs.Machine as machine
 use Rattle.fjall_state.specs.Remembered.{IsLawful, Remembered, facts_of, instant_in, poisoned}
 use Rattle.fjall_state.specs.Remembered as memory
 use Rattle.fjall_manager.specs.Journals.{Journals, bytes_of}
 use Rattle.fjall_state.proofs.ByHand.{options_agree}
+use Rattle.fjall_state.proofs.MergeSettings.{merges_counted}
 use Rattle.fjall_state.proofs.Sizes.{awaited_agree, buffers_agree, l0_counts_agree, rotations_agree, sealed_agree, space_agrees, spaces_agree, table_counts_agree, versions_agree, waits_agree, wants_agree}
 use Rattle.fjall_state.proofs.Dues.{may_change, may_create, may_delete}
 use Rattle.fjall_state.proofs.Standing as law
 use Rattle.fjall_core.specs.Holding.{Held}
 use Rattle.fjall_blocks.specs.Readers.{Reader}
-use Rattle.fjall_core.proofs.OwedStates.{Answered, Steps, none_more, poisoned_stands, poisoned_state, same_due, still}
+use Rattle.fjall_core.proofs.OwedStates.{Answered, Steps, looked_stands, none_more, poisoned_stands, poisoned_state, same_due, still}
+use Rattle.fjall_core.proofs.OwedMerges.{finish_merge_steps, merge_begin_steps}
 use Rattle.fjall_core.proofs.OwedWork.{begin_steps, finish_steps, ingestion_steps, maintenance_steps, same_late, same_room, same_used, work_steps}
-use Rattle.fjall_core.specs.Standing.{StandsFor, at_fault, tables_of, Looks, LooksAt, GivesRead, Gives, Owes, OwesAll, RotatesJournal, OwesChange, OwesCreation, OwesDeletion, OwesRefusal, OwesFailure, RanOut, Grows, HandsOver, HeldCount, Alters, Counts, Creates, Deletes, held_due, mode_of, store_in, takes_effect, text_of}
+use Rattle.fjall_core.specs.Standing.{StandsFor, at_fault, tables_of, LooksAt, GivesRead, Gives, Owes, OwesAll, RotatesJournal, OwesChange, OwesCreation, OwesDeletion, OwesRefusal, OwesFailure, RanOut, Grows, HandsOver, HeldCount, Alters, Counts, Creates, Deletes, FindsDisorder, RestsOnTables, begins_merge_in, held_due, mode_of, store_in, takes_effect, text_of}
 
 -- ---- refusals
 
@@ -54,21 +57,13 @@ fault_left old s (OfRotation id) stands = stands.remembered
 fault_left old s OfJournalRotation stands = stands.remembered
 fault_left old s (OfFlushBegin id) stands = stands.remembered
 fault_left old s (OfFlushFinish job) stands = stands.remembered
+fault_left old s (OfMergeBegin kind id) stands = stands.remembered
+fault_left old s (OfMergeFinish job) stands = stands.remembered
 fault_left old s OfMaintenance stands = stands.remembered
 fault_left old s (OfRead view id query) stands = stands.remembered
 fault_left old s (OfTickets call) stands = stands.remembered
 fault_left old s (OfPersist mode) stands = stands.remembered
 fault_left old s (OfCount count) stands = stands.remembered
-
--- a core that a read looked at the disk for
-pub looked_stands : (old new : Held) (s : State) → Looks old new → StandsFor old s → StandsFor new s
-looked_stands old new s looks stands = record {
-  remembered = subst (λ (m : Remembered). memory.StandsFor m new.catalog.next_table_id s) (sym looks.memory_is)
-      (subst (λ c. memory.StandsFor (memory.with_trees new.memory.trees old.memory) c s) (ap (λ c. c.next_table_id) (sym looks.catalog))
-      (law.a_read_stands old.memory old.catalog.next_table_id s stands.remembered new.memory.trees looks.trees));
-  journal = stands.journal ∙ ap (λ (j : Journal). j.len) (sym looks.journal);
-  buffer = stands.buffer ∙ ap (λ (j : Journal). length j.buffer) (sym looks.journal);
-}
 
 pub looked_at_stands : (old new : Held) (s : State) (tables : List Reader) → LooksAt tables old new → StandsFor old s → StandsFor new s
 looked_at_stands old new s [] same stands = subst (λ c. StandsFor c s) (sym same) stands
@@ -85,6 +80,8 @@ same_long old s (OfRotation id) stands long = absurd long
 same_long old s OfJournalRotation stands long = absurd long
 same_long old s (OfFlushBegin id) stands long = absurd long
 same_long old s (OfFlushFinish job) stands long = absurd long
+same_long old s (OfMergeBegin kind id) stands long = absurd long
+same_long old s (OfMergeFinish job) stands long = absurd long
 same_long old s OfMaintenance stands long = absurd long
 same_long old s (OfRead view id query) stands long = absurd long
 same_long old s (OfTickets call) stands long = absurd long
@@ -116,6 +113,8 @@ same_changes old s (OfRotation id) stands changes = absurd changes
 same_changes old s OfJournalRotation stands changes = tt
 same_changes old s (OfFlushBegin id) stands changes = absurd changes
 same_changes old s (OfFlushFinish job) stands changes = absurd changes
+same_changes old s (OfMergeBegin kind id) stands changes = absurd changes
+same_changes old s (OfMergeFinish job) stands changes = absurd changes
 same_changes old s OfMaintenance stands changes = absurd changes
 same_changes old s (OfRead view id query) stands changes = absurd changes
 same_changes old s (OfTickets call) stands changes = absurd changes
@@ -134,30 +133,44 @@ ran_out_still old new s (OfRotation id) same stands = still old new s same stand
 ran_out_still old new s OfJournalRotation same stands = still old new s same stands
 ran_out_still old new s (OfFlushBegin id) same stands = still old new s same stands
 ran_out_still old new s (OfFlushFinish job) same stands = still old new s same stands
+ran_out_still old new s (OfMergeBegin kind id) (begins, looks) stands = looked_stands old new s looks stands
+ran_out_still old new s (OfMergeFinish job) same stands = still old new s same stands
 ran_out_still old new s OfMaintenance same stands = still old new s same stands
 ran_out_still old new s (OfRead view id query) looks stands = looked_at_stands old new s (tables_of old id) looks stands
 ran_out_still old new s (OfTickets call) same stands = still old new s same stands
 ran_out_still old new s (OfPersist mode) same stands = still old new s same stands
 ran_out_still old new s (OfCount count) same stands = still old new s same stands
 
-failure_steps : (old new : Held) (s : State) (shape : Shape) (error : Error) → held_due old shape ≡ None → (ReadsTables old.memory.trees shape → ⊥) → StandsFor old s → OwesFailure old shape error new → (t : State) × StandsFor new t × MayFail shape error s t
+-- what reads tables rests on them, and so does what met a wrong block
+reads_rest : (core : Held) (shape : Shape) (reply : Reply) → ReadsTables core.memory.trees shape → RestsOnTables core shape reply
+reads_rest core (OfMergeBegin kind id) reply reads = absurd reads
+reads_rest core (OfMergeFinish job) reply reads = absurd reads
+reads_rest core shape reply reads = reads
+
+disorder_rests : (old new : Held) (shape : Shape) (told : StorageError) → FindsDisorder old shape new → RestsOnTables old shape (Refused (Storage told))
+disorder_rests old new (OfMergeBegin kind id) told (begins, left, looks) = begins
+disorder_rests old new (OfMergeFinish job) told (out, same) = out
+disorder_rests old new shape told found = absurd found
+
+failure_steps : (old new : Held) (s : State) (shape : Shape) (error : Error) → held_due old shape ≡ None → (RestsOnTables old shape (Refused error) → ⊥) → StandsFor old s → OwesFailure old shape error new → (t : State) × StandsFor new t × MayFail shape error s t
 failure_steps old new s shape (Io kind) due_is none stands (inl (changes, fault)) =
     let left = machine.at_fault s shape in (
       poisoned_state new left,
       poisoned_stands (at_fault shape old.memory) old new old.catalog.next_table_id left fault (fault_left old s shape stands),
       inl (same_changes old s shape stands changes, record { is = refl; trees = refl; entries = refl; records = refl; journals = refl }),
     )
-failure_steps old new s shape (Io kind) due_is none stands (inr (inl (reads, looks, rose))) = absurd (none reads)
-failure_steps old new s shape (Io kind) due_is none stands (inr (inr poisons)) = let left = work_steps old new s stands shape due_is poisons in (left.0, left.1, inr (inr left.2))
+failure_steps old new s shape (Io kind) due_is none stands (inr (inl (reads, looks, rose))) = absurd (none (reads_rest old shape (Refused (Io kind)) reads))
+failure_steps old new s shape (Io kind) due_is none stands (inr (inr poisons)) = let left = work_steps old new s stands shape (Io kind) due_is none poisons in (left.0, left.1, inr (inr left.2))
 failure_steps old new s shape OutOfMemory due_is none stands (takes, out) = (s, ran_out_still old new s shape out stands, (takes, refl))
-failure_steps old new s shape (Storage told) due_is none stands (is, reads, looks) = absurd (none reads)
+failure_steps old new s shape (Storage told) due_is none stands (is, inl (reads, looks)) = absurd (none (reads_rest old shape (Refused (Storage told)) reads))
+failure_steps old new s shape (Storage told) due_is none stands (is, inr found) = absurd (none (disorder_rests old new shape told found))
 failure_steps old new s shape ValueTooLong due_is none stands (long, same) = (s, still old new s same stands, (same_long old s shape stands long, refl))
 failure_steps old new s shape Poisoned due_is none stands (late, same) = (s, still old new s same stands, (same_late old s stands shape late, refl))
-failure_steps old new s shape NumbersUsedUp due_is none stands (used, same) = (s, still old new s same stands, (same_used old s stands shape used, refl))
-failure_steps old new s shape TooManyItems due_is none stands (room, same) = (s, still old new s same stands, (same_room old s stands shape room, refl))
+failure_steps old new s shape NumbersUsedUp due_is none stands (used, same) = (s, still old new s same stands, (same_used old s stands shape NumbersUsedUp due_is none used, refl))
+failure_steps old new s shape TooManyItems due_is none stands (room, same) = (s, still old new s same stands, (same_room old s stands shape TooManyItems none room, refl))
 failure_steps old new s shape error due_is none stands bad = absurd bad
 
-refusal_steps : (old new : Held) (s : State) (shape : Shape) (error : Error) (first : Option Error) → held_due old shape ≡ first → (ReadsTables old.memory.trees shape → ⊥) → StandsFor old s → OwesRefusal first old shape error new → (t : State) × StandsFor new t × Refuses first shape error s t
+refusal_steps : (old new : Held) (s : State) (shape : Shape) (error : Error) (first : Option Error) → held_due old shape ≡ first → (RestsOnTables old shape (Refused error) → ⊥) → StandsFor old s → OwesRefusal first old shape error new → (t : State) × StandsFor new t × Refuses first shape error s t
 refusal_steps old new s shape error (Some first) due_is none stands (is, same) = (s, still old new s same stands, (is, refl))
 refusal_steps old new s shape error None due_is none stands failure = failure_steps old new s shape error due_is none stands failure
 
@@ -430,6 +443,8 @@ same_counts old s (DiskSpace (Some id)) reply told stands = told ∙ ap Number (
 same_counts old s (DiskSpace None) reply told stands =
     told ∙ (λ i. Number (counted (sym (spaces_agree old.memory old.catalog.next_table_id s stands.remembered) i + counted (bytes_of (sym stands.remembered.journals i).sealed + sym stands.journal i))))
 same_counts old s Flushes reply told stands = told ∙ ap Number (sym (waits_agree old.memory old.catalog.next_table_id s stands.remembered))
+same_counts old s MergesOut reply told stands = told ∙ ap Number (sym (merges_counted old.memory old.catalog.next_table_id s stands.remembered))
+same_counts old s MergesDone reply told stands = told ∙ ap Number (sym stands.remembered.merges_done)
 same_counts old s ToFlush reply (ids, told, is) stands = (ids, told, is ∙ sym (awaited_agree old.memory old.catalog.next_table_id s stands.remembered))
 
 creation_steps : (old new : Held) (s : State) (name : Bytes) (options : List Bytes) (id : ℕ) → held_due old (OfCreation name options) ≡ None → OwesCreation old name options id new → StandsFor old s → Steps new s (OfCreation name options) (Number id)
@@ -440,7 +455,7 @@ deletion_steps : (old new : Held) (s : State) (id : ℕ) → held_due old (OfDel
 deletion_steps old new s id none (inl (gone, same)) stands = gone_steps old new s id none gone same stands
 deletion_steps old new s id none (inr (living, deletes)) stands = deleted_steps old new s id none living deletes stands
 
-gives_step : (old new : Held) (shape : Shape) (reply : Reply) (s : State) → (ReadsTables old.memory.trees shape → ⊥) → held_due old shape ≡ None → Gives old shape reply new → StandsFor old s → Answered new s shape reply
+gives_step : (old new : Held) (shape : Shape) (reply : Reply) (s : State) → (RestsOnTables old shape reply → ⊥) → held_due old shape ≡ None → Gives old shape reply new → StandsFor old s → Answered new s shape reply
 gives_step old new (OfChange change how) reply s bare none (told, owes) stands = subst (λ r. Answered new s (OfChange change how) r) (sym told) (changed_steps old new s change how none owes stands)
 gives_step old new (OfIngestion id items) reply s bare none owes stands = ingestion_steps old new s stands id items reply none owes
 gives_step old new (OfCreation name options) reply s bare none (id, told, owes) stands = subst (λ r. Answered new s (OfCreation name options) r) (sym told) (creation_steps old new s name options id none owes stands)
@@ -452,6 +467,9 @@ gives_step old new OfJournalRotation reply s bare none (told, turns) stands = su
 gives_step old new (OfFlushBegin id) reply s bare none begins stands = begin_steps old new s stands id reply (begins_flush old.memory.trees id) refl none begins
 gives_step old new (OfFlushFinish job) reply s bare none finishes stands =
     finish_steps old new s stands job reply (is_flushing old.memory.trees job) refl (takes_effect old job) refl none finishes
+gives_step old new (OfMergeBegin kind id) reply s bare none begins stands = merge_begin_steps old s stands new kind id reply (begins_merge_in old kind id) refl none begins
+gives_step old new (OfMergeFinish job) reply s bare none finishes stands =
+    finish_merge_steps old s stands new job reply (is_merging old.memory.trees job) refl (is_living (store_in old) job.keyspace_id) refl none bare finishes
 gives_step old new OfMaintenance reply s bare none (told, becomes) stands = subst (λ r. Answered new s OfMaintenance r) (sym told) (maintenance_steps old new s stands none becomes)
 gives_step old new (OfRead view id query) reply s bare none (told, looks) stands = read_steps old new s view id query reply (tables_of old id) refl bare none told looks stands
 gives_step old new (OfTickets call) reply s bare none (turns, is) stands = tickets_step old new s stands is call reply none turns
@@ -459,8 +477,8 @@ gives_step old new (OfPersist mode) reply s bare none (told, hands) stands =
     (record s { parts = written_out s.parts 0 }, handed_stands old new s hands stands, (same_due old s (OfPersist mode) stands ∙ none, (told, refl)))
 gives_step old new (OfCount count) reply s bare none (told, same) stands = (s, still old new s same stands, (same_due old s (OfCount count) stands ∙ none, (same_counts old s count reply told stands, refl)))
 
--- each call is a step, but a read of a keyspace that has tables
-pub owes_step : (old new : Held) (shape : Shape) (reply : Reply) (s : State) → (ReadsTables old.memory.trees shape → ⊥) → Owes old shape reply new → StandsFor old s → Steps new s shape reply
+-- each call is a step, but for what rests on what tables hold
+pub owes_step : (old new : Held) (shape : Shape) (reply : Reply) (s : State) → (RestsOnTables old shape reply → ⊥) → Owes old shape reply new → StandsFor old s → Steps new s shape reply
 owes_step old new shape (Refused error) s bare owes stands =
     subst (λ first. (t : State) × StandsFor new t × Refuses first shape error s t) (sym (same_due old s shape stands)) (refusal_steps old new s shape error (held_due old shape) refl bare stands owes)
 owes_step old new shape reply s bare (none, gives) stands = gives_step old new shape reply s bare none gives stands

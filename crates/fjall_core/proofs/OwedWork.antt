@@ -1,14 +1,16 @@
--- What a worker's step or an ingestion owes is a step of the machine: of a flush that is to begin or to be finished, and of maintenance.
+-- What a worker's step or an ingestion owes is a step of the machine: of a flush or a merge that is to begin or to be finished, and of
+-- maintenance.
 use Rattle.std.proofs.Common.{◌≡◌, ◌⊎◌, inl, inr, ℕ, ◌+◌, ◌-◌, ◌^◌, ◌<◌, ◌≤◌, ◌==◌, ◌&&◌, ◌||◌, Bool, true, false, if◌then◌else◌, List, [], ◌∷◌, length, None, Some, nat_lt, nat_le, refl, sym, ◌∙◌, ap, subst, arith}
 use Rattle.std.proofs.lemmas.Bool.{true≢false}
 use Rattle.std.proofs.lemmas.Bool.Decides.{nat_tests}
+use Rattle.fjall_base.specs.declared.error.Error.{Error}
 use Rattle.fjall_journal.specs.Writer.{Journal}
 use Rattle.fjall_journal.specs.Writer as writer
 use Rattle.fjall_manager.specs.Journals.{Sealed}
 use Rattle.fjall_journal.specs.Rotations.{empty_journal}
 use Rattle.fjall_history.specs.declared.job.JobId.{JobId}
 use Rattle.fjall_history.specs.declared.reply.Reply.{Reply}
-use Rattle.fjall_history.specs.declared.reply.Reply.TheVariants.{Began, Done, Flag}
+use Rattle.fjall_history.specs.declared.reply.Reply.TheVariants.{Began, Done, Flag, Refused}
 use Rattle.fjall_tree.specs.Records.{Fields, body}
 use Rattle.fjall_history.specs.Histories.{number}
 use Rattle.fjall_jobs.specs.declared.made_table.MadeTable.{MadeTable}
@@ -23,7 +25,7 @@ use Rattle.fjall_lsm.specs.Jobs.{count_out}
 use Rattle.fjall_lsm.specs.Trees as lsm
 use Rattle.fjall_parts.specs.Parts.{Memory, clears_in, parts_of}
 use Rattle.fjall_trees.specs.Tables.{shape_in}
-use Rattle.fjall_state.specs.Shapes.{OfChange, OfCount, OfCreation, OfDeletion, OfFlushBegin, OfFlushFinish, OfHandle, OfIngestion, OfJournalRotation, OfMaintenance, OfPersist, OfRead, OfRotation, OfTickets, Shape}
+use Rattle.fjall_state.specs.Shapes.{OfChange, OfCount, OfCreation, OfDeletion, OfFlushBegin, OfFlushFinish, OfHandle, OfIngestion, OfJournalRotation, OfMaintenance, OfMergeBegin, OfMergeFinish, OfPersist, OfRead, OfRotation, OfTickets, Shape}
 use Rattle.fjall_state.specs.Machine.{BeginsFlush, EvictsSome, FinishesFlush, Flushed, IngestionFails, Ingests, IngestsInto, IsPoisoned, LacksRoom, MayIngest, Parts, State, WorkFails, begins_flush, is_flushing, is_living, present, written_out}
 use Rattle.fjall_state.specs.Machine as machine
 use Rattle.fjall_state.specs.Remembered.{Remembered, facts_of}
@@ -36,8 +38,9 @@ use Rattle.fjall_state.proofs.Sizes.{beginning_agrees, out_agrees}
 use Rattle.fjall_state.proofs.Standing as law
 use Rattle.fjall_writes.specs.Ingestions.{KeyOp}
 use Rattle.fjall_core.specs.Holding.{Held}
-use Rattle.fjall_core.specs.Standing.{Becomes, BeginsAt, EvictsInMemory, FinishesLate, FlushedInMemory, HasNoRoom, IngestedInMemory, IngestionPoisons, IsDueToFinish, OwesBegin, OwesFinish, OwesIngestion, Poisons, StandsFor, UsesUp, WorkPoisons, are_jobs_used_up, are_journals_used_up, evicted_in_memory, held_due, is_long, journal_synced, next_name, store_in, takes_effect}
-use Rattle.fjall_core.proofs.OwedStates.{Answered, Steps, none_more, poisoned_stands, poisoned_state, same_due, still}
+use Rattle.fjall_core.specs.Standing.{Becomes, BeginsAt, EvictsInMemory, FinishesLate, FlushedInMemory, HasNoRoom, IngestedInMemory, IngestionPoisons, IsDueToFinish, OwesBegin, OwesFinish, OwesIngestion, Poisons, RestsOnTables, StandsFor, UsesUp, WorkPoisons, are_jobs_used_up, are_journals_used_up, evicted_in_memory, held_due, is_long, journal_synced, next_name, store_in, takes_effect}
+use Rattle.fjall_core.proofs.OwedMerges.{merge_begins_there, merge_due_there, merge_number_there}
+use Rattle.fjall_core.proofs.OwedStates.{Answered, Steps, looked_stands, none_more, poisoned_stands, poisoned_state, same_due, still}
 
 -- a number of 64 bits that isn't the last one
 not_last : (n : ℕ) → n < 2 ^ 64 → (n == 2 ^ 64 - 1) ≡ false → n < 2 ^ 64 - 1
@@ -288,26 +291,29 @@ module _ (old new : Held) (s : State) (stands : StandsFor old s) where
         )),
       )
 
-  pub work_steps : (shape : Shape) → held_due old shape ≡ None → WorkPoisons old shape new → (t : State) × StandsFor new t × WorkFails shape s t
-  work_steps (OfFlushBegin id) none (begins, free, fault) =
+  pub work_steps : (shape : Shape) (error : Error) → held_due old shape ≡ None → (RestsOnTables old shape (Refused error) → ⊥) → WorkPoisons old shape new → (t : State) × StandsFor new t × WorkFails shape s t
+  work_steps (OfFlushBegin id) error none bare (begins, free, fault) =
       let way = poisons old.memory s fault stands.remembered in
       (way.0, way.1, (beginning_agrees old.memory table s stands.remembered id ∙ begins, used_up_agrees ∙ free, way.2))
-  work_steps (OfFlushFinish job) none fails = finish_fails job fails
-  work_steps OfMaintenance none (left, evicts, fault) = let way = some_gone old.memory left s stands.remembered evicts fault in (way.1, way.3, (way.0, way.2, way.4))
-  work_steps (OfIngestion id []) none fails = absurd fails
-  work_steps (OfIngestion id (item ∷ items)) none (left, fails) =
+  work_steps (OfFlushFinish job) error none bare fails = finish_fails job fails
+  work_steps (OfMergeBegin kind id) error none bare (begins, left, looks, rose) =
+      (s, looked_stands old new s looks stands, (merge_begins_there old s stands kind id none ∙ begins, merge_number_there old s stands left, refl))
+  work_steps (OfMergeFinish job) error none bare (due, well, fails) = absurd (bare due.0)
+  work_steps OfMaintenance error none bare (left, evicts, fault) = let way = some_gone old.memory left s stands.remembered evicts fault in (way.1, way.3, (way.0, way.2, way.4))
+  work_steps (OfIngestion id []) error none bare fails = absurd fails
+  work_steps (OfIngestion id (item ∷ items)) error none bare (left, fails) =
       let way = ingestion_fails id item items none fails in
       (way.0, way.1, (journals_agree ∙ left, way.2))
-  work_steps (OfChange change how) none fails = absurd fails
-  work_steps (OfCreation name options) none fails = absurd fails
-  work_steps (OfDeletion id) none fails = absurd fails
-  work_steps (OfHandle call id) none fails = absurd fails
-  work_steps (OfRotation id) none fails = absurd fails
-  work_steps OfJournalRotation none fails = absurd fails
-  work_steps (OfRead view id query) none fails = absurd fails
-  work_steps (OfTickets call) none fails = absurd fails
-  work_steps (OfPersist mode) none fails = absurd fails
-  work_steps (OfCount count) none fails = absurd fails
+  work_steps (OfChange change how) error none bare fails = absurd fails
+  work_steps (OfCreation name options) error none bare fails = absurd fails
+  work_steps (OfDeletion id) error none bare fails = absurd fails
+  work_steps (OfHandle call id) error none bare fails = absurd fails
+  work_steps (OfRotation id) error none bare fails = absurd fails
+  work_steps OfJournalRotation error none bare fails = absurd fails
+  work_steps (OfRead view id query) error none bare fails = absurd fails
+  work_steps (OfTickets call) error none bare fails = absurd fails
+  work_steps (OfPersist mode) error none bare fails = absurd fails
+  work_steps (OfCount count) error none bare fails = absurd fails
 
 -- ---- what is wanting
 
@@ -325,6 +331,8 @@ module _ (old : Held) (s : State) (stands : StandsFor old s) where
   pub same_late : (shape : Shape) → FinishesLate old shape → machine.FinishesLate s shape
   same_late (OfFlushFinish job) (due, ill) = (is_due job due, stands.remembered.poisoned ∙ ill)
   same_late (OfFlushBegin id) late = absurd late
+  same_late (OfMergeBegin kind id) late = absurd late
+  same_late (OfMergeFinish job) (due, ill) = (merge_due_there old s stands job due, stands.remembered.poisoned ∙ ill)
   same_late OfMaintenance late = absurd late
   same_late (OfIngestion id items) late = absurd late
   same_late (OfChange change how) late = absurd late
@@ -366,27 +374,29 @@ module _ (old : Held) (s : State) (stands : StandsFor old s) where
         long = subst (λ (x : ℕ × Memory × Fields). IsTooLong x.0 (record tree { memory = x.1 }) items lacks.flushes lacks.made x.2) (λ i. (sym stands.remembered.number i, alike.memory i, sym record_is i)) lacks.long;
       }
 
-  pub same_used : (shape : Shape) → UsesUp old shape → machine.UsesUp s shape
-  same_used (OfFlushBegin id) (begins, used) = (beginning_agrees old.memory at s stands.remembered id ∙ begins, used_up_agrees old old s stands ∙ used)
-  same_used (OfFlushFinish job) (due, well, (k, lives, last)) =
+  pub same_used : (shape : Shape) (error : Error) → held_due old shape ≡ None → (RestsOnTables old shape (Refused error) → ⊥) → UsesUp old shape → machine.UsesUp s shape
+  same_used (OfFlushBegin id) error none bare (begins, used) = (beginning_agrees old.memory at s stands.remembered id ∙ begins, used_up_agrees old old s stands ∙ used)
+  same_used (OfFlushFinish job) error none bare (due, well, (k, lives, last)) =
       (is_due job due, stands.remembered.poisoned ∙ well, ap (λ (r : Fields). r.next_table_id) (known_record old.memory at s stands.remembered job.keyspace_id k lives) ∙ last)
-  same_used OfMaintenance used = absurd used
-  same_used (OfIngestion id []) used = absurd used
-  same_used (OfIngestion id (item ∷ items)) (inl used) = inl (journals_agree old old s stands ∙ used)
-  same_used (OfIngestion id (item ∷ items)) (inr (k, lives, lacks)) = inr (same_ids id k lives lacks)
-  same_used (OfChange change how) used = absurd used
-  same_used (OfCreation name options) used = absurd used
-  same_used (OfDeletion id) used = absurd used
-  same_used (OfHandle call id) used = absurd used
-  same_used (OfRotation id) used = absurd used
-  same_used OfJournalRotation used = absurd used
-  same_used (OfRead view id query) used = absurd used
-  same_used (OfTickets call) used = absurd used
-  same_used (OfPersist mode) used = absurd used
-  same_used (OfCount count) used = absurd used
+  same_used (OfMergeBegin kind id) error none bare (begins, used) = (merge_begins_there old s stands kind id none ∙ begins, stands.remembered.next_job ∙ used)
+  same_used (OfMergeFinish job) error none bare (due, well, last) = absurd (bare due.0)
+  same_used OfMaintenance error none bare used = absurd used
+  same_used (OfIngestion id []) error none bare used = absurd used
+  same_used (OfIngestion id (item ∷ items)) error none bare (inl used) = inl (journals_agree old old s stands ∙ used)
+  same_used (OfIngestion id (item ∷ items)) error none bare (inr (k, lives, lacks)) = inr (same_ids id k lives lacks)
+  same_used (OfChange change how) error none bare used = absurd used
+  same_used (OfCreation name options) error none bare used = absurd used
+  same_used (OfDeletion id) error none bare used = absurd used
+  same_used (OfHandle call id) error none bare used = absurd used
+  same_used (OfRotation id) error none bare used = absurd used
+  same_used OfJournalRotation error none bare used = absurd used
+  same_used (OfRead view id query) error none bare used = absurd used
+  same_used (OfTickets call) error none bare used = absurd used
+  same_used (OfPersist mode) error none bare used = absurd used
+  same_used (OfCount count) error none bare used = absurd used
 
-  pub same_room : (shape : Shape) → HasNoRoom old shape → machine.HasNoRoom s shape
-  same_room (OfFlushFinish job) (due, well, (k, lives, lacks)) =
+  pub same_room : (shape : Shape) (error : Error) → (RestsOnTables old shape (Refused error) → ⊥) → HasNoRoom old shape → machine.HasNoRoom s shape
+  same_room (OfFlushFinish job) error bare (due, well, (k, lives, lacks)) =
       let id = job.keyspace_id in
       let alike = same_in id s.parts.trees old.memory.trees stands.remembered.trees in
       let tree = shape_in id s.parts.trees in
@@ -397,17 +407,19 @@ module _ (old : Held) (s : State) (stands : StandsFor old s) where
         subst (λ (x : lsm.Shape × Fields). LacksRoom x.0 x.0.flush x.1)
             (λ i. (record tree { memory = alike.memory i; flush = alike.flush i }, sym record_is i)) there,
       )
-  same_room (OfFlushBegin id) room = absurd room
-  same_room OfMaintenance room = absurd room
-  same_room (OfIngestion id []) room = absurd room
-  same_room (OfIngestion id (item ∷ items)) (k, lives, lacks) = same_record_room id (item ∷ items) k lives lacks
-  same_room (OfChange change how) room = absurd room
-  same_room (OfCreation name options) room = absurd room
-  same_room (OfDeletion id) room = absurd room
-  same_room (OfHandle call id) room = absurd room
-  same_room (OfRotation id) room = absurd room
-  same_room OfJournalRotation room = absurd room
-  same_room (OfRead view id query) room = absurd room
-  same_room (OfTickets call) room = absurd room
-  same_room (OfPersist mode) room = absurd room
-  same_room (OfCount count) room = absurd room
+  same_room (OfFlushBegin id) error bare room = absurd room
+  same_room (OfMergeBegin kind id) error bare room = absurd room
+  same_room (OfMergeFinish job) error bare (due, well, last) = absurd (bare due.0)
+  same_room OfMaintenance error bare room = absurd room
+  same_room (OfIngestion id []) error bare room = absurd room
+  same_room (OfIngestion id (item ∷ items)) error bare (k, lives, lacks) = same_record_room id (item ∷ items) k lives lacks
+  same_room (OfChange change how) error bare room = absurd room
+  same_room (OfCreation name options) error bare room = absurd room
+  same_room (OfDeletion id) error bare room = absurd room
+  same_room (OfHandle call id) error bare room = absurd room
+  same_room (OfRotation id) error bare room = absurd room
+  same_room OfJournalRotation error bare room = absurd room
+  same_room (OfRead view id query) error bare room = absurd room
+  same_room (OfTickets call) error bare room = absurd room
+  same_room (OfPersist mode) error bare room = absurd room
+  same_room (OfCount count) error bare room = absurd room

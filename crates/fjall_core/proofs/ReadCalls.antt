@@ -1,30 +1,19 @@
 -- What reads serve: what stands in memory, or what the tables hold, of which more may be kept afterwards.
-use Rattle.std.proofs.Common.{◌≡◌, ◌≤◌, ◌==◌, All, inl, inr, ℕ, Bool, true, false, if◌then◌else◌, unwrap_or, List, [], ◌∷◌, Option, None, Some, Result, Ok, Err, IfOk, IfErr, OnOk, IsTrue, Vec, refl, sym, ◌∙◌, ap, subst}
-use Rattle.std.proofs.lemmas.Bool.{eqb-true, true≢false}
-use Rattle.fjall_lsm.specs.Puts.{bare_tree}
-use Rattle.std.proofs.lemmas.List.{append-nil}
-use Rattle.std.proofs.lemmas.List.Elements.{All-head, All-tail}
+use Rattle.std.proofs.Common.{◌≡◌, inl, inr, ℕ, Bool, true, false, if◌then◌else◌, List, [], ◌∷◌, Option, None, Some, Result, Ok, Err, IfOk, IfErr, OnOk, IsTrue, Vec, refl, sym, ◌∙◌, ap, subst}
+use Rattle.std.proofs.lemmas.Bool.{true≢false}
 use Rattle.std.specs.declared.alloc.Global.{Global}
-use Rattle.fjall_base.specs.Disk as disk
-use Rattle.fjall_base.specs.Disk.{IsImage, Meaning, Took, state_in}
 use Rattle.fjall_base.specs.Pairs.{Bytes, KeyRange, Pairs, lookup, page, pairs_between}
-use Rattle.fjall_base.specs.Store.{Command, Store, kept}
+use Rattle.fjall_base.specs.Store.{Command}
 use Rattle.fjall_base.specs.declared.error.Error.{Error}
 use Rattle.fjall_base.specs.declared.error.Error.TheVariants.{Io, OutOfMemory, Storage}
-use Rattle.fjall_base.proofs.Moments as Moments
 use Rattle.fjall_files.proofs.Tidying.{stays_none}
 use Rattle.fjall_table.specs.Blocks.{Entry}
 use Rattle.fjall_blocks.specs.Readers.{LooksOn, Reader, SomeTableIsWrong}
 use Rattle.fjall_commit.proofs.KeptHomes.{homes_none}
-use Rattle.fjall_commit.specs.Journaling.{IsWriting}
-use Rattle.fjall_recovery.specs.Folders.{number_of}
-use Rattle.fjall_recovery.specs.Places.{LiesInTree, contents_with}
 use Rattle.fjall_recovery.specs.Refusals.{HasRisen}
-use Rattle.fjall_trees.specs.Forests.{Forest, Planted, tree_at}
-use Rattle.fjall_trees.specs.Tables.{AreReadOn, AreSameTrees, shape_in}
+use Rattle.fjall_trees.specs.Tables.{AreReadOn, AreSameTrees}
 use Rattle.fjall_maps.specs.Maps.{pairs_in}
-use Rattle.fjall_maps.specs.Tables.{pairs_with, store_with}
-use Rattle.fjall_maps.proofs.Alike.{same_store_with}
+use Rattle.fjall_maps.specs.Tables.{pairs_with}
 use Rattle.fjall_history.specs.declared.ticket.View.{View}
 use Rattle.fjall_history.specs.declared.ticket.View.TheVariants.{At, Present}
 use Rattle.fjall_history.specs.declared.reply.Reply.{Reply}
@@ -39,14 +28,13 @@ use Rattle.fjall_state.proofs.Refusing.{read_steps}
 use Rattle.fjall_state.proofs.Standing as law
 use Rattle.fjall_core.specs.Holding.{Held}
 use Rattle.fjall_core.specs.Crashes.{is_io}
-use Rattle.fjall_core.specs.Durables.{AreKnown, Durable, MakesPresent, StaysFinished}
-use Rattle.fjall_core.specs.Standing.{DiskRead, GivesRead, IsOfKind, Looks, LooksAt, OnDisk, Owes, OwesRefusal, ReadsOn, Serves, StandsFor, StandsOn, held_due, pairs_reply, store_with_tables, tables_of, value_reply}
+use Rattle.fjall_core.specs.Durables.{Durable}
+use Rattle.fjall_core.specs.Standing.{DiskRead, GivesRead, IsOfKind, Looks, LooksAt, OnDisk, Owes, OwesRefusal, ReadsOn, Serves, StandsFor, StandsOn, held_due, pairs_reply, tables_of, value_reply}
 use Rattle.fjall_core.proofs.KeptEntries.{step_keeps}
-use Rattle.fjall_core.proofs.CrashesInRuns.{passes_still}
 use Rattle.fjall_core.proofs.DeviceFaults.{risen_blames}
-use Rattle.fjall_core.proofs.JournalWrites.{Leads, held_on, leads_on}
-use Rattle.fjall_core.proofs.KnownCores.{knows_looked}
-use Rattle.fjall_core.proofs.OwedSteps.{looked_stands}
+use Rattle.fjall_core.proofs.JournalWrites.{Leads}
+use Rattle.fjall_core.proofs.LookedDisks.{damaged_there, looked_on}
+use Rattle.fjall_core.proofs.OwedStates.{looked_stands}
 use Rattle.fjall_core.proofs.Refusals.{is_fault, never_due}
 use Rattle.fjall_core.proofs.ServedCalls.{led_by, served}
 use Rattle.fjall_core.proofs.TablesAtHome.{keeps_looked, outside_same, trees_read}
@@ -65,20 +53,11 @@ due_here : (core : Held) (view : View) (id : ℕ) (query : Query) → first_due 
 due_here core Present id query = refl
 due_here core (At ticket) id query = refl
 
--- what is so of no tables, and of those of each tree, is so of those of an id
-in_trees : (P : ℕ → List Reader → Type 0) (id : ℕ) (trees : Forest) → P id [] → All (λ k. P k.id k.shape.tables) trees → P id (shape_in id trees).tables
-in_trees P id [] none all = none
-in_trees P id (k ∷ trees) none all = by (k.id == id) (eqb-true k.id id) (All-head (λ (x : Planted). P x.id x.shape.tables) k trees all) (in_trees P id trees none (All-tail (λ (x : Planted). P x.id x.shape.tables) k trees all))
-  where
-    by : (b : Bool) → (b ≡ true → k.id ≡ id) → P k.id k.shape.tables → P id (shape_in id trees).tables → P id (unwrap_or (if b then Some k.shape else tree_at id trees) (bare_tree 0)).tables
-    by true same here rest = subst (λ n. P n k.shape.tables) (same refl) here
-    by false same here rest = rest
-
 abbrev no_commands : List Command
 no_commands = []
 
 -- nothing is tried by a read that is refused
-none_tried : (b : Bool) → (if b then no_commands else no_commands) ≡ []
+pub none_tried : (b : Bool) → (if b then no_commands else no_commands) ≡ []
 none_tried true = refl
 none_tried false = refl
 
@@ -114,7 +93,7 @@ module _ (honest : Bool) (old new : Held) (view : View) (id : ℕ) (query : Quer
   refusal_owes error None due [] is refused = subst (λ e. OwesRefusal None old (OfRead view id query) e new) (sym refused) (tt, subst (λ ts. LooksAt ts old new) (sym is) (came.bare is))
   refusal_owes (Io kind) None due (t ∷ tables) is refused = inr (inl (some_tables t tables is, looks, refused))
   refusal_owes OutOfMemory None due (t ∷ tables) is refused = (tt, subst (λ ts. LooksAt ts old new) (sym is) looks)
-  refusal_owes (Storage told) None due (t ∷ tables) is refused = (refused.0, some_tables t tables is, looks)
+  refusal_owes (Storage told) None due (t ∷ tables) is refused = (refused.0, inl (some_tables t tables is, looks))
   refusal_owes error None due (t ∷ tables) is refused = absurd refused
 
   -- ---- what it did to the disk
@@ -138,49 +117,8 @@ module _ (honest : Bool) (old new : Held) (view : View) (id : ℕ) (query : Quer
 
   -- ---- where it leads
 
-  along : (flag : Bool) (m n : Meaning) (base : Store) (pending : List Command) (a b : Store) → kept a ≡ kept b → MakesPresent flag (record { meaning = m; base = base; pending = pending }) a → MakesPresent flag (record { meaning = n; base = base; pending = pending }) b
-  along false m n base pending a b same is = is ∙ same
-  along true m n base pending a b same (inl is) = inl (is ∙ same)
-  along true m n base pending a b same (inr (front, last, all, is)) = inr (front, last, all, is ∙ same)
-
   looked_leads : IsTrue honest → (entries : ℕ → List (List Entry)) (d : Durable) → StandsOn old entries d → Leads entries new d []
-  looked_leads h entries d = leads_on entries old new d [] (λ base pending on.
-      let took = came.disk.same h in
-      let flag : new.memory.poisoned ≡ old.memory.poisoned = ap (λ (c : Held). c.memory.poisoned) came.held in
-      let here = held_on old base pending in
-      let there = held_on new base pending in
-      let shown : kept (store_with_tables entries old) ≡ kept (store_with_tables entries new) =
-      ap kept (sym (same_store_with entries old.memory.keyspaces old.memory.trees new.memory.trees came.trees))
-      ∙ ap (λ k. kept (store_with entries k new.memory.trees)) (sym (ap (λ (c : Held). c.memory.keyspaces) came.held)) in
-      let still : StandsOn new entries there = record {
-        same = refl;
-        rests = λ image is. on.rests image (subst (λ (st : disk.State). IsImage st image) took.state is);
-        finished = subst StaysFinished (sym took.state) on.finished;
-        lies = λ well.
-            let lies = on.lies (sym flag ∙ well) in
-            record {
-              journals = lies.journals;
-              records = lies.records;
-              tree = lies.tree;
-              writing = subst (λ (w : _). IsWriting (state_in new.disk) w lies.journals) (sym (ap (λ (c : Held). c.journal) came.held)) (subst (λ (st : disk.State). IsWriting st old.journal lies.journals) (sym took.state) lies.writing);
-              in_tree = subst (λ (st : disk.State). LiesInTree st lies.records lies.tree) (sym took.state) lies.in_tree;
-              told = subst (AreKnown lies.journals) (sym (ap (λ (c : Held). c.memory.journals) came.held)) lies.told;
-              last = lies.last ∙ sym (ap (λ (c : Held). c.catalog) came.held);
-              keyspaces = lies.keyspaces ∙ sym (ap (λ (c : Held). c.memory.keyspaces) came.held);
-              made = lies.made;
-              waits = lies.waits;
-              next = subst (λ (n : ℕ). number_of (contents_with lies.journals lies.tree lies.journals.later) ≤ n) (sym (ap (λ (c : Held). c.memory.next) came.held)) lies.next;
-            };
-        knows = λ well.
-            let lies = on.lies (sym flag ∙ well) in
-            knows_looked entries old new lies.journals lies.tree (ap (λ (c : Held). c.memory.records) came.held) came.trees (on.knows (sym flag ∙ well));
-        present = along new.memory.poisoned old.disk new.disk base pending (store_with_tables entries old) (store_with_tables entries new) shown (subst (λ b. MakesPresent b here (store_with_tables entries old)) (sym flag) on.present);
-      } in
-      let passes = passes_still here on.rests in (
-        there,
-        still,
-        record { leaves = Moments.stays old.disk old.disk new.disk _ passes.leaves took; safe = []; base = refl; rest = sym (append-nil pending); rests = still.rests },
-      ))
+  looked_leads h entries d = looked_on entries old new d came.held came.trees (came.disk.same h)
 
   -- ---- what it serves
 
@@ -190,11 +128,6 @@ module _ (honest : Bool) (old new : Held) (view : View) (id : ℕ) (query : Quer
 
   stands_still : (s : State) → StandsFor old s → StandsFor new s
   stands_still s stands = looked_stands old new s looks stands
-
-  -- where a table of the keyspace is wrong, it is damaged
-  damaged_there : (s : State) → ReadsOn old s → SomeTableIsWrong old.disk (tables_of old id) → is_among s.damaged id ≡ true
-  damaged_there s reads =
-      in_trees (λ n tables. SomeTableIsWrong old.disk tables → is_among s.damaged n ≡ true) id old.memory.trees (λ (at, t, has, wrong). let bad : ⊥ = cc in absurd bad) (λ i d lt. (reads.tables i d lt).damage)
 
   weaker : (A B : Type 0) (first : Option Error) (tables : List Reader) (error : Error) → (A → B) → IsReadRefusal first A tables old.disk new.disk error → IsReadRefusal first B tables old.disk new.disk error
   weaker A B (Some first) tables error to is = is
@@ -220,7 +153,7 @@ module _ (honest : Bool) (old new : Held) (view : View) (id : ℕ) (query : Quer
         stands_still s stands,
         read_steps old.memory old.catalog.next_table_id s stands.remembered view id query old.disk new.disk error
             (subst (λ first. IsReadRefusal first (is_among s.damaged id ≡ true) (tables_of old id) old.disk new.disk error) (due_here old view id query)
-            (weaker _ _ (first_due (view_refusals (facts_of old.memory 0) view id)) (tables_of old id) error (damaged_there s reads) (refused s.parts.entries (trees_read old s stands reads)))),
+            (weaker _ _ (first_due (view_refusals (facts_of old.memory 0) view id)) (tables_of old id) error (damaged_there old s id reads) (refused s.parts.entries (trees_read old s stands reads)))),
       )) (refusal_on h error due refl (tables_of old id) refl known) (stays_none old.disk new.disk took) (keeps h)
       (λ s d stands on tidy. risen_blames error old.disk new.disk (risen error due refl (tables_of old id) known) (came.disk.served h))
       (λ s d stands on. led_by new s d (OfRead view id query) (Refused error) [] (none_tried (is_io error)) (λ sync. sync) (looked_leads h s.parts.entries d on))

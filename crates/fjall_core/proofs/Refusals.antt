@@ -16,7 +16,7 @@ use Rattle.fjall_ingest.specs.Ingests.{ingestion}
 use Rattle.fjall_writes.specs.Ingestions.{KeyOp}
 use Rattle.fjall_state.proofs.Ascending.{may_ingest}
 use Rattle.fjall_state.proofs.Dues.{may_change}
-use Rattle.fjall_state.specs.Shapes.{Clone, Close, Collect, OfChange, OfCount, OfCreation, OfDeletion, OfFlushBegin, OfFlushFinish, OfHandle, OfIngestion, OfJournalRotation, OfMaintenance, OfPersist, OfRead, OfRotation, OfTickets, OneLess, OneMore, Open, Shape, TicketCall}
+use Rattle.fjall_state.specs.Shapes.{Clone, Close, Collect, OfChange, OfCount, OfCreation, OfDeletion, OfFlushBegin, OfFlushFinish, OfHandle, OfIngestion, OfJournalRotation, OfMaintenance, OfMergeBegin, OfMergeFinish, OfPersist, OfRead, OfRotation, OfTickets, OneLess, OneMore, Open, Shape, TicketCall}
 use Rattle.fjall_state.specs.Machine.{Facts, State, change_refusals, clear_refusals, creation_refusals, deletion_refusals, due, due_in, facts, first_due, handle_refusals, has_name, ingestion_refusals, is_living, items_refusals, present, rotation_refusals, ticket_refusal, view_refusals, journal_refusals}
 use Rattle.fjall_core.specs.Crashes.{IsSync, asked, attempt, is_io}
 
@@ -70,6 +70,8 @@ never_due f (OfRotation id) = no_fault_due (rotation_refusals f id) (refl, (refl
 never_due f OfJournalRotation = no_fault_due (journal_refusals f) (refl, (refl, tt))
 never_due f (OfFlushBegin id) = no_fault_due (rotation_refusals f id) (refl, (refl, (refl, tt)))
 never_due f (OfFlushFinish job) = refl
+never_due f (OfMergeBegin kind id) = no_fault_due (rotation_refusals f id) (refl, (refl, (refl, tt)))
+never_due f (OfMergeFinish job) = refl
 never_due f OfMaintenance = no_fault_due ((f.poisoned, Poisoned) ∷ []) (refl, tt)
 never_due f (OfRead Present id query) = no_fault_due (view_refusals f Present id) (refl, (refl, tt))
 never_due f (OfRead (At ticket) id query) = no_fault_due (view_refusals f (At ticket) id) (refl, (refl, (refl, tt)))
@@ -130,6 +132,8 @@ asks s (OfRotation id) = asks_nothing refl
 asks s OfJournalRotation = asks_nothing refl
 asks s (OfFlushBegin id) = asks_nothing refl
 asks s (OfFlushFinish job) = asks_nothing refl
+asks s (OfMergeBegin kind id) = asks_nothing refl
+asks s (OfMergeFinish job) = asks_nothing refl
 asks s OfMaintenance = asks_nothing refl
 asks s (OfRead view id query) = asks_nothing refl
 asks s (OfTickets call) = asks_nothing refl

@@ -2,15 +2,17 @@
 use Rattle.std.proofs.Common.{◌≡◌, ℕ, ◌+◌, ◌<◌, List, [], ◌∷◌, ◌++◌, length, take, get_or, sym, ◌∙◌, ap, subst, append_assoc, arith}
 use Rattle.std.proofs.lemmas.List.{append-nil, take_more}
 use Rattle.fjall_history.specs.declared.reply.Reply.{Reply}
+use Rattle.fjall_jobs.specs.declared.merge_job.MergeJob.{MergeJob}
 use Rattle.fjall_state.specs.declared.call.Call.{Call}
 use Rattle.fjall_state.specs.Machine.{State}
 use Rattle.fjall_state.specs.Places.{resolved, resolved_all, resolved_behind}
 use Rattle.fjall_state.specs.Shapes.{shape_of}
 use Rattle.fjall_core.specs.Durables.{Durable}
 use Rattle.fjall_core.specs.Holding.{Held}
-use Rattle.fjall_core.specs.Standing.{Owes, OwesAll, Runs, Serves}
+use Rattle.fjall_core.specs.Jobs.{KeepsMerges, KnowsMerges}
+use Rattle.fjall_core.specs.Standing.{Owes, OwesAll, ServesWhere}
 use Rattle.fjall_core.proofs.OwedSteps.{owes_push}
-use Rattle.fjall_core.proofs.RunsOverCrashes.{SoFar, one_more, runs_push}
+use Rattle.fjall_core.proofs.RunsOverCrashes.{RunsKnown, SoFar, one_more, runs_push}
 
 -- of as many calls as replies, one more of both
 pub resolved_more : (before : List Reply) (calls : List Call) (replies : List Reply) (call : Call) (reply : Reply) → length calls ≡ length replies
@@ -33,15 +35,19 @@ module _ (calls : List Call) (replies more : List Reply) (i : ℕ) (call : Call)
       (λ j. resolved_all ((take_more calls i call lt ∙ ap (λ c. take i calls ++ c ∷ []) (sym is)) j) (pushed j))
       ∙ resolved_more [] (take i calls) replies call reply count
 
-  pub call_more : (mid new : Held) (s : State) (d : Durable) → SoFar mid s d (so_far calls i replies) replies → Serves mid (shape_of (resolved replies call)) reply new → SoFar new s d (so_far calls (i + 1) more) more
-  call_more mid new s d before serves =
-      subst (λ cs. SoFar new s d cs more) (sym grows)
-      (subst (λ rs. SoFar new s d (so_far calls i replies ++ resolved replies call ∷ []) rs) (sym pushed) (one_more mid new s d (so_far calls i replies) replies (resolved replies call) reply before serves))
+  pub call_more : (jobs later : List MergeJob) (mid new : Held) (s : State) (d : Durable) → SoFar jobs mid s d (so_far calls i replies) replies → ServesWhere (λ s. KnowsMerges s jobs) mid (shape_of (resolved replies call)) reply new
+      → KeepsMerges mid jobs (shape_of (resolved replies call)) reply later → SoFar later new s d (so_far calls (i + 1) more) more
+  call_more jobs later mid new s d before serves keeps =
+      subst (λ cs. SoFar later new s d cs more) (sym grows)
+      (subst (λ rs. SoFar later new s d (so_far calls i replies ++ resolved replies call ∷ []) rs) (sym pushed)
+      (one_more jobs later mid new s d (so_far calls i replies) replies (resolved replies call) reply before serves keeps))
 
-  pub runs_more : (old mid new : Held) → Runs old (so_far calls i replies) replies mid → Serves mid (shape_of (resolved replies call)) reply new → Runs old (so_far calls (i + 1) more) more new
-  runs_more old mid new before serves =
-      subst (λ cs. Runs old cs more new) (sym grows) (subst (λ rs. Runs old (so_far calls i replies ++ resolved replies call ∷ []) rs new) (sym pushed)
-      (runs_push old mid new (so_far calls i replies) replies (resolved replies call) reply before serves))
+  pub runs_more : (jobs later : List MergeJob) (old mid new : Held) → RunsKnown jobs old (so_far calls i replies) replies mid → ServesWhere (λ s. KnowsMerges s jobs) mid (shape_of (resolved replies call)) reply new
+      → KeepsMerges mid jobs (shape_of (resolved replies call)) reply later → RunsKnown later old (so_far calls (i + 1) more) more new
+  runs_more jobs later old mid new before serves keeps =
+      subst (λ cs. RunsKnown later old cs more new) (sym grows)
+      (subst (λ rs. RunsKnown later old (so_far calls i replies ++ resolved replies call ∷ []) rs new) (sym pushed)
+      (runs_push jobs later old mid new (so_far calls i replies) replies (resolved replies call) reply before serves keeps))
 
   pub owed_more : (old mid new : Held) → OwesAll old (so_far calls i replies) replies mid → Owes mid (shape_of (resolved replies call)) reply new → OwesAll old (so_far calls (i + 1) more) more new
   owed_more old mid new before owes =

@@ -3,6 +3,7 @@ use Rattle.std.proofs.Common.{List, [], ◌∷◌, ◌++◌, refl, sym, ◌∙�
 use Rattle.fjall_base.specs.Store.{Command}
 use Rattle.fjall_base.specs.Disk.{LeavesOnly}
 use Rattle.fjall_files.specs.Tidy.{StaysTidy}
+use Rattle.fjall_jobs.specs.declared.merge_job.MergeJob.{MergeJob}
 use Rattle.fjall_state.specs.declared.call.Call.{Call}
 use Rattle.fjall_state.specs.Shapes.{shape_of}
 use Rattle.fjall_history.specs.declared.reply.Reply.{Reply}
@@ -10,12 +11,14 @@ use Rattle.fjall_state.specs.Machine.{Run, State, Step}
 use Rattle.fjall_core.specs.Holding.{Held}
 use Rattle.fjall_core.specs.Durables.{Durable, StandsAmid}
 use Rattle.fjall_core.specs.Crashes.{attempt, RunOn, SafeAt}
-use Rattle.fjall_core.specs.Standing.{ReadsOn, StandsFor, StandsOn, Serves, Runs, RunsOn, RunsSafely}
+use Rattle.fjall_core.specs.Jobs.{KeepsMerges, KnowsMerges}
+use Rattle.fjall_core.specs.Standing.{ReadsOn, StandsFor, StandsOn, ServesWhere, Runs, RunsOn, RunsSafely}
 use Rattle.fjall_core.proofs.CrashesInRuns.{run_kinds, run_passes, run_safe, run-push}
 use Rattle.fjall_core.proofs.AttemptedCommands.{run_tries}
+use Rattle.fjall_core.proofs.KeptMerges.{none_known}
 
--- a run so far: the state that the core is in now and what it stands on
-pub record SoFar (new : Held) (s : State) (d : Durable) (calls : List Call) (replies : List Reply) : Type 0 where
+-- a run so far: the state that the core is in now, which knows the merges that are kept, and what the core stands on
+pub record SoFar (jobs : List MergeJob) (new : Held) (s : State) (d : Durable) (calls : List Call) (replies : List Reply) : Type 0 where
   pub tried : List Command
   pub state : State
   pub durable : Durable
@@ -23,14 +26,16 @@ pub record SoFar (new : Held) (s : State) (d : Durable) (calls : List Call) (rep
   pub reads : ReadsOn new state
   pub on : StandsOn new state.parts.entries durable
   pub run : RunOn s d calls replies tried state durable
+  pub knows : KnowsMerges state jobs
 
-pub none_yet : (core : Held) (s : State) (d : Durable) → StandsFor core s → ReadsOn core s → StandsOn core s.parts.entries d → SoFar core s d [] []
-none_yet core s d stands reads on = record { tried = []; state = s; durable = d; stands = stands; reads = reads; on = on; run = (refl, refl, refl) }
+pub none_yet : (core : Held) (s : State) (d : Durable) → StandsFor core s → ReadsOn core s → StandsOn core s.parts.entries d → SoFar [] core s d [] []
+none_yet core s d stands reads on = record { tried = []; state = s; durable = d; stands = stands; reads = reads; on = on; run = (refl, refl, refl); knows = none_known s }
 
 -- one call more
-pub one_more : (mid new : Held) (s : State) (d : Durable) (calls : List Call) (replies : List Reply) (c : Call) (r : Reply) → SoFar mid s d calls replies → Serves mid (shape_of c) r new → SoFar new s d (calls ++ c ∷ []) (replies ++ r ∷ [])
-one_more mid new s d calls replies c r so_far serves =
-    let next = serves.goes_on so_far.state so_far.stands so_far.reads in
+pub one_more : (jobs later : List MergeJob) (mid new : Held) (s : State) (d : Durable) (calls : List Call) (replies : List Reply) (c : Call) (r : Reply) → SoFar jobs mid s d calls replies
+    → ServesWhere (λ s. KnowsMerges s jobs) mid (shape_of c) r new → KeepsMerges mid jobs (shape_of c) r later → SoFar later new s d (calls ++ c ∷ []) (replies ++ r ∷ [])
+one_more jobs later mid new s d calls replies c r so_far serves keeps =
+    let next = serves.goes_on so_far.state so_far.stands so_far.reads so_far.knows in
     let led = next.4 so_far.durable so_far.on in
     record {
       tried = so_far.tried ++ attempt so_far.state (shape_of c) r;
@@ -40,6 +45,7 @@ one_more mid new s d calls replies c r so_far serves =
       reads = next.2;
       on = led.1;
       run = run-push s so_far.state next.0 d so_far.durable led.0 calls replies so_far.tried c r so_far.run next.3 led.2;
+      knows = keeps so_far.state so_far.stands so_far.reads so_far.knows next.0 next.3;
     }
 
 -- one run behind another
@@ -60,8 +66,8 @@ run_behind s m t d n e [] more (r ∷ replies) others tried rest first run = abs
 run_behind s m t d n e (c ∷ calls) more [] others tried rest first run = absurd first
 
 -- a whole run
-pub ends : (old new : Held) (s : State) (d : Durable) (calls : List Call) (replies : List Reply) → StandsOn old s.parts.entries d → SoFar new s d calls replies → RunsOn old calls replies new s d
-ends old new s d calls replies on end =
+pub ends : (jobs : List MergeJob) (old new : Held) (s : State) (d : Durable) (calls : List Call) (replies : List Reply) → StandsOn old s.parts.entries d → SoFar jobs new s d calls replies → RunsOn old calls replies new s d
+ends jobs old new s d calls replies on end =
     let passes = run_passes s end.state d end.durable calls replies end.tried on.rests end.run in
     record {
       tried = end.tried;
@@ -80,14 +86,14 @@ ends old new s d calls replies on end =
 
 -- no call
 pub no_run : (core : Held) (s : State) (d : Durable) → StandsFor core s → ReadsOn core s → StandsOn core s.parts.entries d → RunsOn core [] [] core s d
-no_run core s d stands reads on = ends core core s d [] [] on (none_yet core s d stands reads on)
+no_run core s d stands reads on = ends [] core core s d [] [] on (none_yet core s d stands reads on)
 
 -- one run behind another is one run
 pub runs_behind : (old mid new : Held) (s : State) (d : Durable) (calls more : List Call) (replies others : List Reply) → StandsOn old s.parts.entries d → RunsOn old calls replies mid s d → RunsSafely mid more others new
     → RunsOn old (calls ++ more) (replies ++ others) new s d
 runs_behind old mid new s d calls more replies others on first safely =
     let then = safely first.state first.durable first.stands first.reads first.on in
-    ends old new s d (calls ++ more) (replies ++ others) on (record {
+    ends [] old new s d (calls ++ more) (replies ++ others) on (record {
       tried = first.tried ++ then.tried;
       state = then.state;
       durable = then.durable;
@@ -95,6 +101,7 @@ runs_behind old mid new s d calls more replies others on first safely =
       reads = then.reads;
       on = then.on;
       run = run_behind s first.state then.state d first.durable then.durable calls more replies others first.tried then.tried first.run then.run;
+      knows = none_known then.state;
     })
 
 -- ---- the same as a run of the machine, whatever it stood on
@@ -106,12 +113,21 @@ run_more s m t (c' ∷ calls) (r' ∷ replies) c r (mid, first, run) step = (mid
 run_more s m t [] (r' ∷ replies) c r run step = absurd run
 run_more s m t (c' ∷ calls) [] c r run step = absurd run
 
-pub runs_none : (core : Held) → Runs core [] [] core
-runs_none core s stands reads = (s, stands, reads, refl)
+-- a run so far, to a state that knows the merges that are kept
+abbrev pub RunsKnown : List MergeJob → Held → List Call → List Reply → Held → Type 0
+RunsKnown jobs old calls replies new = (s : State) → StandsFor old s → ReadsOn old s → (t : State) × StandsFor new t × ReadsOn new t × Run s calls replies t × KnowsMerges t jobs
+
+pub runs_none : (core : Held) → RunsKnown [] core [] [] core
+runs_none core s stands reads = (s, stands, reads, refl, none_known s)
 
 -- one call more
-pub runs_push : (old mid new : Held) (calls : List Call) (replies : List Reply) (c : Call) (r : Reply) → Runs old calls replies mid → Serves mid (shape_of c) r new → Runs old (calls ++ c ∷ []) (replies ++ r ∷ []) new
-runs_push old mid new calls replies c r runs serves s stands reads =
+pub runs_push : (jobs later : List MergeJob) (old mid new : Held) (calls : List Call) (replies : List Reply) (c : Call) (r : Reply) → RunsKnown jobs old calls replies mid
+    → ServesWhere (λ s. KnowsMerges s jobs) mid (shape_of c) r new → KeepsMerges mid jobs (shape_of c) r later → RunsKnown later old (calls ++ c ∷ []) (replies ++ r ∷ []) new
+runs_push jobs later old mid new calls replies c r runs serves keeps s stands reads =
     let so_far = runs s stands reads in
-    let next = serves.goes_on so_far.0 so_far.1 so_far.2 in
-    (next.0, next.1, next.2, run_more s so_far.0 next.0 calls replies c r so_far.3 next.3)
+    let next = serves.goes_on so_far.0 so_far.1 so_far.2 so_far.4 in
+    (next.0, next.1, next.2, run_more s so_far.0 next.0 calls replies c r so_far.3 next.3, keeps so_far.0 so_far.1 so_far.2 so_far.4 next.0 next.3)
+
+-- a whole run
+pub runs_end : (jobs : List MergeJob) (old new : Held) (calls : List Call) (replies : List Reply) → RunsKnown jobs old calls replies new → Runs old calls replies new
+runs_end jobs old new calls replies runs s stands reads = let end = runs s stands reads in (end.0, end.1, end.2, end.3)

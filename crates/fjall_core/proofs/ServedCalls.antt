@@ -1,5 +1,5 @@
 -- What came of the work of a call is what the call owes, and a crash leaves what it may.
-use Rattle.std.proofs.Common.{◌≡◌, ◌⊎◌, inl, inr, ℕ, ◌≤◌, false, List, [], ◌∷◌, IfSome, Option, None, Some, refl, sym, ◌∙◌, ap, arith, subst}
+use Rattle.std.proofs.Common.{◌≡◌, ◌⊎◌, inl, inr, ℕ, ◌≤◌, true, false, List, [], ◌∷◌, IfSome, Option, None, Some, refl, sym, ◌∙◌, ap, arith, subst}
 use Rattle.std.proofs.lemmas.Bool.{true≢false}
 use Rattle.std.proofs.lemmas.List.{append-nil}
 use Rattle.fjall_base.specs.Store.{Command, Store}
@@ -16,19 +16,18 @@ use Rattle.fjall_catalog.specs.Catalog.{listed}
 use Rattle.fjall_catalog.specs.Updates.{IsTableGone}
 use Rattle.fjall_files.specs.Tidy.{IsTidy, StaysTidy}
 use Rattle.fjall_files.proofs.Tidying.{stays_start}
-use Rattle.fjall_state.specs.Shapes.{OfChange, OfCount, OfCreation, OfDeletion, OfFlushBegin, OfFlushFinish, OfHandle, OfIngestion, OfJournalRotation, OfMaintenance, OfPersist, OfRead, OfRotation, OfTickets, OneLess, OneMore, Shape}
+use Rattle.fjall_state.specs.Shapes.{OfChange, OfCount, OfCreation, OfDeletion, OfFlushBegin, OfFlushFinish, OfHandle, OfIngestion, OfJournalRotation, OfMaintenance, OfMergeBegin, OfMergeFinish, OfPersist, OfRead, OfRotation, OfTickets, OneLess, OneMore, Shape}
 use Rattle.fjall_table.specs.Blocks.{Entry}
 use Rattle.fjall_blocks.specs.Readers.{Reader}
-use Rattle.fjall_trees.specs.Forests.{Forest}
 use Rattle.fjall_trees.proofs.Same.{same_trees}
 use Rattle.fjall_history.specs.declared.reply.Reply.{Reply}
 use Rattle.fjall_history.specs.declared.reply.Reply.TheVariants.{Refused}
-use Rattle.fjall_state.specs.Machine.{HasTables, State, ReadsTables, StepOf, TakesMemory, TooLong}
+use Rattle.fjall_state.specs.Machine.{HasTables, State, StepOf, TakesMemory, TooLong}
 use Rattle.fjall_state.specs.Remembered.{IsDueOrMemory, facts_of}
 use Rattle.fjall_core.specs.Holding.{Held}
 use Rattle.fjall_core.specs.Durables.{Durable, Passes}
 use Rattle.fjall_core.specs.Crashes.{BlamesDevice, CallLeaves, IsSync, attempt, is_io}
-use Rattle.fjall_core.specs.Standing.{DiskLooked, DiskRead, HasTable, LooksAt, OnDisk, Owes, OwesRefusal, RanOut, ReadsOn, ReplacesTable, Serves, StandsFor, StandsOn, held_due, store_in, tables_of}
+use Rattle.fjall_core.specs.Standing.{DiskLooked, DiskRead, HasTable, LooksAt, OnDisk, Owes, OwesRefusal, RanOut, ReadsOn, ReplacesTable, RestsOnTables, Serves, StandsFor, StandsOn, begins_merge_in, held_due, store_in, tables_of}
 use Rattle.fjall_core.proofs.CrashesInRuns.{passes_still}
 use Rattle.fjall_core.proofs.Refusals.{is_fault, never_due, no_attempt, no_sync}
 use Rattle.fjall_core.proofs.KeptEntries.{Finishes, HasGiven, KeepsTables, no_fault_keeps, step_keeps}
@@ -36,6 +35,7 @@ use Rattle.fjall_core.proofs.TablesAtHome.{KeepsReads, keeps_same, said_same}
 use Rattle.fjall_core.proofs.OwedSteps.{due_step, memory_step, owes_step}
 use Rattle.fjall_core.proofs.DeviceFaults.{refusal_blames}
 use Rattle.fjall_core.proofs.JournalWrites.{Leads}
+use Rattle.fjall_core.proofs.RecordedTables.{recorded_step}
 
 -- the core stands on some disk now, to which such a call leads
 abbrev pub Led : Held → State → Durable → Shape → Reply → Type 0
@@ -49,45 +49,53 @@ Blames old reply new = (s : State) (d : Durable) → StandsFor old s → StandsO
 abbrev pub LeadsFrom : Held → Shape → Reply → Held → Type 0
 LeadsFrom old shape reply new = (s : State) (d : Durable) → StandsFor old s → StandsOn old s.parts.entries d → Led new s d shape reply
 
--- a call for which it matters what tables hold: a read of some, a flush that is finished, and an ingestion of some items
-abbrev pub NeedsTables : Forest → Shape → Type 0
-NeedsTables trees (OfRead view id query) = HasTables id trees
-NeedsTables trees (OfFlushFinish job) = Unit {0}
-NeedsTables trees (OfIngestion id (item ∷ items)) = Unit {0}
-NeedsTables trees shape = ⊥
+-- A call for which it matters what tables hold: a read of some, a merge that begins, a flush or a merge that is finished, and an ingestion of
+-- some items.
+abbrev pub NeedsTables : Held → Shape → Type 0
+NeedsTables core (OfRead view id query) = HasTables id core.memory.trees
+NeedsTables core (OfFlushFinish job) = Unit {0}
+NeedsTables core (OfMergeBegin kind id) = begins_merge_in core kind id ≡ true
+NeedsTables core (OfMergeFinish job) = Unit {0}
+NeedsTables core (OfIngestion id (item ∷ items)) = Unit {0}
+NeedsTables core shape = ⊥
 
-reads_none : (trees : Forest) (shape : Shape) → (NeedsTables trees shape → ⊥) → ReadsTables trees shape → ⊥
-reads_none trees (OfRead view id query) plain = plain
-reads_none trees (OfChange change how) plain = λ reads. reads
-reads_none trees (OfIngestion id items) plain = λ reads. reads
-reads_none trees (OfCreation name options) plain = λ reads. reads
-reads_none trees (OfDeletion id) plain = λ reads. reads
-reads_none trees (OfHandle call id) plain = λ reads. reads
-reads_none trees (OfRotation id) plain = λ reads. reads
-reads_none trees OfJournalRotation plain = λ reads. reads
-reads_none trees (OfFlushBegin id) plain = λ reads. reads
-reads_none trees (OfFlushFinish job) plain = λ reads. reads
-reads_none trees OfMaintenance plain = λ reads. reads
-reads_none trees (OfTickets call) plain = λ reads. reads
-reads_none trees (OfPersist mode) plain = λ reads. reads
-reads_none trees (OfCount count) plain = λ reads. reads
+reads_none : (core : Held) (shape : Shape) (reply : Reply) → (NeedsTables core shape → ⊥) → RestsOnTables core shape reply → ⊥
+reads_none core (OfRead view id query) reply plain = plain
+reads_none core (OfMergeBegin kind id) (Refused (Storage told)) plain = plain
+reads_none core (OfMergeBegin kind id) reply plain = λ reads. reads
+reads_none core (OfMergeFinish job) reply plain = λ rests. plain tt
+reads_none core (OfChange change how) reply plain = λ reads. reads
+reads_none core (OfIngestion id items) reply plain = λ reads. reads
+reads_none core (OfCreation name options) reply plain = λ reads. reads
+reads_none core (OfDeletion id) reply plain = λ reads. reads
+reads_none core (OfHandle call id) reply plain = λ reads. reads
+reads_none core (OfRotation id) reply plain = λ reads. reads
+reads_none core OfJournalRotation reply plain = λ reads. reads
+reads_none core (OfFlushBegin id) reply plain = λ reads. reads
+reads_none core (OfFlushFinish job) reply plain = λ reads. reads
+reads_none core OfMaintenance reply plain = λ reads. reads
+reads_none core (OfTickets call) reply plain = λ reads. reads
+reads_none core (OfPersist mode) reply plain = λ reads. reads
+reads_none core (OfCount count) reply plain = λ reads. reads
 
-finishes_none : (trees : Forest) (shape : Shape) → (NeedsTables trees shape → ⊥) → Finishes shape → ⊥
-finishes_none trees (OfFlushFinish job) plain = plain
-finishes_none trees (OfRead view id query) plain = λ is. is
-finishes_none trees (OfChange change how) plain = λ is. is
-finishes_none trees (OfIngestion id []) plain = λ is. is
-finishes_none trees (OfIngestion id (item ∷ items)) plain = plain
-finishes_none trees (OfCreation name options) plain = λ is. is
-finishes_none trees (OfDeletion id) plain = λ is. is
-finishes_none trees (OfHandle call id) plain = λ is. is
-finishes_none trees (OfRotation id) plain = λ is. is
-finishes_none trees OfJournalRotation plain = λ is. is
-finishes_none trees (OfFlushBegin id) plain = λ is. is
-finishes_none trees OfMaintenance plain = λ is. is
-finishes_none trees (OfTickets call) plain = λ is. is
-finishes_none trees (OfPersist mode) plain = λ is. is
-finishes_none trees (OfCount count) plain = λ is. is
+finishes_none : (core : Held) (shape : Shape) → (NeedsTables core shape → ⊥) → Finishes shape → ⊥
+finishes_none core (OfFlushFinish job) plain = plain
+finishes_none core (OfMergeFinish job) plain = plain
+finishes_none core (OfMergeBegin kind id) plain = λ is. is
+finishes_none core (OfRead view id query) plain = λ is. is
+finishes_none core (OfChange change how) plain = λ is. is
+finishes_none core (OfIngestion id []) plain = λ is. is
+finishes_none core (OfIngestion id (item ∷ items)) plain = plain
+finishes_none core (OfCreation name options) plain = λ is. is
+finishes_none core (OfDeletion id) plain = λ is. is
+finishes_none core (OfHandle call id) plain = λ is. is
+finishes_none core (OfRotation id) plain = λ is. is
+finishes_none core OfJournalRotation plain = λ is. is
+finishes_none core (OfFlushBegin id) plain = λ is. is
+finishes_none core OfMaintenance plain = λ is. is
+finishes_none core (OfTickets call) plain = λ is. is
+finishes_none core (OfPersist mode) plain = λ is. is
+finishes_none core (OfCount count) plain = λ is. is
 
 -- a keyspace that is made has no tables yet
 given_else : (core : Held) (s t : State) → StandsFor core s → HasGiven s t → (id : ℕ) → ((s.parts.records id).next_table_id ≤ (t.parts.records id).next_table_id) ⊎ (s.parts.entries id ≡ [])
@@ -108,7 +116,7 @@ served old new shape reply leaves steps disk stays keeps device led = record {
       let kept = keeps s stands reads in (
         t,
         stepped.1,
-        record { tables = said_same new.disk s t new.memory.trees same.entries same.damaged (given_else old s t stands same.given) kept.tables; writer = kept.writer },
+        record { tables = said_same new.disk s t new.memory.trees same.entries same.damaged (given_else old s t stands same.given) kept.tables; writer = kept.writer; recorded = recorded_step old s t shape reply stands stepped.2 reads.recorded },
         stepped.2,
         λ d on.
             let way = led s d stands on in
@@ -120,10 +128,10 @@ served old new shape reply leaves steps disk stays keeps device led = record {
 }
 
 -- so it is of a call that needs no tables, by what it owes
-pub serves_by : (old new : Held) (shape : Shape) (reply : Reply) → Owes old shape reply new → (NeedsTables old.memory.trees shape → ⊥) → OnDisk old shape reply new → StaysTidy old.disk new.disk → KeepsReads old new
+pub serves_by : (old new : Held) (shape : Shape) (reply : Reply) → Owes old shape reply new → (NeedsTables old shape → ⊥) → OnDisk old shape reply new → StaysTidy old.disk new.disk → KeepsReads old new
     → Blames old reply new → LeadsFrom old shape reply new → Serves old shape reply new
 serves_by old new shape reply owes plain disk stays keeps device led =
-    served old new shape reply (λ s t. step_keeps s t shape reply (finishes_none old.memory.trees shape plain)) (λ s stands reads. owes_step old new shape reply s (reads_none old.memory.trees shape plain) owes stands) disk stays keeps device led
+    served old new shape reply (λ s t. step_keeps s t shape reply (finishes_none old shape plain)) (λ s stands reads. owes_step old new shape reply s (reads_none old shape reply plain) owes stands) disk stays keeps device led
 
 -- a way that these commands lead, of a call that tried just them and was no sync
 pub led_by : (new : Held) (s : State) (d : Durable) (shape : Shape) (reply : Reply) (tried : List Command) → attempt s shape reply ≡ tried → (IsSync s shape reply → ⊥) → Leads s.parts.entries new d tried → Led new s d shape reply
@@ -147,6 +155,8 @@ read_nothing (t ∷ tables) core = record { state = refl; steps = sym (append-ni
 
 out_untouched : (core : Held) (shape : Shape) → DiskLooked core shape core
 out_untouched core (OfHandle OneLess id) = record { state = refl; steps = sym (append-nil core.disk.steps) }
+out_untouched core (OfMergeBegin kind id) = record { state = refl; steps = sym (append-nil core.disk.steps) }
+out_untouched core (OfMergeFinish job) = refl
 out_untouched core (OfHandle OneMore id) = refl
 out_untouched core (OfRead view id query) = read_nothing (tables_of core id) core
 out_untouched core (OfChange change how) = refl
@@ -181,46 +191,57 @@ due_owes core shape error due = subst (λ first. OwesRefusal first core shape er
 pub due_serves : (core : Held) (shape : Shape) (error : Error) → held_due core shape ≡ Some error → Serves core shape (Refused error) core
 due_serves core shape error due = refusal_serves core shape error (ap is_fault (sym due) ∙ never_due (facts_of core.memory core.catalog.next_table_id) shape) (λ s stands. due_step core s shape error due stands)
 
+-- a call that memory may run out in before it looks at the disk
+abbrev pub RunsOut : Shape → Type 0
+RunsOut (OfMergeBegin kind id) = ⊥
+RunsOut shape = TakesMemory shape
+
+takes_out : (shape : Shape) → RunsOut shape → TakesMemory shape
+takes_out (OfMergeBegin kind id) runs = absurd runs
+takes_out shape runs = runs
+
 -- want of memory
-ran_out : (core : Held) (shape : Shape) → RanOut core shape core
-ran_out core (OfHandle OneLess id) = (refl, omega arith)
-ran_out core (OfHandle OneMore id) = refl
-ran_out core (OfRead view id query) = looks_same (tables_of core id) core
-ran_out core (OfChange change how) = refl
-ran_out core (OfIngestion id items) = refl
-ran_out core (OfCreation name options) = refl
-ran_out core (OfDeletion id) = refl
-ran_out core (OfRotation id) = refl
-ran_out core OfJournalRotation = refl
-ran_out core (OfFlushBegin id) = refl
-ran_out core (OfFlushFinish job) = refl
-ran_out core OfMaintenance = refl
-ran_out core (OfTickets call) = refl
-ran_out core (OfPersist mode) = refl
-ran_out core (OfCount count) = refl
+ran_out : (core : Held) (shape : Shape) → RunsOut shape → RanOut core shape core
+ran_out core (OfHandle OneLess id) runs = (refl, omega arith)
+ran_out core (OfMergeBegin kind id) runs = absurd runs
+ran_out core (OfMergeFinish job) runs = refl
+ran_out core (OfHandle OneMore id) runs = refl
+ran_out core (OfRead view id query) runs = looks_same (tables_of core id) core
+ran_out core (OfChange change how) runs = refl
+ran_out core (OfIngestion id items) runs = refl
+ran_out core (OfCreation name options) runs = refl
+ran_out core (OfDeletion id) runs = refl
+ran_out core (OfRotation id) runs = refl
+ran_out core OfJournalRotation runs = refl
+ran_out core (OfFlushBegin id) runs = refl
+ran_out core (OfFlushFinish job) runs = refl
+ran_out core OfMaintenance runs = refl
+ran_out core (OfTickets call) runs = refl
+ran_out core (OfPersist mode) runs = refl
+ran_out core (OfCount count) runs = refl
 
-pub memory_owes : (core : Held) (shape : Shape) → TakesMemory shape → held_due core shape ≡ None → Owes core shape (Refused OutOfMemory) core
-memory_owes core shape takes due = subst (λ first. OwesRefusal first core shape OutOfMemory core) (sym due) (takes, ran_out core shape)
+pub memory_owes : (core : Held) (shape : Shape) → RunsOut shape → held_due core shape ≡ None → Owes core shape (Refused OutOfMemory) core
+memory_owes core shape runs due = subst (λ first. OwesRefusal first core shape OutOfMemory core) (sym due) (takes_out shape runs, ran_out core shape runs)
 
-pub memory_serves : (core : Held) (shape : Shape) → TakesMemory shape → held_due core shape ≡ None → Serves core shape (Refused OutOfMemory) core
-memory_serves core shape takes due = refusal_serves core shape OutOfMemory refl (λ s stands. memory_step core core s shape takes due (ran_out core shape) stands)
+pub memory_serves : (core : Held) (shape : Shape) → RunsOut shape → held_due core shape ≡ None → Serves core shape (Refused OutOfMemory) core
+memory_serves core shape runs due = refusal_serves core shape OutOfMemory refl (λ s stands. memory_step core core s shape (takes_out shape runs) due (ran_out core shape runs) stands)
 
 -- an option that is too long
 pub long_owes : (core : Held) (shape : Shape) → TooLong (store_in core) shape → held_due core shape ≡ None → Owes core shape (Refused ValueTooLong) core
 long_owes core shape long due = subst (λ first. OwesRefusal first core shape ValueTooLong core) (sym due) (long, refl)
 
-pub long_serves : (core : Held) (shape : Shape) → (ReadsTables core.memory.trees shape → ⊥) → TooLong (store_in core) shape → held_due core shape ≡ None → Serves core shape (Refused ValueTooLong) core
+pub long_serves : (core : Held) (shape : Shape) → (RestsOnTables core shape (Refused ValueTooLong) → ⊥) → TooLong (store_in core) shape → held_due core shape ≡ None → Serves core shape (Refused ValueTooLong) core
 long_serves core shape bare long due = refusal_serves core shape ValueTooLong refl (λ s stands. owes_step core core shape (Refused ValueTooLong) s bare (long_owes core shape long due) stands)
 
 -- the refusal that is due, or want of memory where none is
-pub either_owes : (core : Held) (shape : Shape) (error : Error) → TakesMemory shape → IsDueOrMemory (held_due core shape) error → Owes core shape (Refused error) core
+pub either_owes : (core : Held) (shape : Shape) (error : Error) → RunsOut shape → IsDueOrMemory (held_due core shape) error → Owes core shape (Refused error) core
 either_owes core shape error takes is = by_due (held_due core shape) refl is
   where
     by_due : (first : Option Error) → held_due core shape ≡ first → IsDueOrMemory first error → Owes core shape (Refused error) core
     by_due (Some first) due same = subst (λ e. Owes core shape (Refused e) core) (sym same) (due_owes core shape first due)
     by_due None due same = subst (λ e. Owes core shape (Refused e) core) (sym same) (memory_owes core shape takes due)
 
-pub either_serves : (core : Held) (shape : Shape) (error : Error) → TakesMemory shape → IsDueOrMemory (held_due core shape) error → Serves core shape (Refused error) core
+pub either_serves : (core : Held) (shape : Shape) (error : Error) → RunsOut shape → IsDueOrMemory (held_due core shape) error → Serves core shape (Refused error) core
 either_serves core shape error takes is = by_due (held_due core shape) refl is
   where
     by_due : (first : Option Error) → held_due core shape ≡ first → IsDueOrMemory first error → Serves core shape (Refused error) core
@@ -230,7 +251,7 @@ either_serves core shape error takes is = by_due (held_due core shape) refl is
 -- ---- reads
 
 -- an answer that changes nothing, of a call that asks for no command
-pub answer_serves : (core : Held) (shape : Shape) (reply : Reply) → (NeedsTables core.memory.trees shape → ⊥) → Owes core shape reply core → OnDisk core shape reply core → BlamesDevice reply core.disk core.disk → ((s : State) → attempt s shape reply ≡ [])
+pub answer_serves : (core : Held) (shape : Shape) (reply : Reply) → (NeedsTables core shape → ⊥) → Owes core shape reply core → OnDisk core shape reply core → BlamesDevice reply core.disk core.disk → ((s : State) → attempt s shape reply ≡ [])
     → ((s : State) → IsSync s shape reply → ⊥) → Serves core shape reply core
 answer_serves core shape reply bare owes disk blames none unsynced =
     serves_by core core shape reply owes bare disk (stays_start core.disk) (keeps_same core core refl) (λ s d stands on tidy. blames)

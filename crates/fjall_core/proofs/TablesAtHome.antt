@@ -1,19 +1,21 @@
 -- A core's disk has the tables of its trees still, where the keyspaces' homes stay and trees change in memory alone.
-use Rattle.std.proofs.Common.{◌≡◌, ◌≢◌, ◌⊎◌, inl, inr, ℕ, zero, suc, ◌<◌, ◌≤◌, ◌^◌, ◌==◌, Bool, true, false, not, List, [], ◌∷◌, All, Some, slice_get, get_or, refl, sym, ◌∙◌, ap, subst, arith}
-use Rattle.std.proofs.lemmas.List.Elements.{All-cons, All-filter, All-head, All-nil, All-push, All-tail, All-weaker}
+use Rattle.std.proofs.Common.{◌≡◌, ◌≢◌, ◌⊎◌, inl, inr, ℕ, zero, suc, ◌<◌, ◌≤◌, ◌^◌, ◌==◌, Bool, true, false, not, List, [], ◌∷◌, All, AllPairs, Some, map, slice_get, get_or, refl, sym, ◌∙◌, ap, subst}
+use Rattle.std.proofs.lemmas.List.Elements.{All-cons, All-filter, All-head, All-push, All-tail, All-weaker}
 use Rattle.std.proofs.lemmas.Bool.{true≢false}
 use Rattle.fjall_base.specs.Disk as disk
 use Rattle.fjall_base.specs.Disk.{Meaning, Name, Place, state_in}
 use Rattle.fjall_files.specs.Regions.{is_under}
-use Rattle.fjall_files.specs.Names.{keyspace_folder}
+use Rattle.fjall_files.specs.Names.{keyspace_folder, table_name}
 use Rattle.fjall_journal.specs.Changes.{Change}
 use Rattle.fjall_recovery.specs.Halves.{is_of_keyspaces}
+use Rattle.fjall_table.specs.declared.table_info.TableInfo.{TableInfo}
 use Rattle.fjall_table.specs.Blocks.{Entry}
 use Rattle.fjall_table.specs.Files.{entry_at}
 use Rattle.fjall_blocks.specs.Readers.{AreRead, AreSameTables, HoldsAWrongBlock, IsTableBut, Reader, SomeTableIsWrong}
 use Rattle.fjall_blocks.proofs.Several.{same_at}
 use Rattle.fjall_home.proofs.Naming.{table_under}
-use Rattle.fjall_loading.specs.Known.{IsGiven}
+use Rattle.fjall_loading.specs.Known.{AreListed, IsGiven}
+use Rattle.fjall_loading.proofs.Listed.{listed_later, none_listed}
 use Rattle.fjall_lsm.specs.Puts.{bare_tree}
 use Rattle.fjall_lsm.specs.Trees.{sealed_off}
 use Rattle.fjall_trees.specs.Forests.{Forest, Planted, altered_at, without}
@@ -32,9 +34,9 @@ abbrev pub HaveFiles : Meaning → Meaning → List Reader → Type 0
 HaveFiles old new tables = All (λ t. entry_at new t.name ≡ entry_at old t.name) tables
 
 -- a keyspace's own tables are in its folder
-pub under_home : (id next : ℕ) (tables : List Reader) → All (IsGiven id next) tables → All (λ t. is_under (keyspace_folder id) t.name ≡ true) tables
-under_home id next tables named =
-    All-weaker (IsGiven id next) (λ (t : Reader). is_under (keyspace_folder id) t.name ≡ true) (λ t given. ap (is_under (keyspace_folder id)) given.3 ∙ table_under id given.0) tables named
+pub under_home : (id next : ℕ) (tables : List Reader) → AreListed id next tables → All (λ t. is_under (keyspace_folder id) t.name ≡ true) tables
+under_home id next tables listed =
+    All-weaker (IsGiven id next) (λ (t : Reader). is_under (keyspace_folder id) t.name ≡ true) (λ t given. ap (is_under (keyspace_folder id)) given.2 ∙ table_under id t.info.id) tables listed.given
 
 -- so they are where the keyspace's home is
 pub kept_files : (old new : Meaning) (id : ℕ) (tables : List Reader) → KeepsHome old new id → All (λ t. is_under (keyspace_folder id) t.name ≡ true) tables → HaveFiles old new tables
@@ -81,7 +83,7 @@ pub no_tables : (disk : Meaning) (id next : ℕ) (entries : List (List Entry)) (
 no_tables disk id next entries is_damaged some none = record {
   positive = some;
   read = subst (AreRead disk []) (sym none) tt;
-  named = All-nil (IsGiven id next);
+  named = none_listed id next;
   damage = λ (at, t, has, wrong). let bad : ⊥ = cc in absurd bad;
 }
 
@@ -103,12 +105,9 @@ homes_stay old new s trees homes lie = λ i d lt.
 pub all_stay : (old new : Meaning) (trees : Forest) → KeepsHomes old new → HomesStay old new trees
 all_stay old new trees homes = λ i d lt. homes (get_or trees i d).id
 
--- tables whose ids were given out before
-pub given_on : (id old new : ℕ) (tables : List Reader) → old ≤ new → All (IsGiven id old) tables → All (IsGiven id new) tables
-given_on id old new tables le named = All-weaker (IsGiven id old) (IsGiven id new) (λ t given. (given.0, (let lt = given.1 in omega (arith, le, lt)), given.2, given.3)) tables named
-
-none_given : (disk : Meaning) (id next : ℕ) (tables : List Reader) (entries : List (List Entry)) → AreRead disk tables entries → entries ≡ [] → All (IsGiven id next) tables
-none_given disk id next [] entries are none = All-nil (IsGiven id next)
+-- tables that read no entries are none
+none_given : (disk : Meaning) (id next : ℕ) (tables : List Reader) (entries : List (List Entry)) → AreRead disk tables entries → entries ≡ [] → AreListed id next tables
+none_given disk id next [] entries are none = none_listed id next
 none_given disk id next (t ∷ tables) [] are none = absurd are
 none_given disk id next (t ∷ tables) (es ∷ entries) are none = absurd cc
 
@@ -123,7 +122,7 @@ said_same disk s t trees entries damaged given lie = λ i d lt.
       positive = was.positive;
       read = read;
       named = elim (given k.id) [
-        | inl le ↦ given_on k.id (s.parts.records k.id).next_table_id (t.parts.records k.id).next_table_id k.shape.tables le was.named
+        | inl le ↦ listed_later k.id (s.parts.records k.id).next_table_id k.shape.tables was.named (t.parts.records k.id).next_table_id le
         | inr none ↦ none_given disk k.id (t.parts.records k.id).next_table_id k.shape.tables (s.parts.entries k.id) was.read none
       ];
       damage = λ wrong. ap (λ (l : List ℕ). is_among l k.id) damaged ∙ was.damage wrong;
@@ -183,6 +182,7 @@ pub keeps_homes : (old new : Held) → CarryTables old.memory.trees new.memory.t
 keeps_homes old new carry homes outside s stands reads = record {
   tables = homes_stay old.disk new.disk s new.memory.trees (homes s stands reads) (carry old.disk s reads.tables);
   writer = outside reads.writer;
+  recorded = reads.recorded;
 }
 
 -- the disk stays as it is
@@ -190,6 +190,7 @@ pub keeps_disk : (old new : Held) → new.disk ≡ old.disk → CarryTables old.
 keeps_disk old new same carry outside s stands reads = record {
   tables = subst (λ (m : Meaning). LieThere m s new.memory.trees) (sym same) (carry old.disk s reads.tables);
   writer = outside reads.writer;
+  recorded = reads.recorded;
 }
 
 -- a core that was poisoned, or whose writer goes on in the same file
@@ -208,16 +209,29 @@ others_there id old new s trees others lie fits differ = λ i d lt. others (get_
 -- what stays of a keyspace's tables, whatever is kept of them
 record StaysSaid (old new : Meaning) (s : State) (id : ℕ) (tables : List Reader) : Type 0 where
   positive : 0 < id
-  named : All (IsGiven id (s.parts.records id).next_table_id) tables
+  named : AreListed id (s.parts.records id).next_table_id tables
   damage : SomeTableIsWrong new tables → is_among s.damaged id ≡ true
 
-named_same : (id next : ℕ) (old new : List Reader) → AreSameTables old new → All (IsGiven id next) old → All (IsGiven id next) new
-named_same id next [] [] same named = named
-named_same id next [] (u ∷ new) same named = absurd same
-named_same id next (t ∷ old) [] same named = absurd same
-named_same id next (t ∷ old) (u ∷ new) same named =
-    let first = All-head (IsGiven id next) t old named in
-    All-cons (IsGiven id next) u new (first.0, first.1, first.2, same.0.name ∙ first.3) (named_same id next old new same.1 (All-tail (IsGiven id next) t old named))
+given_same : (id next : ℕ) (old new : List Reader) → AreSameTables old new → All (IsGiven id next) old → All (IsGiven id next) new
+given_same id next [] [] same given = given
+given_same id next [] (u ∷ new) same given = absurd same
+given_same id next (t ∷ old) [] same given = absurd same
+given_same id next (t ∷ old) (u ∷ new) same given =
+    All-cons (IsGiven id next) u new
+    (subst (λ (x : Name × TableInfo). (x.1.id < next) × (x.1.id < 2 ^ 64) × (x.0 ≡ table_name id x.1.id)) (λ i. (sym same.0.name i, sym same.0.info i))
+    (All-head (IsGiven id next) t old given)) (given_same id next old new same.1 (All-tail (IsGiven id next) t old given))
+
+ids_same : (old new : List Reader) → AreSameTables old new → map (λ t. t.info.id) new ≡ map (λ t. t.info.id) old
+ids_same [] [] same = refl
+ids_same [] (u ∷ new) same = absurd same
+ids_same (t ∷ old) [] same = absurd same
+ids_same (t ∷ old) (u ∷ new) same = λ i. (same.0.info i).id ∷ ids_same old new same.1 i
+
+named_same : (id next : ℕ) (old new : List Reader) → AreSameTables old new → AreListed id next old → AreListed id next new
+named_same id next old new same named = record {
+  given = given_same id next old new same named.given;
+  once = subst (AllPairs (λ (a b : ℕ). a ≢ b)) (sym (ids_same old new same)) named.once;
+}
 
 wrong_before : (disk : Meaning) (old new : List Reader) → AreSameTables old new → SomeTableIsWrong disk new → SomeTableIsWrong disk old
 wrong_before disk old new same (at, u, has, wrong) =
@@ -227,16 +241,20 @@ wrong_before disk old new same (at, u, has, wrong) =
 said_again : (old new : Meaning) (s : State) (id : ℕ) (a b : List Reader) → AreSameTables a b → StaysSaid old new s id a → StaysSaid old new s id b
 said_again old new s id a b same said = record { positive = said.positive; named = named_same id (s.parts.records id).next_table_id a b same said.named; damage = λ wrong. said.damage (wrong_before new a b same wrong) }
 
--- the same tables, of which others may be kept, on a disk that was looked at
+-- the same tables, of which others may be kept, lie on a disk that was looked at
+pub looked_lie : (old new : Meaning) (s : State) (a b : Forest) → AreSameTrees a b → AreReadOn new b s.parts.entries → KeepsHomes old new → LieThere old s a → LieThere new s b
+looked_lie old new s a b same are homes lie =
+    let first : All (λ k. StaysSaid old new s k.id k.shape.tables) a = λ i d lt.
+    let k = get_or a i d in
+    let still = home_stays old new k.id (s.parts.records k.id).next_table_id (s.parts.entries k.id) (is_among s.damaged k.id) k.shape.tables (homes k.id) (lie i d lt) in
+    record { positive = still.positive; named = still.named; damage = still.damage } in
+    let all = all_same (StaysSaid old new s) (said_again old new s) a b same first in
+    λ i d lt. record { positive = (all i d lt).positive; read = (are i d lt).tables; named = (all i d lt).named; damage = (all i d lt).damage }
+
 pub keeps_looked : (old new : Held) → AreSameTrees old.memory.trees new.memory.trees
     → ((s : State) → StandsFor old s → ReadsOn old s → AreReadOn new.disk new.memory.trees s.parts.entries) → KeepsHomes old.disk new.disk → (IsOutside old → IsOutside new) → KeepsReads old new
-keeps_looked old new same are homes outside s stands reads =
-    let first : All (λ k. StaysSaid old.disk new.disk s k.id k.shape.tables) old.memory.trees = λ i d lt.
-    let k = get_or old.memory.trees i d in
-    let lie = home_stays old.disk new.disk k.id (s.parts.records k.id).next_table_id (s.parts.entries k.id) (is_among s.damaged k.id) k.shape.tables (homes k.id) (reads.tables i d lt) in
-    record { positive = lie.positive; named = lie.named; damage = lie.damage } in
-    let all = all_same (StaysSaid old.disk new.disk s) (said_again old.disk new.disk s) old.memory.trees new.memory.trees same first in
-    record {
-      tables = λ i d lt. record { positive = (all i d lt).positive; read = (are s stands reads i d lt).tables; named = (all i d lt).named; damage = (all i d lt).damage };
-      writer = outside reads.writer;
-    }
+keeps_looked old new same are homes outside s stands reads = record {
+  tables = looked_lie old.disk new.disk s old.memory.trees new.memory.trees same (are s stands reads) homes reads.tables;
+  writer = outside reads.writer;
+  recorded = reads.recorded;
+}

@@ -1,5 +1,6 @@
 -- What the parts of calls make of a core and of its disk.
-use Rattle.std.specs.Prelude.{◌≡◌, ◌⊎◌, ℕ, ◌^◌, ◌<◌, ◌+◌, ◌≤◌, Bool, true, false, if◌then◌else◌, List, [], ◌∷◌, ◌++◌, codes, length, Option, is_none, Result, Ok, Err}
+use Rattle.std.specs.Prelude.{All, ◌≡◌, ◌≢◌, ◌⊎◌, ℕ, ◌^◌, ◌<◌, ◌+◌, ◌≤◌, Bool, true, false, if◌then◌else◌, List, [], ◌∷◌, ◌++◌, codes, length, map, Option, is_none, Result, Ok, Err, String, Vec, string_bytes}
+use Rattle.std.specs.declared.alloc.Global.{Global}
 use Rattle.fjall_base.specs.Disk.{IsNoFile, IsNoFolder, LeavesOnly, Meaning, Name, Took, state_in}
 use Rattle.fjall_base.specs.Errors.{Rose}
 use Rattle.fjall_base.specs.declared.error.Error.{Error}
@@ -16,6 +17,7 @@ use Rattle.fjall_files.specs.Names.{journal_name, keyspace_folder, table_name}
 use Rattle.fjall_flush.specs.Plans.{HaveFiles, IsPlanRefusal, KeepsTables}
 use Rattle.fjall_jobs.specs.declared.flush_job.FlushJob.{FlushJob}
 use Rattle.fjall_jobs.specs.declared.flush_made.FlushMade.{FlushMade}
+use Rattle.fjall_jobs.specs.declared.merge_made.MergeMade.{MergeMade}
 use Rattle.fjall_jobs.specs.Flushes.{flush_task}
 use Rattle.fjall_journal.specs.declared.persist_mode.PersistMode.TheVariants.{SyncAll}
 use Rattle.fjall_loading.specs.Known.{last_known}
@@ -35,8 +37,11 @@ use Rattle.fjall_commit.specs.declared.creation.Creation.{Creation}
 use Rattle.fjall_commit.specs.Changes.{IsCreation}
 use Rattle.fjall_commit.specs.Removals.{IsUnused, RemovesOwn}
 use Rattle.fjall_state.specs.Evicting.{going_in}
+use Rattle.fjall_home.specs.Changes.{AreGone}
+use Rattle.fjall_merge.specs.Plans as merging
 use Rattle.fjall_state.specs.Finishing.{ForFinishing, ForFlush, IsFinished, keyspace_of}
-use Rattle.fjall_state.specs.Remembered.{KnowsTask, Remembered, poisoned, with_change, with_sealed}
+use Rattle.fjall_state.specs.Merging as merged
+use Rattle.fjall_state.specs.Remembered.{KnowsTask, Remembered, poisoned, with_change, with_merge_done, with_sealed}
 use Rattle.fjall_state.specs.Machine.{flush_with}
 use Rattle.fjall_ingest.specs.declared.whole.PlannedIngestion.{PlannedIngestion}
 use Rattle.fjall_ingest.specs.Planned.{ForIngestion, ForIngestionOn, HasNoTableFolder, KeepsGiven}
@@ -223,6 +228,70 @@ Evicts honest old (Err error) new = ⊥
 abbrev pub Finishes : Type 0 → Held → FlushMade → Result Unit Error → Held → Type 0
 Finishes honest old made (Ok _) new = (mid : Held) × Puts honest old made (Ok tt) mid × Evicts honest mid (Ok tt) new
 Finishes honest old made (Err error) new = Puts honest old made (Err error) new ⊎ ((mid : Held) × Puts honest old made (Ok tt) mid × Evicts honest mid (Err error) new)
+
+-- ---- merges
+
+-- What the writing of a merge did to the disk: nothing outside the keyspace's folder; a crash leaves the tree before or the one after;
+-- where it was done the one after lies there. The keyspace's tables, but for the new ones, stand in sight as they did, and where it was done
+-- the files of the new ones have their bytes, and their ids have their place. No call was one that no disk can serve, where no folder has
+-- the name of a table.
+pub record WroteMerge (m : Remembered) (made : MergeMade) (old new : Meaning) (done : Bool) : Type 0 where
+  pub within : Within (keyspace_folder (merged.keyspace_of made)) old new
+  pub leaves : merged.ForMerging old m made (λ id records t h does next. LeavesOnly old new (λ image. HasTree image t ⊎ HasTree image next))
+  pub lies : done ≡ true → merged.ForMerging old m made (λ id records t h does next. LiesInTree (state_in new) records next)
+  pub beside : merged.ForMerge m (merged.keyspace_of made)
+      (λ k out. merging.KeepsTables (merged.keyspace_of made) (last_known m.records k).next_table_id (length made.tables.items) old new)
+  pub fits : done ≡ true → merged.ForMerge m (merged.keyspace_of made) (λ k out. (last_known m.records k).next_table_id + length made.tables.items < 2 ^ 64)
+  pub files : done ≡ true → merged.ForMerge m (merged.keyspace_of made)
+      (λ k out. HaveFiles new (merged.keyspace_of made) (last_known m.records k).next_table_id made.tables.items)
+  pub served : merged.ForMerging old m made (λ id records t h does next. merging.HasNoTableFolder old id → AllServed old new)
+  pub kinds : StaysTidy old new
+
+-- the merge of that keyspace, which was out, is finished in memory
+abbrev pub MergedAsMade : Remembered → MergeMade → Remembered → Type 0
+MergedAsMade old made new =
+    merged.ForMerge old (merged.keyspace_of made)
+    (λ k out. merged.IsMergeFinished old (merged.keyspace_of made) (last_known old.records k) out (merged.counted_as out made) new)
+
+-- The merge is finished, on the disk and in memory, and these are the names of the tables that it took; or a fault of the disk has poisoned
+-- the core; or nothing changed, for want of memory, of room in the record, or of ids for the tables.
+abbrev pub PutsMerge : Type 0 → Held → MergeMade → Result (Vec (String Global) Global) Error → Held → Type 0
+PutsMerge honest old made (Ok taken) new =
+    MergedAsMade old.memory made new.memory × Becomes old new.memory new
+    × merged.ForMerge old.memory (merged.keyspace_of made) (λ k out. merged.AreTaken (merged.keyspace_of made) (last_known old.memory.records k) out taken.items)
+    × (honest → WroteMerge old.memory made old.disk new.disk true)
+PutsMerge honest old made (Err (Io kind)) new = Poisons old.memory old new × (honest → WroteMerge old.memory made old.disk new.disk false)
+PutsMerge honest old made (Err error) new =
+    (new ≡ old) × merged.ForMerge old.memory (merged.keyspace_of made) (λ k out. merging.IsPlanRefusal (last_known old.memory.records k) (merged.counted_as out made) error)
+
+-- What the removal of the tables that a merge took did to the disk: nothing outside the keyspace's folder, and in sight nothing but those
+-- names changed; a crash leaves the tree that lies there, of whose record they are none, and it lies there still; where it was done they
+-- are gone.
+pub record TookAway (taken : List (String Global)) (old new : Meaning) (done : Bool) : Type 0 where
+  pub within : (id : ℕ) (ids : List ℕ) → map string_bytes taken ≡ map (table_name id) ids → Within (keyspace_folder id) old new
+  pub leaves : merging.ForTakenOn old taken (λ records t. LeavesOnly old new (λ image. HasTree image t))
+  pub lies : merging.ForTakenOn old taken (λ records t. LiesInTree (state_in new) records t)
+  pub served : merging.ForTaken taken (λ id last m. merging.HasNoTableFolder old id → AllServed old new)
+  pub beside : (q : Name) → All (λ name. q ≢ string_bytes name) taken → (state_in new q).now ≡ (state_in old q).now
+  pub gone : done ≡ true → (id : ℕ) (ids : List ℕ) → map string_bytes taken ≡ map (table_name id) ids → AreGone (state_in new) id ids
+  pub kinds : StaysTidy old new
+
+-- the tables that a merge took are gone; or a fault of the disk has poisoned the core
+abbrev pub TakesAway : Type 0 → Held → List (String Global) → Result Unit Error → Held → Type 0
+TakesAway honest old taken (Ok _) new = (new ≡ record old { disk = new.disk }) × (old.disk.faults ≤ new.disk.faults) × (honest → TookAway taken old.disk new.disk true)
+TakesAway honest old taken (Err (Io kind)) new =
+    (new ≡ record old { disk = new.disk; memory = poisoned old.memory }) × Rose old.disk.faults new.disk.faults × (honest → TookAway taken old.disk new.disk false)
+    × (old.disk.faults ≤ new.disk.faults)
+TakesAway honest old taken (Err error) new = ⊥
+
+-- a merge that isn't stale is finished and counted, and the tables that it took are gone; or one of the two failed
+abbrev pub Merges : Type 0 → Held → MergeMade → Result Unit Error → Held → Type 0
+Merges honest old made (Ok _) new =
+    (taken : Vec (String Global) Global) × (mid after : Held) × PutsMerge honest old made (Ok taken) mid × TakesAway honest mid taken.items (Ok tt) after
+    × (new ≡ record after { memory = with_merge_done after.memory })
+Merges honest old made (Err error) new =
+    PutsMerge honest old made (Err error) new
+    ⊎ ((taken : Vec (String Global) Global) × (mid : Held) × PutsMerge honest old made (Ok taken) mid × TakesAway honest mid taken.items (Err error) new)
 
 -- ---- ingestions
 

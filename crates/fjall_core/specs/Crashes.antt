@@ -16,7 +16,7 @@ use Rattle.fjall_recovery.specs.Folders.{StandsFor}
 use Rattle.fjall_journal.specs.Changes.{Emptied, Items, command_of}
 use Rattle.fjall_ingest.specs.Ingests.{ingestion}
 use Rattle.fjall_history.specs.Histories.{Accepted, commands_of, extended}
-use Rattle.fjall_state.specs.Shapes.{OfChange, OfCount, OfCreation, OfDeletion, OfFlushBegin, OfFlushFinish, OfHandle, OfIngestion, OfJournalRotation, OfMaintenance, OfPersist, OfRead, OfRotation, OfTickets, Shape, shape_of}
+use Rattle.fjall_state.specs.Shapes.{OfChange, OfCount, OfCreation, OfDeletion, OfFlushBegin, OfFlushFinish, OfHandle, OfIngestion, OfJournalRotation, OfMaintenance, OfMergeBegin, OfMergeFinish, OfPersist, OfRead, OfRotation, OfTickets, Shape, shape_of}
 use Rattle.fjall_state.specs.Machine.{State, Step, begins_flush, has_name, is_living, mode_in, present}
 use Rattle.fjall_core.specs.Durables.{Durable, IsBeginning, StandsAmid, Passes}
 
@@ -34,6 +34,8 @@ asked s (OfRotation id) = []
 asked s OfJournalRotation = []
 asked s (OfFlushBegin id) = []
 asked s (OfFlushFinish job) = []
+asked s (OfMergeBegin kind id) = []
+asked s (OfMergeFinish job) = []
 asked s OfMaintenance = []
 asked s (OfRead view id query) = []
 asked s (OfTickets call) = []
@@ -76,6 +78,8 @@ Syncs s (OfRotation id) = ⊥
 Syncs s OfJournalRotation = Unit {0}
 Syncs s (OfFlushBegin id) = begins_flush s.parts.trees id ≡ true
 Syncs s (OfFlushFinish job) = ⊥
+Syncs s (OfMergeBegin kind id) = ⊥
+Syncs s (OfMergeFinish job) = ⊥
 Syncs s OfMaintenance = ⊥
 Syncs s (OfRead view id query) = ⊥
 Syncs s (OfTickets call) = ⊥

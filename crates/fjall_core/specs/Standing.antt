@@ -1,5 +1,5 @@
 -- What a core stands for, and what its calls owe.
-use Rattle.std.specs.Prelude.{All, Bool, ◌==◌, ◌||◌, ◌^◌, ◌-◌, count_by, map, nat_lt, ◌≡◌, ◌⊎◌, ℕ, ◌+◌, ◌<◌, ◌≤◌, ◌&&◌, true, false, nat_le, not, if◌then◌else◌, List, [], ◌∷◌, ◌++◌, length, codes, IfSome, MatchBool, MatchOption, Option, Some, None, is_none, Result, Ok, Err, OnOk, IsPermutation, IsSorted, Vec}
+use Rattle.std.specs.Prelude.{All, Bool, ◌==◌, ◌||◌, ◌^◌, ◌-◌, count_by, map, nat_lt, ◌≡◌, ◌⊎◌, ℕ, ◌+◌, ◌<◌, ◌≤◌, ◌&&◌, true, false, nat_le, not, if◌then◌else◌, List, [], ◌∷◌, ◌++◌, length, codes, IfSome, MatchBool, MatchOption, Option, Some, None, is_none, take, Result, Ok, Err, OnOk, IsPermutation, IsSorted, Vec}
 use Rattle.std.specs.FinMap.{len, values}
 use Rattle.std.specs.declared.alloc.Global.{Global}
 use Rattle.fjall_base.specs.Pairs.{Bytes, byte_order}
@@ -25,12 +25,19 @@ use Rattle.fjall_tree.specs.Records.{Fields}
 use Rattle.fjall_jobs.specs.declared.flush_job.FlushJob.{FlushJob}
 use Rattle.fjall_jobs.specs.declared.flush_made.FlushMade.{FlushMade}
 use Rattle.fjall_jobs.specs.declared.made_table.MadeTable.{MadeTable}
+use Rattle.fjall_jobs.specs.declared.merge_job.MergeJob.{MergeJob}
+use Rattle.fjall_jobs.specs.declared.merge_made.MergeMade.{MergeMade}
 use Rattle.fjall_jobs.specs.Flushes.{flush_task}
+use Rattle.fjall_jobs.specs.Merges.{merge_task}
 use Rattle.fjall_jobs.specs.Tasks.{IsFlushed, Task}
 use Rattle.fjall_lsm.specs.Jobs.{IsFlushing, count_out}
-use Rattle.fjall_lsm.specs.Trees.{is_l0}
+use Rattle.fjall_lsm.specs.Trees.{Merging, is_l0}
 use Rattle.fjall_flush.specs.Flushes.{infos_from, record_after}
-use Rattle.fjall_loading.specs.Known.{IsGiven, last_known}
+use Rattle.fjall_home.specs.Changes.{AreGone}
+use Rattle.fjall_merge.specs.Merges.{Merge}
+use Rattle.fjall_merge.specs.Merges as merges
+use Rattle.fjall_merge.specs.Finishing as merging
+use Rattle.fjall_loading.specs.Known.{AreListed, last_known}
 use Rattle.fjall_meta.specs.declared.living.LivingKeyspace.{LivingKeyspace}
 use Rattle.fjall_meta.specs.Keyspaces.{id_of, keyspace_at}
 use Rattle.fjall_catalog.specs.declared.catalog.Catalog.{Catalog}
@@ -53,9 +60,10 @@ use Rattle.fjall_history.specs.declared.reply.Reply.TheVariants.{Began, Done, Id
 use Rattle.fjall_history.specs.declared.ticket.View.{View}
 use Rattle.fjall_history.specs.Queries.{Get, Page, Query, Tells}
 use Rattle.fjall_state.specs.declared.call.Call.{Call}
-use Rattle.fjall_state.specs.Shapes.{Count, DiskSpace, Exists, Flushes, JournalSpace, Keyspaces, Next, OfChange, OfCount, OfCreation, OfDeletion, OfFlushBegin, OfFlushFinish, OfHandle, OfIngestion, OfJournalRotation, OfMaintenance, OfPersist, OfRead, OfRotation, OfTickets, OneLess, OneMore, OpenTickets, Persistence, Entries, SealedMemtables, Shape, Tables, TablesL0, ToFlush, Visible, WriteBuffer, shape_of}
+use Rattle.fjall_state.specs.declared.merges.MergeKind.{MergeKind}
+use Rattle.fjall_state.specs.Shapes.{Count, DiskSpace, Exists, Flushes, JournalSpace, Keyspaces, Next, OfChange, OfCount, OfCreation, OfDeletion, OfFlushBegin, OfFlushFinish, OfHandle, OfIngestion, OfJournalRotation, OfMergeBegin, OfMergeFinish, MergesDone, MergesOut, OfMaintenance, OfPersist, OfRead, OfRotation, OfTickets, OneLess, OneMore, OpenTickets, Persistence, Entries, SealedMemtables, Shape, Tables, TablesL0, ToFlush, Visible, WriteBuffer, shape_of}
 use Rattle.fjall_state.specs.Shapes as shapes
-use Rattle.fjall_state.specs.Machine.{State, StepOf, Run, TakesMemory, ChangesDisk, LacksRoom, ReadsTables, TooLong, TurnsTickets, begins_flush, present, due_in, buffer_size, flush_count, flush_with, has_name, is_among, is_flushing, is_living, mode_in, rotates, table_space, tables_space, version_count, wants_rotation}
+use Rattle.fjall_state.specs.Machine.{Parts, State, StepOf, Run, TakesMemory, ChangesDisk, LacksRoom, ReadsTables, TooLong, TurnsTickets, begins_flush, present, due_in, buffer_size, flush_count, LacksMergeIds, LacksMergeRoom, begins_merge, flush_with, has_name, is_among, is_flushing, is_living, is_merging, merge_count, mode_in, rotates, table_space, tables_space, version_count, wants_rotation}
 use Rattle.fjall_state.specs.Remembered.{IsLawful, Remembered, facts_of, flushed_by, instant_in, is_last, with_change, with_creation, with_deletion, with_tickets, with_trees, retained, released, rotated, poisoned}
 use Rattle.fjall_state.specs.Remembered as memory
 use Rattle.fjall_state.specs.Evicting.{going_in}
@@ -94,18 +102,23 @@ pub record StandsOn (core : Held) (entries : ℕ → List (List Entry)) (d : Dur
 -- ---- what it reads
 
 -- On this disk the tables of a keyspace, whose id is never 0, have these entries, but for wrong blocks, which a damaged keyspace alone
--- may have. Each is one of the keyspace's own, of an id below the next one.
+-- may have. Each is one of the keyspace's own, of an id below the next one, and no two have the same.
 pub record LieAtHome (disk : Meaning) (id next : ℕ) (entries : List (List Entry)) (is_damaged : Bool) (tables : List Reader) : Type 0 where
   pub positive : 0 < id
   pub read : AreRead disk tables entries
-  pub named : All (IsGiven id next) tables
+  pub named : AreListed id next tables
   pub damage : SomeTableIsWrong disk tables → is_damaged ≡ true
 
--- Its disk has the tables of all its trees, as the state says; and while no fault has poisoned it, its writer goes on in a file
--- outside of keyspaces' folders.
+-- the tables of each tree are those that the last record of its keyspace lists, in the same order
+abbrev pub AreRecorded : Parts → Type 0
+AreRecorded parts = All (λ k. map (λ t. t.info) k.shape.tables ≡ (parts.records k.id).tables) parts.trees
+
+-- Its disk has the tables of all its trees, as the state says, whose records list them; and while no fault has poisoned it, its writer
+-- goes on in a file outside of keyspaces' folders.
 pub record ReadsOn (core : Held) (s : State) : Type 0 where
   pub tables : All (λ k. LieAtHome core.disk k.id (s.parts.records k.id).next_table_id (s.parts.entries k.id) (is_among s.damaged k.id) k.shape.tables) core.memory.trees
   pub writer : core.memory.poisoned ≡ false → is_of_keyspaces core.journal.name ≡ false
+  pub recorded : AreRecorded s.parts
 
 -- ---- what calls owe, whatever the disk is
 
@@ -137,6 +150,8 @@ at_fault (OfRotation id) m = m
 at_fault OfJournalRotation m = m
 at_fault (OfFlushBegin id) m = m
 at_fault (OfFlushFinish job) m = m
+at_fault (OfMergeBegin kind id) m = m
+at_fault (OfMergeFinish job) m = m
 at_fault OfMaintenance m = m
 at_fault (OfRead view id query) m = m
 at_fault (OfTickets call) m = m
@@ -213,7 +228,11 @@ pub record RotatesJournal (old new : Held) : Type 0 where
 abbrev pub tables_of : Held → ℕ → List Reader
 tables_of core id = (shape_in id core.memory.trees).tables
 
--- Where memory ran out nothing has changed; a release, and a read of tables, has looked at the disk by then.
+-- whether a merge of a keyspace begins
+abbrev pub begins_merge_in : Held → MergeKind → ℕ → Bool
+begins_merge_in core kind id = begins_merge (store_in core) core.memory.trees kind id
+
+-- Where memory ran out nothing has changed; a release, a read of tables, and a merge that was to begin, has looked at the disk by then.
 abbrev pub RanOut : Held → Shape → Held → Type 0
 RanOut old (OfChange change how) new = new ≡ old
 RanOut old (OfIngestion id items) new = new ≡ old
@@ -225,6 +244,8 @@ RanOut old (OfRotation id) new = new ≡ old
 RanOut old OfJournalRotation new = new ≡ old
 RanOut old (OfFlushBegin id) new = new ≡ old
 RanOut old (OfFlushFinish job) new = new ≡ old
+RanOut old (OfMergeBegin kind id) new = (begins_merge_in old kind id ≡ true) × Looks old new
+RanOut old (OfMergeFinish job) new = new ≡ old
 RanOut old OfMaintenance new = new ≡ old
 RanOut old (OfRead view id query) new = LooksAt (tables_of old id) old new
 RanOut old (OfTickets call) new = new ≡ old
@@ -336,6 +357,47 @@ OwesFinish true true old job reply new =
 OwesFinish true false old job reply new = (reply ≡ Flag false) × (new ≡ record old { memory = memory.flush_gone job.keyspace_id old.memory })
 OwesFinish false takes old job reply new = (reply ≡ Flag false) × (new ≡ old)
 
+-- ---- merges
+
+-- A merge of all tables of a keyspace, and of all clears of its record, is out; of the tables more is kept in memory, perhaps.
+pub record BeginsMergeAt (old : Held) (id : ℕ) (new : Held) : Type 0 where
+  pub memory_is : new.memory ≡ with_trees new.memory.trees (memory.merge_out id old.memory)
+  pub trees : AreSameTrees (memory.merge_out id old.memory).trees new.memory.trees
+  pub catalog : new.catalog ≡ old.catalog
+  pub journal : new.journal ≡ old.journal
+  pub faults : old.disk.faults ≤ new.disk.faults
+
+-- what comes of a merge that is to begin
+abbrev pub OwesMergeBegin : Bool → Held → ℕ → Reply → Held → Type 0
+OwesMergeBegin true old id reply new =
+    (reply ≡ Began (Some (record { number = old.memory.next_job; keyspace_id = id }))) × (old.memory.next_job < 2 ^ 64 - 1) × BeginsMergeAt old id new
+OwesMergeBegin false old id reply new = (reply ≡ Began None) × (new ≡ old)
+
+-- What is in memory once a merge of a keyspace that lives is finished, which was out: readers of tables under the next ids, at level 0
+-- no more, in the place of those that it took, and the keyspace's record after it. What those tables hold a disk that lies may have made up.
+pub record MergedInMemory (old : Remembered) (id : ℕ) (new : Remembered) : Type 0 where
+  pub k : LivingKeyspace
+  pub lives : keyspace_at id old.keyspaces.living ≡ Some k
+  pub out : Merging
+  pub was : (shape_in id old.trees).merge ≡ Some out
+  pub tables : List MadeTable
+  pub clears : List ℕ
+  pub readers : List Reader
+  pub infos : map (λ t. t.info) readers ≡ merges.infos_from (last_known old.records k).next_table_id tables
+  pub is : new ≡ memory.with_merge id out readers (merges.record_after (merging.merge_out out tables clears) (last_known old.records k)) old
+
+-- What comes of a merge that is to be finished: it takes effect, and is counted; or it is stale, where it isn't out, and where its
+-- keyspace was deleted, and then it is out no more.
+abbrev pub OwesMerge : (out lives : Bool) → Held → JobId → Reply → Held → Type 0
+OwesMerge true true old job reply new =
+    (reply ≡ Flag true) × (old.memory.poisoned ≡ false) × (mid : Remembered) × MergedInMemory old.memory job.keyspace_id mid × Becomes old (memory.with_merge_done mid) new
+OwesMerge true false old job reply new = (reply ≡ Flag false) × (new ≡ record old { memory = memory.merge_gone job.keyspace_id old.memory })
+OwesMerge false lives old job reply new = (reply ≡ Flag false) × (new ≡ old)
+
+-- the merge of this job would take effect, but for a fault that has poisoned the core, or for want of something
+abbrev pub IsDueToMerge : Held → JobId → Type 0
+IsDueToMerge core job = (is_merging core.memory.trees job ≡ true) × (is_living (store_in core) job.keyspace_id ≡ true)
+
 -- the flush of this job would take effect, but for a fault that has poisoned the core, or for want of something
 abbrev pub IsDueToFinish : Held → JobId → Type 0
 IsDueToFinish core job = (is_flushing core.memory.trees job ≡ true) × (takes_effect core job ≡ true)
@@ -344,53 +406,83 @@ IsDueToFinish core job = (is_flushing core.memory.trees job ≡ true) × (takes_
 abbrev pub LastIs : Held → ℕ → (Fields → Type 0) → Type 0
 LastIs core id Holds = (k : LivingKeyspace) × (keyspace_at id core.memory.keyspaces.living ≡ Some k) × Holds (last_known core.memory.records k)
 
--- What a fault leaves of a worker's step: of a flush that begins nothing but the poison; one that is finished took effect in memory or
--- it didn't; and some journals may be gone that nobody wants.
+-- What a fault leaves of a worker's step: of a flush that begins nothing but the poison; a flush or a merge that is finished took effect
+-- in memory or it didn't; and some journals may be gone that nobody wants. One that a merge meets as it begins poisons nothing.
 abbrev pub WorkPoisons : Held → Shape → Held → Type 0
 WorkPoisons old (OfFlushBegin id) new = (begins_flush old.memory.trees id ≡ true) × (are_jobs_used_up old ≡ false) × Poisons old.memory old new
 WorkPoisons old (OfFlushFinish job) new =
     IsDueToFinish old job × (old.memory.poisoned ≡ false)
     × (Poisons old.memory old new ⊎ ((mid left : Remembered) × FlushedInMemory old.memory job.keyspace_id mid × EvictsInMemory mid left × Poisons left old new))
+WorkPoisons old (OfMergeBegin kind id) new =
+    (begins_merge_in old kind id ≡ true) × (old.memory.next_job < 2 ^ 64 - 1) × Looks old new × Rose old.disk.faults new.disk.faults
+WorkPoisons old (OfMergeFinish job) new =
+    IsDueToMerge old job × (old.memory.poisoned ≡ false)
+    × (Poisons old.memory old new ⊎ ((mid : Remembered) × MergedInMemory old.memory job.keyspace_id mid × Poisons mid old new))
 WorkPoisons old (OfIngestion id []) new = ⊥
 WorkPoisons old (OfIngestion id (item ∷ items)) new = (are_journals_used_up old ≡ false) × IngestionPoisons old id (item ∷ items) new
 WorkPoisons old OfMaintenance new = (left : Remembered) × EvictsInMemory old.memory left × Poisons left old new
 WorkPoisons old shape new = ⊥
 
+-- a merge is to be finished, and what was made of it lacks something
+abbrev pub LacksAt : Held → JobId → (Fields → Merge → Type 0) → Type 0
+LacksAt old job Lacks =
+    IsDueToMerge old job × (old.memory.poisoned ≡ false)
+    × LastIs old job.keyspace_id
+    (λ last. (out : Merging) × ((shape_in job.keyspace_id old.memory.trees).merge ≡ Some out) × (tables : List MadeTable) × (clears : List ℕ) × Lacks last (merging.merge_out out tables clears))
+
 -- a worker's step that needs a number of which none is left: a job's, a journal's, or that of a keyspace's next table
 abbrev pub UsesUp : Held → Shape → Type 0
 UsesUp old (OfFlushBegin id) = (begins_flush old.memory.trees id ≡ true) × (are_jobs_used_up old ≡ true)
 UsesUp old (OfFlushFinish job) = IsDueToFinish old job × (old.memory.poisoned ≡ false) × LastIs old job.keyspace_id (λ last. last.next_table_id ≡ 2 ^ 64 - 1)
+UsesUp old (OfMergeBegin kind id) = (begins_merge_in old kind id ≡ true) × (old.memory.next_job ≡ 2 ^ 64 - 1)
+UsesUp old (OfMergeFinish job) = LacksAt old job LacksMergeIds
 UsesUp old (OfIngestion id []) = ⊥
 UsesUp old (OfIngestion id (item ∷ items)) =
     (are_journals_used_up old ≡ true) ⊎ LastIs old id (LacksIds (shape_in id old.memory.trees) id old.memory.tickets.watermark)
 UsesUp old shape = ⊥
 
--- the record of a keyspace whose flush is to be finished has no room for its table and its clears
+-- the record of a keyspace whose flush or merge is to be finished has no room for the tables and the clears
 abbrev pub HasNoRoom : Held → Shape → Type 0
 HasNoRoom old (OfFlushFinish job) =
     let tree = shape_in job.keyspace_id old.memory.trees in
     IsDueToFinish old job × (old.memory.poisoned ≡ false) × LastIs old job.keyspace_id (LacksRoom tree tree.flush)
+HasNoRoom old (OfMergeFinish job) = LacksAt old job LacksMergeRoom
 HasNoRoom old (OfIngestion id []) = ⊥
 HasNoRoom old (OfIngestion id (item ∷ items)) =
     LastIs old id (LacksRecordRoom (shape_in id old.memory.trees) id old.memory.tickets.watermark old.memory.next (item ∷ items))
 HasNoRoom old shape = ⊥
 
--- a flush that is to be finished in a poisoned core, and isn't stale
+-- a flush or a merge that is to be finished in a poisoned core, and isn't stale
 abbrev pub FinishesLate : Held → Shape → Type 0
 FinishesLate old (OfFlushFinish job) = IsDueToFinish old job × (old.memory.poisoned ≡ true)
+FinishesLate old (OfMergeFinish job) = IsDueToMerge old job × (old.memory.poisoned ≡ true)
 FinishesLate old shape = ⊥
+
+-- A merge that was to begin met a wrong block, or the blocks of one that is out, as a disk that lies gave them, are in no order.
+abbrev pub FindsDisorder : Held → Shape → Held → Type 0
+FindsDisorder old (OfMergeBegin kind id) new = (begins_merge_in old kind id ≡ true) × (old.memory.next_job < 2 ^ 64 - 1) × Looks old new
+FindsDisorder old (OfMergeFinish job) new = (is_merging old.memory.trees job ≡ true) × (new ≡ old)
+FindsDisorder old shape new = ⊥
+
+-- A call of whose reply a disk that lies may tell anything: a read of a keyspace that has tables, a merge that was to begin and met a wrong
+-- block, and one that is out, unless it is stale.
+abbrev pub RestsOnTables : Held → Shape → Reply → Type 0
+RestsOnTables core (OfMergeBegin kind id) (Refused (Storage told)) = begins_merge_in core kind id ≡ true
+RestsOnTables core (OfMergeFinish job) (Flag false) = ⊥
+RestsOnTables core (OfMergeFinish job) reply = is_merging core.memory.trees job ≡ true
+RestsOnTables core shape reply = ReadsTables core.memory.trees shape
 
 -- ---- refusals
 
 -- Where no refusal is due, a fault may be told, or want of memory, or that an option's value is too long to be stored; a read of a
--- keyspace that has tables may tell of a fault, or of a wrong block; and a worker's step that the core is poisoned, or that no number
--- or no room is left.
+-- keyspace that has tables, or a merge of it, may tell of a fault, or of a wrong block; and a worker's step that the core is poisoned, or
+-- that no number or no room is left.
 abbrev pub OwesFailure : Held → Shape → Error → Held → Type 0
 OwesFailure old shape (Io kind) new =
     (ChangesDisk (facts_of old.memory old.catalog.next_table_id) (length old.journal.buffer) shape × Poisons (at_fault shape old.memory) old new)
     ⊎ ((ReadsTables old.memory.trees shape × Looks old new × Rose old.disk.faults new.disk.faults) ⊎ WorkPoisons old shape new)
 OwesFailure old shape OutOfMemory new = TakesMemory shape × RanOut old shape new
-OwesFailure old shape (Storage told) new = (told ≡ TableDamaged) × ReadsTables old.memory.trees shape × Looks old new
+OwesFailure old shape (Storage told) new = (told ≡ TableDamaged) × ((ReadsTables old.memory.trees shape × Looks old new) ⊎ FindsDisorder old shape new)
 OwesFailure old shape ValueTooLong new = TooLong (store_in old) shape × (new ≡ old)
 OwesFailure old shape Poisoned new = FinishesLate old shape × (new ≡ old)
 OwesFailure old shape NumbersUsedUp new = UsesUp old shape × (new ≡ old)
@@ -440,6 +532,8 @@ HeldCount core (Tables id) reply = reply ≡ Number (length (shape_in id core.me
 HeldCount core (TablesL0 id) reply = reply ≡ Number (count_by (λ t. is_l0 t.info.level) (shape_in id core.memory.trees).tables)
 HeldCount core (DiskSpace id) reply = reply ≡ Number (space_in core id)
 HeldCount core Flushes reply = reply ≡ Number (flush_count (store_in core) core.memory.trees)
+HeldCount core MergesOut reply = reply ≡ Number (merge_count core.memory.trees)
+HeldCount core MergesDone reply = reply ≡ Number core.memory.merges_done
 HeldCount core ToFlush reply = (ids : Vec ℕ Global) × (reply ≡ Ids ids) × (ids.items ≡ waited_for (flushed_by core.memory.keyspaces core.memory.records) core.memory.journals.sealed)
 
 -- an answer to such a query
@@ -465,6 +559,8 @@ Gives old (OfRotation id) reply new = (reply ≡ Flag (rotates old.memory.trees 
 Gives old OfJournalRotation reply new = (reply ≡ Done) × RotatesJournal old new
 Gives old (OfFlushBegin id) reply new = OwesBegin (begins_flush old.memory.trees id) old id reply new
 Gives old (OfFlushFinish job) reply new = OwesFinish (is_flushing old.memory.trees job) (takes_effect old job) old job reply new
+Gives old (OfMergeBegin kind id) reply new = OwesMergeBegin (begins_merge_in old kind id) old id reply new
+Gives old (OfMergeFinish job) reply new = OwesMerge (is_merging old.memory.trees job) (is_living (store_in old) job.keyspace_id) old job reply new
 Gives old OfMaintenance reply new = (reply ≡ Done) × Becomes old (evicted_in_memory old.memory) new
 Gives old (OfRead view id query) reply new = GivesRead (tables_of old id) old view id query reply × LooksAt (tables_of old id) old new
 Gives old (OfTickets call) reply new =
@@ -515,6 +611,8 @@ DiskFailed old (OfRotation id) new = ⊥
 DiskFailed old OfJournalRotation new = RotationTook old.disk new.disk old.journal new.journal (next_name old)
 DiskFailed old (OfFlushBegin id) new = SyncFailed old new
 DiskFailed old (OfFlushFinish job) new = Unit {0}
+DiskFailed old (OfMergeBegin kind id) new = Took old.disk new.disk []
+DiskFailed old (OfMergeFinish job) new = Within (keyspace_folder job.keyspace_id) old.disk new.disk
 DiskFailed old OfMaintenance new = Unit {0}
 DiskFailed old (OfRead view id query) new = Took old.disk new.disk []
 DiskFailed old (OfTickets call) new = ⊥
@@ -536,7 +634,8 @@ pub record ReplacesTable (old new : Held) : Type 0 where
 abbrev pub RemovesLast : Held → ℕ → Held → Type 0
 RemovesLast old id new = MatchBool (is_last old.memory id && not old.memory.poisoned) (RemovesOwn id old.disk new.disk × Within (codes "keyspaces") old.disk new.disk) (new.disk ≡ old.disk)
 
--- what a disk took of a call that memory ran out in: nothing, though a release, or a read of tables, has looked at it
+-- what a disk took of a call that memory ran out in: nothing, though a release, a read of tables, or a merge that was to begin, has
+-- looked at it
 abbrev pub DiskLooked : Held → Shape → Held → Type 0
 DiskLooked old (OfChange change how) new = new.disk ≡ old.disk
 DiskLooked old (OfIngestion id items) new = new.disk ≡ old.disk
@@ -548,6 +647,8 @@ DiskLooked old (OfRotation id) new = new.disk ≡ old.disk
 DiskLooked old OfJournalRotation new = new.disk ≡ old.disk
 DiskLooked old (OfFlushBegin id) new = new.disk ≡ old.disk
 DiskLooked old (OfFlushFinish job) new = new.disk ≡ old.disk
+DiskLooked old (OfMergeBegin kind id) new = Took old.disk new.disk []
+DiskLooked old (OfMergeFinish job) new = new.disk ≡ old.disk
 DiskLooked old OfMaintenance new = new.disk ≡ old.disk
 DiskLooked old (OfRead view id query) new = DiskRead (tables_of old id) old new
 DiskLooked old (OfTickets call) new = new.disk ≡ old.disk
@@ -567,6 +668,14 @@ pub record FlushTook (old : Held) (id : ℕ) (new : Held) : Type 0 where
   pub within : Within (keyspace_folder id) old.disk mid
   pub evicted : EvictionTook left mid new.disk
 
+-- What the disk took of a merge that was finished: within the keyspace's folder, where the record that it appended says what is known of
+-- the keyspace now, and where the tables are gone that it took.
+pub record MergeTook (old : Held) (id : ℕ) (new : Held) : Type 0 where
+  pub left : Remembered
+  pub merged : MergedInMemory old.memory id left
+  pub within : Within (keyspace_folder id) old.disk new.disk
+  pub gone : AreGone (state_in new.disk) id (map (λ t. t.id) (take merged.out.tables (last_known old.memory.records merged.k).tables))
+
 -- What the disk took of an ingestion: the sync of the journal, or its rotation; what it wrote within the keyspace's folder, where the
 -- record that it appended says what is known of the keyspace now; and then an eviction.
 pub record IngestionTook (old : Held) (id : ℕ) (items : List KeyOp) (new : Held) : Type 0 where
@@ -582,7 +691,8 @@ pub record IngestionTook (old : Held) (id : ℕ) (items : List KeyOp) (new : Hel
 -- wait too, and a sync where its mode asks for one; of a creation of a name that none had, and of a deletion of a keyspace that
 -- lived, another table of tree 0, where the clause on crashes tells the rest; of a release the removal of files; of a rotation of
 -- the journal the buffer, its sync, and the next journal with its name; of a flush that begins a sync or a rotation of the journal, of
--- one that is finished its table, its record and an eviction; of an ingestion all of these; of a persist the buffer, and a sync where its mode asks for
+-- one that is finished its table, its record and an eviction; of a merge that is finished its tables, its record and the removal of those
+-- that it took; of an ingestion all that a flush takes, with a sync; of a persist the buffer, and a sync where its mode asks for
 -- one; and else nothing.
 abbrev pub DiskTook : Held → Shape → Held → Type 0
 DiskTook old (OfChange (Items []) how) new = new.disk ≡ old.disk
@@ -599,6 +709,9 @@ DiskTook old OfJournalRotation new = Took old.disk new.disk (rotating old.disk o
 DiskTook old (OfFlushBegin id) new = MatchBool (begins_flush old.memory.trees id) (SyncTook old new) (new.disk ≡ old.disk)
 DiskTook old (OfFlushFinish job) new =
     MatchBool (is_flushing old.memory.trees job && takes_effect old job) (FlushTook old job.keyspace_id new) (new.disk ≡ old.disk)
+DiskTook old (OfMergeBegin kind id) new = MatchBool (begins_merge_in old kind id) (Took old.disk new.disk []) (new.disk ≡ old.disk)
+DiskTook old (OfMergeFinish job) new =
+    MatchBool (is_merging old.memory.trees job && is_living (store_in old) job.keyspace_id) (MergeTook old job.keyspace_id new) (new.disk ≡ old.disk)
 DiskTook old OfMaintenance new = EvictionTook old.memory old.disk new.disk
 DiskTook old (OfRead view id query) new = DiskRead (tables_of old id) old new
 DiskTook old (OfTickets call) new = new.disk ≡ old.disk
@@ -626,6 +739,11 @@ LeadsOn old s shape reply new t = (d : Durable) → StandsOn old s.parts.entries
 pub record Serves (old : Held) (shape : Shape) (reply : Reply) (new : Held) : Type 0 where
   pub disk : OnDisk old shape reply new
   pub goes_on : (s : State) → StandsFor old s → ReadsOn old s → (t : State) × StandsFor new t × ReadsOn new t × StepOf s shape reply t × LeadsOn old s shape reply new t
+
+-- The same of whatever state that meets this, of all those that the core stood for.
+pub record ServesWhere (Meets : State → Type 0) (old : Held) (shape : Shape) (reply : Reply) (new : Held) : Type 0 where
+  pub disk : OnDisk old shape reply new
+  pub goes_on : (s : State) → StandsFor old s → ReadsOn old s → Meets s → (t : State) × StandsFor new t × ReadsOn new t × StepOf s shape reply t × LeadsOn old s shape reply new t
 
 -- the reply to a change or to a sync
 abbrev pub reply_of : Result Unit Error → Reply
@@ -661,6 +779,17 @@ job_reply (Err error) = Refused error
 abbrev pub finish_reply : Result Bool (Refusal FlushMade) → Reply
 finish_reply (Ok done) = Flag done
 finish_reply (Err refused) = Refused refused.error
+
+-- the reply to a merge that is to begin
+abbrev pub merge_job_reply : Result (Option MergeJob) Error → Reply
+merge_job_reply (Ok None) = Began None
+merge_job_reply (Ok (Some job)) = Began (Some (job_of (merge_task job)))
+merge_job_reply (Err error) = Refused error
+
+-- the reply to a merge that is to be finished
+abbrev pub merge_reply : Result Bool (Refusal MergeMade) → Reply
+merge_reply (Ok done) = Flag done
+merge_reply (Err refused) = Refused refused.error
 
 -- the reply to a question for keyspaces
 abbrev pub ids_reply : Result (Vec ℕ Global) Error → Reply

@@ -121,11 +121,11 @@ impl<D: Disk> Core<D> {
         ensures serves { IsTrue D.honest → Serves self.old (OfFlushFinish (job_of (flush_task made.now.job))) (flag_reply result) self.new }
         ensures owes { Owes self.old (OfFlushFinish (job_of (flush_task made.now.job))) (flag_reply result) self.new }
     {
-        let id = made.job.keyspace_id();
-        if !self.memory.is_flushing(&made.job) {
+        let id = made.keyspace_id();
+        if !self.memory.is_flushing(made) {
             return Ok(false);
         }
-        if !self.memory.is_living(id) || !self.memory.is_flush_due(&made.job) {
+        if !self.memory.is_living(id) || !self.memory.is_flush_due(made) {
             self.memory.drop_flush(id);
             return Ok(false);
         }

@@ -13,7 +13,7 @@ ghost use Rattle.fjall_core.specs.Durables.{IsBeginning, StandsAmid, Durable};
 ghost use Rattle.fjall_table.specs.Blocks.{Entry};
 ghost use Rattle.fjall_core.specs.Holding.{Held};
 ghost use Rattle.fjall_core.specs.Lives.{AreLeftOf, GoesOn, HoldsFold, LastSync, Life, Lived, Lives, Served, all_left, begun, start_of};
-ghost use Rattle.fjall_core.specs.Standing.{HoldsStore, Owes, ReadsOn, RunsOn, RunsSafely, StandsOn, Steps};
+ghost use Rattle.fjall_core.specs.Standing.{HoldsStore, Owes, ReadsOn, RestsOnTables, RunsOn, RunsSafely, StandsOn, Steps};
 ghost use Rattle.fjall_state.specs.declared.call.Call.{Call};
 ghost use Rattle.fjall_state.specs.Shapes.{Shape};
 ghost use Rattle.fjall_history.specs.declared.reply.Reply.{Reply};
@@ -21,7 +21,6 @@ ghost use Rattle.fjall_base.specs.Crash.{IsHoused};
 ghost use Rattle.fjall_core.specs.Crashes.{BlamesEach, RunOn};
 ghost use Rattle.fjall_core.specs.Openings.{OpensAmid, OpensAs};
 ghost use Rattle.fjall_state.specs.Machine as machine;
-ghost use Rattle.fjall_state.specs.Machine.{ReadsTables};
 ghost use Rattle.fjall_core.specs.Standing as memory;
 
 /// A disk that a crash left, at whichever moment of these steps, holds the store that its image stands for.
@@ -147,9 +146,9 @@ pub fn a_run_blames_the_device()
 
 // ---- what calls owe
 
-/// What a call owes whatever the disk is makes it a step of the machine, but for a read of a keyspace that has tables: of what these
-/// hold a disk may tell anything.
+/// What a call owes whatever the disk is makes it a step of the machine, but for what rests on what tables hold, of which a disk may tell
+/// anything: a read of a keyspace that has some, a merge that was to begin and met a wrong block, and one that is out, unless it is stale.
 pub fn an_owed_call_steps()
-    ensures { (old new : Held) (shape : Shape) (reply : Reply) → Owes old shape reply new → (ReadsTables old.memory.trees shape → ⊥)
+    ensures { (old new : Held) (shape : Shape) (reply : Reply) → Owes old shape reply new → (RestsOnTables old shape reply → ⊥)
         → Steps old shape reply new }
 {}

@@ -7,10 +7,12 @@ mod config;
 mod engine;
 mod flushes;
 mod ingestions;
+mod jobs;
 mod journals;
 mod keyspaces;
 mod laws;
 mod memtables;
+mod merges;
 mod open;
 mod reads;
 mod replies;
@@ -21,10 +23,11 @@ mod writes;
 
 pub use config::Config;
 pub use engine::Core;
-pub use fjall_jobs::{FlushJob, FlushMade};
+pub use fjall_jobs::{FlushJob, FlushMade, MergeJob, MergeMade};
 pub use fjall_journal::{BatchItem, Op, PersistMode};
 pub use fjall_reading::KeyRange;
 pub use fjall_state::{Call, JobId, Reply, Ticket, View};
+pub use jobs::Jobs;
 pub use laws::{
     a_core_holds_amid, a_crash_amid_holds, a_last_sync, a_life_holds, a_run_blames_the_device,
     an_owed_call_steps, crash_holds, crash_stays_tidy, each_step_is_tidy, holds_store_amid,

@@ -1,53 +1,38 @@
 //! Lists of calls, which are served in order.
 
-ghost use Rattle.std.specs.Prelude.{◌≡◌, ◌+◌, ◌-◌, ◌++◌, ◌∷◌, ◌<◌, ◌≤◌, ◌^◌, [], ℕ, List, All, IsTrue, IfOk, IsOkUnless, None, OnErr, ◌≢◌, position, true, vec_capacity, vec_len};
+ghost use Rattle.std.specs.Prelude.{◌≡◌, ◌+◌, ◌-◌, ◌++◌, ◌∷◌, ◌<◌, ◌≤◌, ◌^◌, [], ℕ, List, All, IsTrue, IfOk, IfSome, IsOkUnless, OnErr, true, vec_capacity, vec_len};
 ghost use Rattle.fjall_history.specs.Queries.{Get, Page};
 ghost use Rattle.fjall_jobs.specs.Flushes.{flush_task};
-ghost use Rattle.fjall_state.specs.Machine.{is_flushing};
+ghost use Rattle.fjall_jobs.specs.Merges.{merge_task};
+ghost use Rattle.fjall_state.specs.Machine.{State, is_flushing, is_merging, merge_out};
+ghost use Rattle.fjall_state.specs.Merging.{KnowsMerge};
 ghost use Rattle.fjall_state.specs.Places.{resolved, resolved_all};
-ghost use Rattle.fjall_state.specs.Remembered.{KnowsTask};
-ghost use Rattle.fjall_state.specs.Shapes.{Exists, OfCount, OfCreation, OfFlushBegin, OfFlushFinish, OfRead, shape_of};
-ghost use Rattle.fjall_core.specs.Jobs.{Finds, IsGivenBack, IsPlain, Keeps, KeepsJobs, KeepsOthers, is_kept, is_named};
-ghost use Rattle.fjall_core.specs.Standing.{Owes, OwesAll, Serves, Runs, RunsSafely, job_of};
+ghost use Rattle.fjall_state.specs.Remembered.{IsLawful, KnowsTask};
+ghost use Rattle.fjall_state.specs.Shapes.{Exists, OfCount, OfCreation, OfFlushBegin, OfFlushFinish, OfMergeBegin, OfMergeFinish, OfRead, shape_of};
+ghost use Rattle.fjall_core.specs.Jobs.{IsGivenBack, IsMergeGivenBack, IsPlain, Keeps, KeepsJobs, KeepsMerge, KeepsMerges, KeepsOtherMerges, KeepsOthers, KnowsMerges, is_kept, is_merge_kept};
+ghost use Rattle.fjall_core.specs.Standing.{Owes, OwesAll, ReadsOn, Serves, ServesWhere, StandsFor, Runs, RunsSafely, job_of, merge_job_reply};
 
 use crate::engine::Core;
+use crate::jobs::{Jobs, run_error, take_job, take_merge};
 use crate::replies::{
     flag_reply, ids_reply, names_reply, number_reply, pairs_reply, reply_of, ticket_reply,
     value_reply,
 };
 use fjall_base::{Disk, Error, Refused, Result, Slice, UserKey};
 use fjall_history::JobId;
-use fjall_jobs::{FlushJob, FlushMade};
+use fjall_jobs::{FlushJob, MergeJob};
 use fjall_options::KeyspaceCreateOptions;
 use fjall_reading::KeyRange;
-use fjall_state::{Call, Reply, View};
-
-// Whether it is the job of this name.
-fn is_named(kept: &FlushJob, job: JobId) -> bool
-    ensures { result ≡ is_named job kept.now }
-{
-    kept.id() == job.number && kept.keyspace_id() == job.keyspace_id
-}
-
-// Where the job of this name stands among these.
-fn place_of(jobs: &[FlushJob], job: JobId) -> Option<usize>
-    ensures { result ≡ position (λ kept. is_named job kept) jobs.now }
-{
-    jobs.iter().position(|kept| is_named(kept, job))
-}
-
-// Takes the job of this name out of a list, where it is there.
-fn take_job(jobs: &mut Vec<FlushJob>, job: JobId) -> Option<FlushJob>
-    ensures finds { Finds job jobs.old.items result jobs.new.items }
-    ensures room { vec_capacity jobs.new ≡ vec_capacity jobs.old }
-    ensures len { vec_len jobs.new ≤ vec_len jobs.old }
-    ensures less { result ≢ None → vec_len jobs.new + 1 ≡ vec_len jobs.old }
-{
-    let place = place_of(jobs, job)?;
-    Some(jobs.remove(place))
-}
+use fjall_state::{Call, MergeKind, Reply, View};
 
 impl<D: Disk> Core<D> {
+    // What is in memory is lawful, whatever calls left it there.
+    fn memory_is_lawful(&self)
+        ensures { IsLawful self.now.memory }
+    {
+        let _ = self.memory.keyspaces();
+    }
+
     // Serves a flush that is to begin, and keeps its job.
     fn serve_begin(&mut self, id: u64, jobs: &mut Vec<FlushJob>) -> Reply
         requires room { vec_len jobs.old < vec_capacity jobs.old }
@@ -89,8 +74,7 @@ impl<D: Disk> Core<D> {
             Ok(done) => (Reply::Flag(done), None),
             Err(refused) => {
                 let Refused { error, value: made } = refused;
-                let FlushMade { job, .. } = made;
-                (Reply::Refused(error), Some(job))
+                (Reply::Refused(error), Some(made.into_job()))
             }
         }
     }
@@ -118,20 +102,112 @@ impl<D: Disk> Core<D> {
         reply
     }
 
-    /// Serves one call of a list, where the calls before it got these replies: it names a ticket and a job by the place of the
-    /// call that opened or began it. The jobs that are out are kept in a list, which has room for one more.
-    pub fn serve(&mut self, call: Call, replies: &[Reply], jobs: &mut Vec<FlushJob>) -> Reply
+    // Begins a merge of this kind.
+    fn begin_of(&mut self, kind: MergeKind, id: u64) -> Result<Option<MergeJob>>
+        ensures serves { IsTrue D.honest → Serves self.old (OfMergeBegin kind id) (merge_job_reply result) self.new }
+        ensures owes { Owes self.old (OfMergeBegin kind id) (merge_job_reply result) self.new }
+        ensures knows { IsTrue D.honest → (s : State) → StandsFor self.old s → ReadsOn self.old s
+            → IfOk result (λ job. IfSome job (λ job. KnowsMerge (merge_out s id) job.target (merge_task job))) }
+    {
+        match kind {
+            MergeKind::Due => self.merge_begin(id),
+            MergeKind::Major => self.major_begin(id),
+        }
+    }
+
+    // Serves a merge that is to begin, and keeps its job.
+    fn serve_merge_begin(&mut self, kind: MergeKind, id: u64, jobs: &mut Vec<MergeJob>) -> Reply
         requires room { vec_len jobs.old < vec_capacity jobs.old }
-        requires keeps { KeepsJobs self.old.memory jobs.old.items replies.now }
-        ensures serves { IsTrue D.honest → Serves self.old (shape_of (resolved replies.now call)) result self.new }
-        ensures owes { Owes self.old (shape_of (resolved replies.now call)) result self.new }
-        ensures keeps { KeepsJobs self.new.memory jobs.new.items (replies.now ++ result ∷ []) }
+        ensures serves { IsTrue D.honest → Serves self.old (OfMergeBegin kind id) result self.new }
+        ensures owes { Owes self.old (OfMergeBegin kind id) result self.new }
+        ensures keeps { KeepsMerge result jobs.old.items jobs.new.items }
+        ensures merges { IsTrue D.honest → KeepsMerges self.old jobs.old.items (OfMergeBegin kind id) result jobs.new.items }
         ensures room { vec_capacity jobs.old ≤ vec_capacity jobs.new }
         ensures len { vec_len jobs.new ≤ vec_len jobs.old + 1 }
     {
+        match self.begin_of(kind, id) {
+            Ok(Some(job)) => {
+                let name = JobId {
+                    number: job.id(),
+                    keyspace_id: job.keyspace_id(),
+                };
+                jobs.push(job).unwrap();
+                Reply::Began(Some(name))
+            }
+            Ok(None) => Reply::Began(None),
+            Err(error) => Reply::Refused(error),
+        }
+    }
+
+    // Runs a merge that is out and finishes it, and gives its job back where it is refused.
+    fn run_and_merge(&mut self, job: MergeJob) -> (Reply, Option<MergeJob>)
+        requires out { is_merging self.old.memory.trees (job_of (merge_task job)) ≡ true }
+        ensures serves { IsTrue D.honest → ServesWhere (λ s. KnowsMerge s job.target (merge_task job)) self.old (OfMergeFinish (job_of (merge_task job))) result.0 self.new }
+        ensures owes { Owes self.old (OfMergeFinish (job_of (merge_task job))) result.0 self.new }
+        ensures back { IsMergeGivenBack job result.0 result.1 }
+    {
+        let made = match job.run(self.alloc) {
+            Ok(made) => made,
+            Err(refused) => {
+                let Refused { error, value: job } = refused;
+                return (Reply::Refused(run_error(error)), Some(job));
+            }
+        };
+        match self.merge_finish(made) {
+            Ok(done) => (Reply::Flag(done), None),
+            Err(refused) => {
+                let Refused { error, value: made } = refused;
+                (Reply::Refused(error), Some(made.into_job()))
+            }
+        }
+    }
+
+    // Serves a merge that is to be finished, whose job is kept where it is out; one that is refused is kept on.
+    fn serve_merge_finish(&mut self, job: JobId, jobs: &mut Vec<MergeJob>) -> Reply
+        requires kept { job.number < 2 ^ 64 - 1 → is_merging self.old.memory.trees job ≡ true → is_merge_kept job jobs.old.items ≡ true }
+        ensures serves { IsTrue D.honest → ServesWhere (λ s. KnowsMerges s jobs.old.items) self.old (OfMergeFinish job) result self.new }
+        ensures owes { Owes self.old (OfMergeFinish job) result self.new }
+        ensures keeps { KeepsOtherMerges job result jobs.old.items jobs.new.items }
+        ensures merges { IsTrue D.honest → KeepsMerges self.old jobs.old.items (OfMergeFinish job) result jobs.new.items }
+        ensures room { vec_capacity jobs.old ≤ vec_capacity jobs.new }
+        ensures len { vec_len jobs.new ≤ vec_len jobs.old }
+    {
+        if !self.memory.is_merge_out(job) {
+            return Reply::Flag(false);
+        }
+        let Some(kept) = take_merge(jobs, job) else {
+            unreachable!()
+        };
+        let (reply, back) = self.run_and_merge(kept);
+        if let Some(refused) = back {
+            jobs.push(refused).unwrap();
+        }
+        reply
+    }
+
+    /// Serves one call of a list, where the calls before it got these replies: it names a ticket and a job by the place of the
+    /// call that opened or began it. The jobs that are out are kept, in lists that have room for one more.
+    pub fn serve(&mut self, call: Call, replies: &[Reply], jobs: &mut Jobs) -> Reply
+        requires flush_room { vec_len jobs.old.flushes < vec_capacity jobs.old.flushes }
+        requires merge_room { vec_len jobs.old.merges < vec_capacity jobs.old.merges }
+        requires keeps { KeepsJobs self.old.memory jobs.old replies.now }
+        // From each state that knows the merges that are kept.
+        ensures serves { IsTrue D.honest → ServesWhere (λ s. KnowsMerges s jobs.old.merges.items) self.old (shape_of (resolved replies.now call)) result self.new }
+        ensures owes { Owes self.old (shape_of (resolved replies.now call)) result self.new }
+        ensures keeps { KeepsJobs self.new.memory jobs.new (replies.now ++ result ∷ []) }
+        ensures merges { IsTrue D.honest → KeepsMerges self.old jobs.old.merges.items (shape_of (resolved replies.now call)) result jobs.new.merges.items }
+        ensures flush_room { vec_capacity jobs.old.flushes ≤ vec_capacity jobs.new.flushes }
+        ensures merge_room { vec_capacity jobs.old.merges ≤ vec_capacity jobs.new.merges }
+        ensures flush_len { vec_len jobs.new.flushes ≤ vec_len jobs.old.flushes + 1 }
+        ensures merge_len { vec_len jobs.new.merges ≤ vec_len jobs.old.merges + 1 }
+    {
+        self.memory_is_lawful();
         match call.resolve(replies) {
-            Call::FlushBegin(id) => self.serve_begin(id, jobs),
-            Call::FlushFinish(job) => self.serve_finish(job, jobs),
+            Call::FlushBegin(id) => self.serve_begin(id, &mut jobs.flushes),
+            Call::FlushFinish(job) => self.serve_finish(job, &mut jobs.flushes),
+            Call::MergeBegin(id) => self.serve_merge_begin(MergeKind::Due, id, &mut jobs.merges),
+            Call::MajorBegin(id) => self.serve_merge_begin(MergeKind::Major, id, &mut jobs.merges),
+            Call::MergeFinish(job) => self.serve_merge_finish(job, &mut jobs.merges),
             call => self.serve_plain(call),
         }
     }
@@ -156,6 +232,7 @@ impl<D: Disk> Core<D> {
             Call::RotateMemtable(id) => flag_reply(self.rotate_memtable(id)),
             Call::RotateJournal => reply_of(self.rotate_journal()),
             Call::FlushBegin(_) | Call::FlushFinish(_) => unreachable!(),
+            Call::MergeBegin(_) | Call::MajorBegin(_) | Call::MergeFinish(_) => unreachable!(),
             Call::Maintenance => reply_of(self.maintenance()),
             Call::GetAt(view, id, key) => self.serve_get(view, id, key),
             Call::PageAt(view, id, range, back, max) => self.serve_page(view, id, range, back, max),
@@ -180,6 +257,8 @@ impl<D: Disk> Core<D> {
             Call::L0TableCount(id) => Reply::Number(self.l0_table_count(id) as u64),
             Call::DiskSpace(id) => Reply::Number(self.disk_space(id)),
             Call::OutstandingFlushes => Reply::Number(self.outstanding_flushes() as u64),
+            Call::ActiveCompactions => Reply::Number(self.active_compactions() as u64),
+            Call::CompactionsCompleted => Reply::Number(self.compactions_completed()),
             Call::KeyspacesToFlush => {
                 ids_reply(self.get_keyspaces_to_flush_for_oldest_journal_eviction())
             }
@@ -231,7 +310,7 @@ impl<D: Disk> Core<D> {
         ensures only { IsOkUnless result Error.OutOfMemory }
     {
         let mut replies = Vec::with_capacity(self.alloc, calls.len())?;
-        let mut jobs = Vec::with_capacity(self.alloc, calls.len())?;
+        let mut jobs = Jobs::with_capacity(self.alloc, calls.len())?;
         for call in calls {
             let reply = self.serve(call, &replies, &mut jobs);
             replies.push(reply).unwrap();

@@ -1,7 +1,7 @@
 //! Scenarios over a disk in memory: lists of acts, and what each of them answers.
 
 use crate::database::{Database, add, closed, crashed, items, opened, view_of};
-use crate::lists::{all_told, flush, serve};
+use crate::lists::{all_told, is_done, serve};
 use crate::script::Line;
 use crate::tape::Tape;
 use fjall_base::{CompressionType, Disk, Error, KvPair, Refused, Result, Slice, checksum};
@@ -25,6 +25,8 @@ pub enum Act {
     Ask(Line),
     /// Makes a keyspace whose writes are persisted by hand.
     ByHand(&'static str),
+    /// Makes a keyspace whose merges close their tables at this size.
+    OfTables(&'static str, u64),
     Get(u64, &'static str),
     /// By the ticket of this id.
     GetAt(u64, u64, &'static str),
@@ -45,6 +47,14 @@ pub enum Act {
     Serve(&'static [Line]),
     /// A flush of a keyspace begins, is run and finished: whether there was one.
     Flush(u64),
+    /// A merge of a keyspace that is due begins, is run and finished: whether there was one.
+    Merge(u64),
+    /// The same of a major one.
+    Major(u64),
+    /// How many merges are out.
+    Merging,
+    /// How many merges took effect since the opening.
+    Merged,
     /// Inserts so many keys of two bytes into a keyspace.
     Many(u64, u16),
     /// Ingests so many keys of two bytes with empty values into a keyspace.
@@ -78,6 +88,8 @@ pub enum Act {
     /// The disk of a closed database with the keyspace 1, in which a=b. Its first call behind the opening and these lines
     /// fails, and of an append so many bytes go out.
     Fail(&'static [Line], usize),
+    /// The same of the call that comes so many calls later, of which no byte goes out.
+    FailLater(&'static [Line], u64),
     /// Adds a file with these bytes, or the bytes to a file that is there.
     Add(&'static str, &'static [u8]),
     /// Adds so many bytes of `ONE` to the journal.
@@ -252,6 +264,8 @@ fn told_number(core: &Database<MemoryDisk>, act: Act) -> Option<u64> {
         Act::Journals => Some(core.journal_count() as u64),
         Act::Snapshots => Some(core.open_snapshots()),
         Act::Outstanding => Some(core.outstanding_flushes() as u64),
+        Act::Merging => Some(core.active_compactions() as u64),
+        Act::Merged => Some(core.compactions_completed()),
         Act::Sealed(id) => Some(core.sealed_memtable_count(id) as u64),
         Act::WriteBuffer => Some(core.write_buffer_size()),
         Act::Versions(id) => Some(core.approximate_len(id)),
@@ -327,11 +341,21 @@ fn ingest_keys(core: &mut Database<MemoryDisk>, id: u64, keys: &[Slice]) -> Resu
     Ok(String::new(alloc))
 }
 
-/// What an open database answers to what is of flushes.
-fn flushed(alloc: Global, core: &mut Database<MemoryDisk>, act: Act) -> Result<String> {
+/// What an open database answers to what is of jobs.
+fn worked(alloc: Global, core: &mut Database<MemoryDisk>, act: Act) -> Result<String> {
+    let (begin, finish) = match act {
+        Act::Flush(id) => (Line::Begin(id), Line::Finish(id)),
+        Act::Merge(id) => (Line::BeginMerge(id), Line::FinishMerge(id)),
+        Act::Major(id) => (Line::BeginMajor(id), Line::FinishMerge(id)),
+        _ => return told(alloc, core, act),
+    };
+    flag_text(alloc, is_done(core, &[begin, finish])?)
+}
+
+/// What an open database answers to lists of calls and to many writes.
+fn served(alloc: Global, core: &mut Database<MemoryDisk>, act: Act) -> Result<String> {
     match act {
         Act::Serve(lines) => all_told(alloc, &serve(core, lines)?),
-        Act::Flush(id) => flag_text(alloc, flush(core, &[Line::Begin(id), Line::Finish(id)])?),
         Act::ToFlush => ids_text(alloc, &core.keyspaces_to_flush()?),
         Act::Many(id, count) => {
             insert_many(core, id, count)?;
@@ -339,7 +363,7 @@ fn flushed(alloc: Global, core: &mut Database<MemoryDisk>, act: Act) -> Result<S
         }
         Act::IngestMany(id, count) => ingest_keys(core, id, &many_keys(alloc, count)?),
         Act::IngestLong(id, keys) => ingest_keys(core, id, &long_keys(alloc, keys)?),
-        _ => told(alloc, core, act),
+        _ => worked(alloc, core, act),
     }
 }
 
@@ -348,6 +372,9 @@ fn asked(alloc: Global, core: &mut Database<MemoryDisk>, act: Act) -> Result<Str
     match act {
         Act::Ask(line) => number_text(alloc, line.ask(core)?),
         Act::ByHand(name) => number_text(alloc, Some(core.keyspace_by_hand(name.as_bytes())?)),
+        Act::OfTables(name, size) => {
+            number_text(alloc, Some(core.keyspace_of_tables(name.as_bytes(), size)?))
+        }
         Act::Get(id, key) => value_text(alloc, core, View::Present, id, key),
         Act::GetAt(ticket, id, key) => value_text(alloc, core, view_of(ticket), id, key),
         Act::PageAt(ticket, id, back, max) => {
@@ -356,7 +383,7 @@ fn asked(alloc: Global, core: &mut Database<MemoryDisk>, act: Act) -> Result<Str
         Act::Page(id, from, to, back, max) => page_text(alloc, core, id, (from, to), back, max),
         Act::Names => names_text(alloc, &core.names()?),
         Act::Exists(name) => flag_text(alloc, core.keyspace_exists(name.as_bytes())),
-        _ => flushed(alloc, core, act),
+        _ => served(alloc, core, act),
     }
 }
 
@@ -477,9 +504,10 @@ pub fn calls(alloc: Global, lines: &[Line]) -> Result<u64> {
     core.into_disk().log.step_count()
 }
 
-/// That disk, whose first call behind the opening and these lines fails, and of an append so many bytes go out.
-fn failing(alloc: Global, lines: &[Line], part: usize) -> Result<MemoryDisk> {
-    let number = calls(alloc, lines)?.saturating_add(1);
+/// That disk, whose first call behind the opening and these lines fails, or one that comes so many later, and of an append so many
+/// bytes go out.
+fn failing(alloc: Global, lines: &[Line], later: u64, part: usize) -> Result<MemoryDisk> {
+    let number = calls(alloc, lines)?.saturating_add(1).saturating_add(later);
     let mut disk = written(alloc)?;
     disk.fail_at(number, part);
     Ok(disk)
@@ -543,7 +571,8 @@ fn take_open(alloc: Global, core: Database<MemoryDisk>, act: Act) -> Result<(Sta
 fn turned(alloc: Global, disk: MemoryDisk, act: Act) -> Result<Stage> {
     Ok(match act {
         Act::Crash(keep) => Stage::Disk(crashed(disk, keep)?),
-        Act::Fail(lines, part) => Stage::Disk(failing(alloc, lines, part)?),
+        Act::Fail(lines, part) => Stage::Disk(failing(alloc, lines, 0, part)?),
+        Act::FailLater(lines, later) => Stage::Disk(failing(alloc, lines, later, 0)?),
         _ => Stage::Core(opened(alloc, disk)?),
     })
 }
@@ -559,7 +588,7 @@ fn ask_disk(alloc: Global, disk: MemoryDisk, act: Act) -> Result<(Stage, String)
 fn take_shut(alloc: Global, disk: MemoryDisk, act: Act) -> Result<(Stage, String)> {
     match act {
         Act::Refuse(name) => refused(alloc, disk, name),
-        Act::Open | Act::Crash(_) | Act::Fail(_, _) => {
+        Act::Open | Act::Crash(_) | Act::Fail(_, _) | Act::FailLater(_, _) => {
             Ok((turned(alloc, disk, act)?, String::new(alloc)))
         }
         _ => ask_disk(alloc, disk, act),

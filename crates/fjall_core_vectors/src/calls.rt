@@ -163,6 +163,11 @@ enum Request {
     FlushBegin(u64),
     /// Of the job that the call at this place began.
     FlushFinish(u64),
+    MergeBegin(u64),
+    MajorBegin(u64),
+    MergeFinish(u64),
+    ActiveCompactions,
+    CompactionsCompleted,
     Maintenance,
     Ingest(u64),
     SealedMemtableCount,
@@ -286,6 +291,49 @@ const OF_INGESTIONS: &[Request] = &[
     Request::Seqno,
 ];
 
+/// Those of merges, whose jobs are numbered along with flushes.
+const OF_MERGES: &[Request] = &[
+    Request::Keyspace,
+    Request::Insert(1),
+    Request::MajorBegin(1),
+    Request::RotateMemtable,
+    Request::FlushBegin(1),
+    Request::FlushFinish(4),
+    Request::MergeBegin(1),
+    Request::ActiveCompactions,
+    Request::MajorBegin(1),
+    Request::ActiveCompactions,
+    Request::MajorBegin(1),
+    Request::MergeBegin(1),
+    Request::MergeFinish(4),
+    Request::FlushFinish(8),
+    Request::MergeFinish(10),
+    Request::MergeFinish(99),
+    Request::CompactionsCompleted,
+    Request::Insert(1),
+    Request::RotateMemtable,
+    Request::FlushBegin(1),
+    Request::ActiveCompactions,
+    Request::OutstandingFlushes,
+    Request::MergeFinish(8),
+    Request::ActiveCompactions,
+    Request::CompactionsCompleted,
+    Request::TableCount,
+    Request::L0TableCount,
+    Request::FlushFinish(19),
+    Request::L0TableCount,
+    Request::MergeFinish(8),
+    Request::CompactionsCompleted,
+    Request::MajorBegin(1),
+    Request::DeleteKeyspace,
+    Request::MergeFinish(31),
+    Request::ActiveCompactions,
+    Request::MajorBegin(1),
+    Request::MergeBegin(2),
+    Request::MajorBegin(0),
+    Request::CompactionsCompleted,
+];
+
 /// What the batch changes.
 const CHANGES: &[Item] = &[(1, "c", Some("d")), (1, "a", None)];
 
@@ -305,6 +353,18 @@ fn page_at(view: View) -> Call {
 }
 
 impl Request {
+    /// The call, where it is of merges.
+    fn of_merge(self) -> Option<Call> {
+        match self {
+            Request::MergeBegin(id) => Some(Call::MergeBegin(id)),
+            Request::MajorBegin(id) => Some(Call::MajorBegin(id)),
+            Request::MergeFinish(place) => Some(Call::MergeFinish(JobId::of_call(place))),
+            Request::ActiveCompactions => Some(Call::ActiveCompactions),
+            Request::CompactionsCompleted => Some(Call::CompactionsCompleted),
+            _ => None,
+        }
+    }
+
     /// The call, where it is of flushes.
     fn of_flush(self) -> Option<Call> {
         match self {
@@ -319,7 +379,7 @@ impl Request {
             Request::ApproximateLen => Some(Call::ApproximateLen(1)),
             Request::WriteBufferSize => Some(Call::WriteBufferSize),
             Request::KeyspacesToFlush => Some(Call::KeyspacesToFlush),
-            _ => None,
+            _ => self.of_merge(),
         }
     }
 
@@ -453,6 +513,28 @@ fn lists_of_calls_are_served_in_order(rt: HostRuntime) -> std::result::Result<()
         let (text, none) = served(rt.alloc(), ClosedDisk, requests)?;
         assert_eq!(rt; (text.as_str(), none), (due, 0));
     }
+    Ok(())
+}
+
+const MERGED: &str =
+    "number 1; done; no job; flag true; job 0 of 1; flag true; no job; number 0; job 1 of 1; \
+    number 1; no job; no job; flag false; flag false; flag false; flag false; number 0; done; flag true; job 2 of 1; \
+    number 1; number 0; flag true; number 0; number 1; number 1; number 0; flag true; number 1; flag false; number 1; job 3 of 1; \
+    done; flag false; number 0; refused KeyspaceDeleted; refused UnknownKeyspace; refused UnknownKeyspace; number 1; ";
+
+const UNREAD: &str = "number 1; done; no job; flag true; job 0 of 1; flag true; no job; number 0; \
+    refused Storage(TableDamaged); number 0; refused Storage(TableDamaged); no job; flag false; flag false; flag false; \
+    flag false; number 0; done; flag true; job 1 of 1; number 0; number 0; flag false; number 0; number 0; number 1; number 1; flag true; \
+    number 2; flag false; number 0; refused Storage(TableDamaged); done; flag false; number 0; \
+    refused KeyspaceDeleted; refused UnknownKeyspace; refused UnknownKeyspace; number 0; ";
+
+// The second disk keeps nothing, and so no table can be read.
+#[test]
+fn merges_read_tables(rt: HostRuntime) -> std::result::Result<(), Fail> {
+    let (text, none) = served(rt.alloc(), MemoryDisk::new(rt.alloc()), OF_MERGES)?;
+    assert_eq!(rt; (text.as_str(), none), (MERGED, 0));
+    let (text, none) = served(rt.alloc(), ClosedDisk, OF_MERGES)?;
+    assert_eq!(rt; (text.as_str(), none), (UNREAD, 0));
     Ok(())
 }
 

@@ -5,7 +5,7 @@
 use fjall_base::{Disk, Error, KvPair, Refused, Result, Slice, UserKey, UserValue};
 use fjall_core::{BatchItem, Call, Config, Core, KeyRange, Op, PersistMode, Reply, Ticket, View};
 use fjall_memory::MemoryDisk;
-use fjall_options::KeyspaceCreateOptions;
+use fjall_options::{KeyspaceCreateOptions, Leveled};
 use std::alloc::Global;
 
 /// An item of a batch: keyspace, key, and the value that the key gets, or none.
@@ -82,6 +82,14 @@ impl<D: Disk> Database<D> {
             .keyspace(name, options.manual_journal_persist(true))
     }
 
+    /// The same, but that the merges of a keyspace that is made close their tables at this size, at 1 at least.
+    pub fn keyspace_of_tables(&mut self, name: &[u8], size: u64) -> Result<u64> {
+        let options = KeyspaceCreateOptions::default(self.alloc)?;
+        let strategy = Leveled::default(self.alloc)?.with_table_target_size(size.max(1));
+        self.core
+            .keyspace(name, options.compaction_strategy(strategy))
+    }
+
     pub fn delete_keyspace(&mut self, id: u64) -> Result<()> {
         self.core.delete_keyspace(id)
     }
@@ -133,6 +141,24 @@ impl<D: Disk> Database<D> {
     /// Begins a flush, and lets its job go; answers whether one began.
     pub fn flush_begin(&mut self, id: u64) -> Result<bool> {
         Ok(self.core.flush_begin(id)?.is_some())
+    }
+
+    /// Begins a merge that is due, and lets its job go; answers whether one began.
+    pub fn merge_begin(&mut self, id: u64) -> Result<bool> {
+        Ok(self.core.merge_begin(id)?.is_some())
+    }
+
+    /// The same of a major one.
+    pub fn major_begin(&mut self, id: u64) -> Result<bool> {
+        Ok(self.core.major_begin(id)?.is_some())
+    }
+
+    pub fn active_compactions(&self) -> usize {
+        self.core.active_compactions()
+    }
+
+    pub fn compactions_completed(&self) -> u64 {
+        self.core.compactions_completed()
     }
 
     pub fn maintenance(&mut self) -> Result<()> {

@@ -7,7 +7,7 @@ use crate::script::Line::*;
 use std::ops::Bound::Unbounded;
 use std::test::Fail;
 
-const FIRST_KEYS: &[Pair] = &[
+pub const FIRST_KEYS: &[Pair] = &[
     ("\x00", Some("")),
     ("\x01", Some("")),
     ("\x02", Some("")),
@@ -16,7 +16,7 @@ const FIRST_KEYS: &[Pair] = &[
     ("\x05", Some("")),
 ];
 
-const NEXT_KEYS: &[Pair] = &[
+pub const NEXT_KEYS: &[Pair] = &[
     ("\x01", Some("")),
     ("\x06", Some("")),
     ("\x07", Some("")),

@@ -36,6 +36,12 @@ mod keyspaces;
 #[cfg(test)]
 mod lists;
 #[cfg(test)]
+mod merge_jobs;
+#[cfg(test)]
+mod merges;
+#[cfg(test)]
+mod merging;
+#[cfg(test)]
 mod moments;
 #[cfg(test)]
 mod reference;
@@ -49,6 +55,8 @@ mod script;
 mod snapshots;
 #[cfg(test)]
 mod sweep;
+#[cfg(test)]
+mod tables;
 #[cfg(test)]
 mod tape;
 #[cfg(test)]

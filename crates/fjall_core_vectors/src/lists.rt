@@ -8,15 +8,25 @@ use fjall_core::{Call, JobId, Reply, Ticket};
 use fjall_options::KeyspaceCreateOptions;
 use std::alloc::{AllocError, Global};
 
-/// The place of the line that began a flush of a keyspace last, of these; where none did, the greatest `u64`.
-fn begun_at(lines: &[Line], id: u64) -> u64 {
+/// Whether a line is to begin a flush of a keyspace, or, where it is asked for, a merge.
+fn begins(line: &Line, id: u64, is_merge: bool) -> bool {
+    match line {
+        Line::Begin(begun) => !is_merge && *begun == id,
+        Line::BeginMerge(begun) | Line::BeginMajor(begun) => is_merge && *begun == id,
+        _ => false,
+    }
+}
+
+/// The name of the job that the last such line of these began, as a list of calls has it: by its place, the greatest `u64` where
+/// there is none.
+fn job_of(lines: &[Line], id: u64, is_merge: bool) -> JobId {
     let mut place = u64::MAX;
     for (at, line) in lines.iter().enumerate() {
-        if matches!(line, Line::Begin(begun) if *begun == id) {
+        if begins(line, id, is_merge) {
             place = at as u64;
         }
     }
-    place
+    JobId::of_call(place)
 }
 
 /// The call that makes a keyspace of this name with default options.
@@ -42,6 +52,8 @@ impl Line {
             Line::Rotate(id) => Call::RotateMemtable(*id),
             Line::RotateJournal => Call::RotateJournal,
             Line::Begin(id) => Call::FlushBegin(*id),
+            Line::BeginMerge(id) => Call::MergeBegin(*id),
+            Line::BeginMajor(id) => Call::MajorBegin(*id),
             Line::Maintain => Call::Maintenance,
             Line::Snapshot => Call::Snapshot,
             Line::CloneSnapshot(id) => Call::CloneSnapshot(Ticket::of_call(*id)),
@@ -60,7 +72,8 @@ impl Line {
             Line::RemoveWeak(id, key) => Call::RemoveWeak(*id, Slice::new(alloc, key.as_bytes())?),
             Line::Commit(items, mode) => Call::CommitBatch(batch(alloc, items)?, *mode),
             Line::Ingest(id, pairs) => Call::Ingest(*id, ingestion(alloc, pairs)?),
-            Line::Finish(id) => Call::FlushFinish(JobId::of_call(begun_at(before, *id))),
+            Line::Finish(id) => Call::FlushFinish(job_of(before, *id, false)),
+            Line::FinishMerge(id) => Call::MergeFinish(job_of(before, *id, true)),
             _ => self.plain_call(),
         })
     }
@@ -94,7 +107,7 @@ pub fn answer(reply: Reply) -> Result<Option<u64>> {
 }
 
 /// Whether the last of these lines, of one list, answers 1; or the first refusal.
-pub fn flush<D: Disk>(core: &mut Database<D>, lines: &[Line]) -> Result<bool> {
+pub fn is_done<D: Disk>(core: &mut Database<D>, lines: &[Line]) -> Result<bool> {
     let mut is_done = false;
     for reply in serve(core, lines)? {
         is_done = answer(reply)? == Some(1);

@@ -26,6 +26,22 @@ pub enum Command {
 }
 
 impl Command {
+    /// Whether it leaves a version in the memtable of a keyspace.
+    pub fn is_written_in(&self, id: u64) -> bool {
+        match self {
+            Command::Write(changes) => has_change_in(changes, id),
+            _ => false,
+        }
+    }
+
+    /// Whether it changes keys of a keyspace.
+    pub fn changes_keys_of(&self, id: u64) -> bool {
+        match self {
+            Command::Write(changes) | Command::Ingest(changes) => has_change_in(changes, id),
+            _ => false,
+        }
+    }
+
     /// Whether it leaves something in the memtable of a keyspace.
     pub fn is_kept_in(&self, id: u64) -> bool {
         match self {
@@ -159,7 +175,7 @@ pub fn fold(alloc: Global, commands: &[Command]) -> Result<Vec<Home>> {
 }
 
 /// The pairs of the keyspace of this id, none where there is no such keyspace.
-fn pairs_of(homes: &[Home], id: u64) -> &[KvPair] {
+pub fn pairs_of(homes: &[Home], id: u64) -> &[KvPair] {
     for home in homes {
         if home.id == id {
             return &home.pairs;

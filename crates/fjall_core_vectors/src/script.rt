@@ -1,8 +1,9 @@
 //! A script of calls, and what it must leave.
 
 use crate::database::{Database, Item, Pair, opened, view_of};
-use crate::lists::{answer, flush, serve};
+use crate::lists::{answer, is_done, serve};
 use crate::reference::{Change, Command, Home, are_seen, fold, shown};
+use crate::tables::{Tables, made_by_flush, made_by_merge};
 use crate::tickets::Tickets;
 use crate::work::Work;
 use fjall_base::{Disk, Error, Refused, Result, Slice};
@@ -33,6 +34,12 @@ pub enum Line {
     Begin(u64),
     /// The flush of a keyspace that began last in the same list of calls is run and finished.
     Finish(u64),
+    /// A merge of a keyspace begins where it is due; outside a list of calls its job is let go.
+    BeginMerge(u64),
+    /// The same of a major one.
+    BeginMajor(u64),
+    /// The merge of a keyspace that began last in the same list of calls is run and finished.
+    FinishMerge(u64),
     Maintain,
     Snapshot,
     /// Of the ticket of this id.
@@ -107,6 +114,9 @@ pub fn script() -> &'static [Line] {
     SCRIPT
 }
 
+/// A merge is due from so many tables at level 0 on, where nothing else is asked for.
+const DUE: usize = 4;
+
 /// What isn't as it must be.
 #[derive(Debug, Drop)]
 pub enum Wrong {
@@ -165,6 +175,7 @@ pub struct History {
     is_poisoned: bool,
     tickets: Tickets,
     work: Work,
+    tables: Tables,
 }
 
 /// A database shows the keyspaces that these commands make.
@@ -212,21 +223,27 @@ impl Line {
         }
     }
 
+    /// Whether it begins a merge: the one line beside reads that no fault poisons.
+    fn begins_merge(&self) -> bool {
+        matches!(self, Line::BeginMerge(_) | Line::BeginMajor(_))
+    }
+
     /// Whether a poisoned database refuses it, though it is no command.
     fn is_change(&self, answer: Option<u64>) -> bool {
         match self {
             Line::Rotate(_) | Line::RotateJournal | Line::Begin(_) | Line::Maintain => true,
-            Line::Finish(_) => answer == Some(1),
-            _ => false,
+            Line::Finish(_) | Line::FinishMerge(_) => answer == Some(1),
+            _ => self.begins_merge(),
         }
     }
 
-    /// Whether a fault in it leaves open what was flushed, or which journals there are.
+    /// Whether a fault in it leaves open what was flushed or merged, or which journals there are.
     fn is_work(&self) -> bool {
-        matches!(
-            self,
-            Line::RotateJournal | Line::Finish(_) | Line::Maintain | Line::Ingest(_, _)
-        )
+        match self {
+            Line::RotateJournal | Line::Maintain => true,
+            Line::Finish(_) | Line::FinishMerge(_) | Line::Ingest(_, _) => true,
+            _ => false,
+        }
     }
 
     /// Asks for it, where it is of keys, or of all of them.
@@ -256,7 +273,22 @@ impl Line {
         }
     }
 
-    /// Asks for it; answers the id of what it makes or opens, the watermark, or 1 where it seals a memtable, begins a flush or
+    /// Asks for it, where it is of a job; answers 1 where it begins or finishes one, else 0.
+    fn ask_to_work<D: Disk>(&self, core: &mut Database<D>) -> Result<Option<u64>> {
+        let is_so = match self {
+            Line::Begin(id) => core.flush_begin(*id)?,
+            Line::BeginMerge(id) => core.merge_begin(*id)?,
+            Line::BeginMajor(id) => core.major_begin(*id)?,
+            Line::Finish(_) | Line::FinishMerge(_) => is_done(core, &[*self])?,
+            _ => {
+                self.ask_to_change(core)?;
+                return Ok(None);
+            }
+        };
+        Ok(Some(u64::from(is_so)))
+    }
+
+    /// Asks for it; answers the id of what it makes or opens, the watermark, or 1 where it seals a memtable, begins a job or
     /// finishes one, else 0.
     pub fn ask<D: Disk>(&self, core: &mut Database<D>) -> Result<Option<u64>> {
         match self {
@@ -265,12 +297,7 @@ impl Line {
             Line::CloneSnapshot(id) => Ok(Some(core.clone_snapshot(*id)?)),
             Line::Gc => Ok(Some(core.gc())),
             Line::Rotate(id) => Ok(Some(u64::from(core.rotate_memtable(*id)?))),
-            Line::Begin(id) => Ok(Some(u64::from(core.flush_begin(*id)?))),
-            Line::Finish(_) => Ok(Some(u64::from(flush(core, &[*self])?))),
-            _ => {
-                self.ask_to_change(core)?;
-                Ok(None)
-            }
+            _ => self.ask_to_work(core),
         }
     }
 }
@@ -340,6 +367,7 @@ impl History {
             is_poisoned: false,
             tickets: Tickets::new(alloc),
             work: Work::new(alloc),
+            tables: Tables::new(alloc),
         }
     }
 
@@ -393,9 +421,51 @@ impl History {
     fn note_beginning(&mut self, id: u64, answer: Option<u64>) -> Result<bool> {
         let is_wanted = self.work.wants_flush(id);
         if answer == Some(1) {
+            let made = self.made_of_memory(id, self.work.sealed_end(id));
+            self.tables.begin_flush(id, made)?;
             self.work.begin(id)?;
         }
         Ok(self.is_told(answer, is_wanted))
+    }
+
+    /// How many tables a flush of a keyspace makes of its memory up to an end.
+    fn made_of_memory(&self, id: u64, end: usize) -> usize {
+        let from = self.work.flushed_end(id);
+        made_by_flush(
+            &self.tried.commands,
+            from,
+            end,
+            id,
+            self.tickets.watermark(),
+        )
+    }
+
+    /// A merge begins that wants so many tables at level 0, where they are there and none is out.
+    fn note_merge_beginning(
+        &mut self,
+        alloc: Global,
+        id: u64,
+        least: usize,
+        answer: Option<u64>,
+    ) -> Result<bool> {
+        let is_wanted = self.tables.wants_merge(id, least);
+        if answer == Some(1) {
+            let (end, watermark) = (self.work.flushed_end(id), self.tickets.watermark());
+            let made = made_by_merge(alloc, &self.tried.commands, end, id, watermark)?;
+            self.tables.begin_merge(id, made)?;
+        }
+        Ok(self.is_told(answer, is_wanted))
+    }
+
+    /// A merge that is out of a keyspace that lives is finished.
+    fn note_merge_ending(&mut self, alloc: Global, id: u64, answer: Option<u64>) -> Result<bool> {
+        let is_due = self.tables.is_merge_due(id) && lives(&self.homes(alloc)?, id);
+        if answer == Some(1) {
+            self.tables.finish_merge(id)?;
+        } else {
+            self.tables.drop_merge(id)?;
+        }
+        Ok(self.is_told(answer, is_due))
     }
 
     /// Journals are removed that no keyspace holds back which lives.
@@ -404,8 +474,10 @@ impl History {
         self.work.evict(&self.tried.commands, &homes)
     }
 
-    /// A keyspace's memory is flushed, and journals are removed.
+    /// A keyspace's memory is flushed, the items go to a table behind it, and journals are removed.
     fn note_ingestion(&mut self, alloc: Global, id: u64) -> Result<()> {
+        let made = self.made_of_memory(id, self.accepted);
+        self.tables.add(id, made.saturating_add(1))?;
         self.work.flush_memory(id, self.accepted)?;
         self.note_eviction(alloc)
     }
@@ -414,6 +486,7 @@ impl History {
     fn note_ending(&mut self, alloc: Global, id: u64, answer: Option<u64>) -> Result<bool> {
         let is_due = self.work.is_due(id) && lives(&self.homes(alloc)?, id);
         if answer == Some(1) {
+            self.tables.finish_flush(id)?;
             self.work.finish(id)?;
             self.note_eviction(alloc)?;
         } else {
@@ -428,6 +501,9 @@ impl History {
             Line::Rotate(id) => return self.note_seal(id, answer),
             Line::Begin(id) => return self.note_beginning(id, answer),
             Line::Finish(id) => return self.note_ending(alloc, id, answer),
+            Line::BeginMerge(id) => return self.note_merge_beginning(alloc, id, DUE, answer),
+            Line::BeginMajor(id) => return self.note_merge_beginning(alloc, id, 0, answer),
+            Line::FinishMerge(id) => return self.note_merge_ending(alloc, id, answer),
             Line::RotateJournal => self.work.rotate_journal(self.accepted)?,
             Line::Maintain => self.note_eviction(alloc)?,
             Line::Ingest(id, pairs) if !pairs.is_empty() => self.note_ingestion(alloc, id)?,
@@ -506,6 +582,7 @@ impl History {
             Error::UnknownKeyspace | Error::KeyspaceDeleted => {
                 command.is_none() && self.at_fault.is_some()
             }
+            _ if line.begins_merge() => return self.meet(error),
             _ => {
                 self.work.is_unsure = self.work.is_unsure || line.is_work();
                 return self.fault(error, command);
@@ -554,15 +631,26 @@ impl History {
         Ok(true)
     }
 
-    /// It has as many journals as must be, where that is known.
-    fn are_counted<D: Disk>(&self, core: &Database<D>) -> bool {
-        self.work.is_unsure || core.journal_count() == self.work.journal_count()
+    /// The keyspaces that live have as many tables as must be.
+    fn are_tables_counted<D: Disk>(&self, core: &Database<D>, homes: &[Home]) -> bool {
+        let mut are_counted = true;
+        for home in homes {
+            let counts = (core.table_count(home.id), core.l0_table_count(home.id));
+            are_counted = are_counted && counts == self.tables.counts(home.id);
+        }
+        are_counted
+    }
+
+    /// It has as many journals and tables as must be, where that is known.
+    fn are_counted<D: Disk>(&self, core: &Database<D>, homes: &[Home]) -> bool {
+        let has_journals = core.journal_count() == self.work.journal_count();
+        self.work.is_unsure || has_journals && self.are_tables_counted(core, homes)
     }
 
     /// A database shows the keyspaces that the accepted commands make, and by each ticket what it must.
     fn is_shown<D: Disk>(&self, alloc: Global, core: &mut Database<D>) -> Result<bool> {
         let homes = self.homes(alloc)?;
-        if shown(alloc, core, View::Present)? != homes || !self.are_counted(core) {
+        if shown(alloc, core, View::Present)? != homes || !self.are_counted(core, &homes) {
             return Ok(false);
         }
         self.are_views(alloc, core, &homes)
@@ -611,6 +699,7 @@ impl History {
             self.hear(alloc, *line, answer(reply))?;
         }
         self.work.lose_jobs();
+        self.tables.lose_jobs();
         match lines.last() {
             Some(line) => self.check(alloc, core, *line),
             None => Ok(()),
@@ -650,6 +739,7 @@ impl History {
         self.tickets = Tickets::new(alloc);
         let homes = self.homes(alloc)?;
         self.work.open(&self.tried.commands, &homes)?;
+        self.tables.open();
         Ok(core)
     }
 
@@ -696,13 +786,13 @@ impl History {
         Ok(core)
     }
 
-    /// Opens a database, and asks for what these lines say; those from the beginning of a flush up to its end are one list.
+    /// Opens a database, and asks for what these lines say; those from the beginning of a job up to its end are one list.
     pub fn play<D: Disk + Drop>(&mut self, alloc: Global, disk: D, lines: &[Line]) -> Checked<D> {
         let mut core = self.open(alloc, disk)?;
         let mut list = Vec::new(alloc);
         for line in lines {
             list.push(*line)?;
-            if !is_in_flush(&list) {
+            if !is_in_job(&list) {
                 core = self.take(alloc, core, &list)?;
                 list.clear();
             }
@@ -712,13 +802,15 @@ impl History {
     }
 }
 
-/// Whether a flush that begins in these lines doesn't end there.
-fn is_in_flush(lines: &[Line]) -> bool {
+/// Whether a job that begins in these lines doesn't end there.
+fn is_in_job(lines: &[Line]) -> bool {
     let mut begun = 0usize;
     for line in lines {
         match line {
-            Line::Begin(_) => begun = begun.saturating_add(1),
-            Line::Finish(_) => begun = begun.saturating_sub(1),
+            Line::Begin(_) | Line::BeginMerge(_) | Line::BeginMajor(_) => {
+                begun = begun.saturating_add(1)
+            }
+            Line::Finish(_) | Line::FinishMerge(_) => begun = begun.saturating_sub(1),
             _ => {}
         }
     }

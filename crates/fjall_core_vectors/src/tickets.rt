@@ -25,6 +25,11 @@ impl Tickets {
         self.shows.len() as u64
     }
 
+    /// The number up to which nobody asks for older versions any more.
+    pub fn watermark(&self) -> usize {
+        self.watermark
+    }
+
     /// How many commands a ticket shows, where it is open.
     pub fn shown(&self, id: u64) -> Option<usize> {
         *self.shows.get(id as usize)?

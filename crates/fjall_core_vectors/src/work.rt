@@ -56,9 +56,19 @@ impl Work {
         }
     }
 
+    /// Where ends what was brought to tables of a keyspace.
+    pub fn flushed_end(&self, id: u64) -> usize {
+        last_end(&self.flushed, id)
+    }
+
+    /// Where its last sealed memtable ends.
+    pub fn sealed_end(&self, id: u64) -> usize {
+        last_end(&self.sealed, id)
+    }
+
     // Where the active memtable of a keyspace begins.
     fn beginning(&self, id: u64) -> usize {
-        last_end(&self.sealed, id).max(last_end(&self.flushed, id))
+        self.sealed_end(id).max(self.flushed_end(id))
     }
 
     /// Whether the active memtable of a keyspace holds something of these commands.
@@ -82,18 +92,18 @@ impl Work {
 
     /// Whether it takes effect once it is finished: its list of calls goes on, and nothing has taken its memtables meanwhile.
     pub fn is_due(&self, id: u64) -> bool {
-        self.is_out(id) && last_end(&self.out, id) > last_end(&self.flushed, id)
+        self.is_out(id) && last_end(&self.out, id) > self.flushed_end(id)
     }
 
     /// Whether a flush of a keyspace begins.
     pub fn wants_flush(&self, id: u64) -> bool {
-        let is_sealed = last_end(&self.sealed, id) > last_end(&self.flushed, id);
+        let is_sealed = self.sealed_end(id) > self.flushed_end(id);
         is_sealed && !self.is_out(id)
     }
 
     /// Begins a flush of all sealed memtables of a keyspace.
     pub fn begin(&mut self, id: u64) -> Result<()> {
-        let end = last_end(&self.sealed, id);
+        let end = self.sealed_end(id);
         Ok(self.out.push((id, end))?)
     }
 
@@ -142,7 +152,7 @@ impl Work {
     fn is_held(&self, commands: &[Command], homes: &[Home], end: usize) -> bool {
         let mut is_held = false;
         for home in homes {
-            let flushed = last_end(&self.flushed, home.id);
+            let flushed = self.flushed_end(home.id);
             is_held = is_held || is_kept(commands, flushed, end, home.id);
         }
         is_held
@@ -164,7 +174,7 @@ impl Work {
     pub fn open(&mut self, commands: &[Command], homes: &[Home]) -> Result<()> {
         let mut sealed = Vec::new(self.alloc);
         for home in homes {
-            let mut from = last_end(&self.flushed, home.id);
+            let mut from = self.flushed_end(home.id);
             for end in &self.journals {
                 if is_kept(commands, from, *end, home.id) {
                     sealed.push((home.id, *end))?;

@@ -132,5 +132,12 @@ pub fn plan_flush(
     ensures used_up { 0 < length made.now.tables.items → last.now.next_table_id ≡ 2 ^ 64 - 1 → result ≡ Err Error.NumbersUsedUp }
     ensures cause { IfErr result (IsPlanRefusal (view last.now) (flush_of number made.now)) }
 {
-    plan_tables(alloc, keyspace_id, last, number, &made.tables, &made.clears)
+    plan_tables(
+        alloc,
+        keyspace_id,
+        last,
+        number,
+        made.tables(),
+        made.clears(),
+    )
 }

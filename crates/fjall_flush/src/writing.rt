@@ -123,5 +123,5 @@ pub fn write_flush<D: Disk>(disk: &mut D, plan: &FlushPlan, made: &FlushMade) ->
     // At Ok the table's file has its bytes.
     ensures files { IsTrue D.honest → ForPlanned plan.now made.now (λ id next. OnOk result (HaveFiles (D.meaning disk.new) id next made.now.tables.items)) }
 {
-    write_tables(disk, plan, &made.tables)
+    write_tables(disk, plan, made.tables())
 }

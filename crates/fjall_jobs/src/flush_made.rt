@@ -1,5 +1,6 @@
 //! What a flush made.
 
+ghost use Rattle.std.specs.Prelude.{◌≡◌};
 ghost use Rattle.fjall_jobs.specs.Flushes.{flush_task};
 ghost use Rattle.fjall_jobs.specs.Tasks.{IsFlushed};
 
@@ -10,10 +11,54 @@ use crate::made_table::MadeTable;
 /// table or, where there is none, in none; and all clears of the input. Only `FlushJob::run` makes one.
 #[derive(Drop)]
 pub struct FlushMade {
-    pub job: FlushJob,
-    /// It has one table at most.
-    pub tables: Vec<MadeTable>,
-    /// Ascending.
-    pub clears: Vec<u64>,
+    pub(crate) job: FlushJob,
+    pub(crate) tables: Vec<MadeTable>,
+    pub(crate) clears: Vec<u64>,
     ghost made: { ∥ IsFlushed (flush_task job) tables.items clears.items ∥₁ },
+}
+
+impl FlushMade {
+    /// The number of the job.
+    pub fn id(&self) -> u64
+        ensures { result ≡ (flush_task self.now.job).id }
+    {
+        self.job.id()
+    }
+
+    /// The id of the keyspace.
+    pub fn keyspace_id(&self) -> u64
+        ensures { result ≡ (flush_task self.now.job).keyspace }
+    {
+        self.job.keyspace_id()
+    }
+
+    /// The tables that were made, one at most.
+    pub fn tables(&self) -> &[MadeTable]
+        ensures value { result.now ≡ self.now.tables.items }
+    {
+        &self.tables
+    }
+
+    /// The clears of the input, ascending.
+    pub fn clears(&self) -> &[u64]
+        ensures value { result.now ≡ self.now.clears.items }
+    {
+        &self.clears
+    }
+
+    /// Gives the job back, and lets go of what was made.
+    pub fn into_job(self) -> FlushJob
+        ensures { result ≡ self.job }
+    {
+        let FlushMade { job, .. } = self;
+        job
+    }
+
+    /// Gives the tables, and lets go of the job.
+    pub fn into_tables(self) -> Vec<MadeTable>
+        ensures { result ≡ self.tables }
+    {
+        let FlushMade { tables, .. } = self;
+        tables
+    }
 }

@@ -1,5 +1,6 @@
 //! What a merge made.
 
+ghost use Rattle.std.specs.Prelude.{◌≡◌};
 ghost use Rattle.fjall_jobs.specs.Keeping.{AreSorted};
 ghost use Rattle.fjall_jobs.specs.Merges.{IsMerged, merge_task};
 
@@ -11,10 +12,55 @@ use crate::merge_job::MergeJob;
 /// `MergeJob::run` makes one.
 #[derive(Drop)]
 pub struct MergeMade {
-    pub job: MergeJob,
-    pub tables: Vec<MadeTable>,
-    /// Ascending, where those of the job are.
-    pub clears: Vec<u64>,
+    pub(crate) job: MergeJob,
+    pub(crate) tables: Vec<MadeTable>,
+    pub(crate) clears: Vec<u64>,
     // where the job's input is in order, and no key has two versions of one number in it
     ghost made: { ∥ (AreSorted (merge_task job).runs → IsMerged job.target (merge_task job) tables.items clears.items) ∥₁ },
+}
+
+impl MergeMade {
+    /// The number of the job.
+    pub fn id(&self) -> u64
+        ensures { result ≡ (merge_task self.now.job).id }
+    {
+        self.job.id()
+    }
+
+    /// The id of the keyspace.
+    pub fn keyspace_id(&self) -> u64
+        ensures { result ≡ (merge_task self.now.job).keyspace }
+    {
+        self.job.keyspace_id()
+    }
+
+    /// The tables that were made.
+    pub fn tables(&self) -> &[MadeTable]
+        ensures value { result.now ≡ self.now.tables.items }
+    {
+        &self.tables
+    }
+
+    /// The clears that stay of the job's, in their order.
+    pub fn clears(&self) -> &[u64]
+        ensures value { result.now ≡ self.now.clears.items }
+    {
+        &self.clears
+    }
+
+    /// Gives the job back, and lets go of what was made.
+    pub fn into_job(self) -> MergeJob
+        ensures { result ≡ self.job }
+    {
+        let MergeMade { job, .. } = self;
+        job
+    }
+
+    /// Gives the tables, and lets go of the job.
+    pub fn into_tables(self) -> Vec<MadeTable>
+        ensures { result ≡ self.tables }
+    {
+        let MergeMade { tables, .. } = self;
+        tables
+    }
 }

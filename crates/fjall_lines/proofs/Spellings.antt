@@ -14,7 +14,7 @@ use Rattle.hex.specs.Hex.{IsBytes, encode_lower, encode_with, lower_digits}
 use Rattle.fjall_lines.specs.declared.command.Command.{Command}
 use Rattle.fjall_lines.specs.declared.command.Command.TheVariants.{Ask, Crash, Reopen}
 use Rattle.fjall_lines.specs.declared.command.Request.{Request}
-use Rattle.fjall_lines.specs.declared.command.Request.TheVariants.{Keyspace, Delete, Insert, Remove, RemoveWeak, Clear, Batch, Get, Len, Scan, Snapshot, GetAt, CloseSnapshot, Begin, TxGet, TxInsert, Commit, Gc, Rotate, Flush, Persist}
+use Rattle.fjall_lines.specs.declared.command.Request.TheVariants.{Keyspace, Delete, Insert, Remove, RemoveWeak, Clear, Batch, Get, Len, Scan, Snapshot, GetAt, CloseSnapshot, Begin, TxGet, TxInsert, Commit, Gc, Rotate, Flush, Merge, Persist}
 use Rattle.fjall_lines.specs.Lines.{hex_word, request_words, value_word, writes_words, words_of, spelling, IsCommand, IsRequest, IsWrite, Write, Spells, Reads}
 use Rattle.fjall_lines.proofs.Bytes.{or_false, digit, lower_digit}
 
@@ -182,6 +182,7 @@ request_are_words (Commit number) h = with_number (codes "commit") number refl h
 request_are_words Gc h = one (codes "gc") (plain (codes "gc") refl)
 request_are_words (Rotate id) h = with_number (codes "rotate") id refl h
 request_are_words (Flush id) h = with_number (codes "flush") id refl h
+request_are_words (Merge id) h = with_number (codes "merge") id refl h
 request_are_words Persist h = one (codes "persist") (plain (codes "persist") refl)
 
 are_words : (command : Command) → IsCommand command → AreWords (words_of command)

@@ -7,7 +7,7 @@ use Rattle.fjall_base.specs.Pairs.{Bytes}
 use Rattle.fjall_lines.specs.declared.command.Command.{Command}
 use Rattle.fjall_lines.specs.declared.command.Command.TheVariants.{Ask, Crash, Reopen}
 use Rattle.fjall_lines.specs.declared.command.Request.{Request}
-use Rattle.fjall_lines.specs.declared.command.Request.TheVariants.{Keyspace, Delete, Insert, Remove, RemoveWeak, Clear, Batch, Get, Len, Scan, Snapshot, GetAt, CloseSnapshot, Begin, TxGet, TxInsert, Commit, Gc, Rotate, Flush, Persist}
+use Rattle.fjall_lines.specs.declared.command.Request.TheVariants.{Keyspace, Delete, Insert, Remove, RemoveWeak, Clear, Batch, Get, Len, Scan, Snapshot, GetAt, CloseSnapshot, Begin, TxGet, TxInsert, Commit, Gc, Rotate, Flush, Merge, Persist}
 
 -- a line feed ends a line, and so does the end of the text
 abbrev pub lines_of : List ℕ → List (List ℕ)
@@ -58,6 +58,7 @@ request_words (Commit number) = codes "commit" ∷ decimal number ∷ []
 request_words Gc = codes "gc" ∷ []
 request_words (Rotate id) = codes "rotate" ∷ decimal id ∷ []
 request_words (Flush id) = codes "flush" ∷ decimal id ∷ []
+request_words (Merge id) = codes "merge" ∷ decimal id ∷ []
 request_words Persist = codes "persist" ∷ []
 
 -- the words of a command
@@ -96,6 +97,7 @@ IsRequest (Commit number) = number < 2 ^ 64
 IsRequest Gc = Unit {0}
 IsRequest (Rotate id) = id < 2 ^ 64
 IsRequest (Flush id) = id < 2 ^ 64
+IsRequest (Merge id) = id < 2 ^ 64
 IsRequest Persist = Unit {0}
 
 abbrev pub IsCommand : Command → Type 0

@@ -86,6 +86,8 @@ pub enum Request {
     Rotate(u64),
     /// `flush ID`: brings the sealed memtables of a keyspace to a table.
     Flush(u64),
+    /// `merge ID`: brings all tables of a keyspace to others, without the versions that nobody reads any more.
+    Merge(u64),
     /// `persist`: makes all that was written safe.
     Persist,
 }

@@ -201,6 +201,7 @@ fn with_one(alloc: Global, word: &str, other: &str) -> Result<Option<Command>, A
         "clear" => Some(Command::Ask(Request::Clear(number))),
         "rotate" => Some(Command::Ask(Request::Rotate(number))),
         "flush" => Some(Command::Ask(Request::Flush(number))),
+        "merge" => Some(Command::Ask(Request::Merge(number))),
         "len" => Some(Command::Ask(Request::Len(number))),
         "scan" => Some(Command::Ask(Request::Scan(number))),
         "close_snapshot" => Some(Command::Ask(Request::CloseSnapshot(number))),

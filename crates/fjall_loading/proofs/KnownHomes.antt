@@ -1,5 +1,5 @@
 -- Homes that are known stay so while journals are replayed, which changes memory alone, where no memtable is sealed that holds nothing.
-use Rattle.std.proofs.Common.{◌≡◌, ◌==◌, ℕ, Bool, true, false, cond, List, [], ◌∷◌, map, All, Option, None, Some, refl, sym, ◌∙◌, ap, subst, arith}
+use Rattle.std.proofs.Common.{◌≡◌, ◌==◌, ℕ, Bool, true, false, cond, List, [], ◌∷◌, map, All, Option, None, Some, refl, sym, ◌∙◌, ap, arith}
 use Rattle.std.specs.Option.{option_map}
 use Rattle.fjall_base.proofs.Codecs.{some_is}
 use Rattle.fjall_blocks.specs.Readers.{Reader}

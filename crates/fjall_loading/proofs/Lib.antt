@@ -3,4 +3,5 @@ pub mod Turns
 pub mod Opening
 pub mod Opened
 mod Named
+pub mod Listed
 pub mod KnownHomes

@@ -1,8 +1,9 @@
--- The tables of trees that an opening plants are their keyspaces' own, and their ids were given out.
-use Rattle.std.proofs.Common.{◌≡◌, ℕ, zero, suc, ◌<◌, ◌==◌, true, false, List, [], ◌∷◌, get_or, map, All, AllPairs, Option, Some, unwrap_or, refl, sym, ◌∙◌, ap, subst, arith}
+-- The tables of trees that an opening plants are their keyspaces' own, and their ids were given out, each once; the last records list them.
+use Rattle.std.proofs.Common.{◌≡◌, ◌≢◌, ℕ, suc, ◌<◌, true, false, List, [], ◌∷◌, get_or, map, All, AllPairs, Option, Some, unwrap_or, refl, sym, ◌∙◌, ap, subst, arith}
 use Rattle.std.specs.FinMap.{get}
 use Rattle.std.specs.List.{AllByRecursion}
 use Rattle.std.proofs.lemmas.Bool.{eq-eqb}
+use Rattle.std.proofs.lemmas.Simd.{map-map}
 use Rattle.std.proofs.lemmas.List.Elements.{All-cons, All-head, All-map, All-nil, All-tail}
 use Rattle.fjall_base.specs.Disk.{Image}
 use Rattle.fjall_blocks.specs.Readers.{Reader}
@@ -13,9 +14,9 @@ use Rattle.fjall_recovery.specs.Homes.{AreHomesRead, IsRead, no_fields}
 use Rattle.fjall_table.specs.declared.table_info.TableInfo.{TableInfo}
 use Rattle.fjall_tree.specs.Records.{Fields, view}
 use Rattle.fjall_trees.specs.Forests.{Planted}
-use Rattle.fjall_loading.specs.Known.{AreAtHome, IsGiven, LastFields}
+use Rattle.fjall_loading.specs.Known.{AreAtHome, AreListed, IsAtHome, IsGiven, LastFields}
 use Rattle.fjall_loading.specs.Opening.{AreReadersOf, opened, reader_of, record_read}
-use Rattle.fjall_loading.proofs.Opening.{its_readers, last_is_record, other_id, read_first}
+use Rattle.fjall_loading.proofs.Opening.{its_readers, last_is_record, other_id, read_first, readers_infos}
 
 -- ---- one home
 
@@ -24,7 +25,24 @@ readers_given image id next [] [] are given = All-nil (IsGiven id next)
 readers_given image id next [] (r ∷ readers) are given = absurd are
 readers_given image id next (t ∷ tables) [] are given = absurd are
 readers_given image id next (t ∷ tables) (r ∷ readers) are given =
-    All-cons (IsGiven id next) r readers (t.id, given.0.1, given.0.0, ap (λ (s : Reader). s.name) are.0.is) (readers_given image id next tables readers are.1 given.1)
+    All-cons (IsGiven id next) r readers (subst (IsGiven id next) (sym are.0.is) (given.0.1, given.0.0, refl)) (readers_given image id next tables readers are.1 given.1)
+
+-- readers have the ids that their record names
+readers_ids : (image : Image) (id : ℕ) (tables : List TableInfo) (readers : List Reader) → AreReadersOf image id tables readers → map (λ (t : TableInfo). t.id) tables ≡ map (λ (r : Reader). r.info.id) readers
+readers_ids image id tables readers are =
+    ap (map (λ (t : TableInfo). t.id)) (sym (readers_infos image id tables readers are)) ∙ map-map (λ (t : TableInfo). t.id) (λ (r : Reader). r.info) readers
+
+-- the tables of a home that was read are listed
+readers_listed : (image : Image) (id : ℕ) (home : LoadedHome) → (read : IsRead image id home) → AreListed id read.loaded.h.last.next_table_id (map reader_of home.tables.items)
+readers_listed image id home read =
+    let last = read.loaded.h.last in
+    let is = last_is_record image id home read in
+    let readers = map reader_of home.tables.items in
+    let are = its_readers image id home read in
+    record {
+      given = readers_given image id last.next_table_id last.tables readers are (resting.all_given last is);
+      once = subst (AllPairs (λ (a b : ℕ). a ≢ b)) (readers_ids image id last.tables readers are) is.consistent.once;
+    }
 
 -- ---- all of them
 
@@ -58,12 +76,12 @@ all_told image (k ∷ living) (home ∷ homes) up read =
 pub all_named : (image : Image) (living : List LivingKeyspace) (homes : List LoadedHome) (records : LastFields) → AllPairs (λ j k. j.id < k.id) living → AreHomesRead image living homes
     → ((id : ℕ) → get records id ≡ record_read homes id) → AreAtHome records (map opened homes)
 all_named image living homes records up read kept =
-    All-map (λ (k : Planted). All (IsGiven k.id (unwrap_or (get records k.id) no_fields).next_table_id) k.shape.tables) opened homes
+    All-map (λ (k : Planted). IsAtHome records k.id k.shape.tables) opened homes
     (λ i d lt.
     let home = get_or homes i d in
     let told = all_told image living homes up read i d lt in
     let last = told.1.loaded.h.last in
-    let next_is : (unwrap_or (get records home.id) no_fields).next_table_id ≡ last.next_table_id =
-    ap (λ (o : Option Fields). (unwrap_or o no_fields).next_table_id) (kept home.id ∙ told.2) ∙ ap (λ (f : Fields). f.next_table_id) told.1.loaded.record_is in
-    let given = readers_given image told.0.id last.next_table_id last.tables (map reader_of home.tables.items) (its_readers image told.0.id home told.1) (resting.all_given last (last_is_record image told.0.id home told.1)) in
-    subst (λ (n : ℕ × ℕ). All (IsGiven n.0 n.1) (map reader_of home.tables.items)) (λ i. (sym told.1.loaded.named i, sym next_is i)) given)
+    let record_there : unwrap_or (get records home.id) no_fields ≡ last = ap (λ (o : Option Fields). unwrap_or o no_fields) (kept home.id ∙ told.2) ∙ told.1.loaded.record_is in (
+      subst (λ (n : ℕ × ℕ). AreListed n.0 n.1 (map reader_of home.tables.items)) (λ i. (sym told.1.loaded.named i, (sym record_there i).next_table_id)) (readers_listed image told.0.id home told.1),
+      readers_infos image told.0.id last.tables (map reader_of home.tables.items) (its_readers image told.0.id home told.1) ∙ ap (λ (f : Fields). f.tables) (sym record_there),
+    ))

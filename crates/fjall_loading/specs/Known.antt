@@ -1,5 +1,5 @@
 -- What an engine knows of the homes of its keyspaces: the last record of each, and a tree that goes on from it.
-use Rattle.std.specs.Prelude.{◌≡◌, ℕ, ◌<◌, ◌≤◌, ◌^◌, false, List, All, Some, map, unwrap_or}
+use Rattle.std.specs.Prelude.{◌≡◌, ◌≢◌, ℕ, ◌<◌, ◌≤◌, ◌^◌, false, List, All, AllPairs, Some, map, unwrap_or}
 use Rattle.std.specs.Coded.{Coded, codes, coded_ℕ}
 use Rattle.std.specs.Ordering.{nat_cmp}
 use Rattle.std.specs.FinMap.{FinMap, code, get}
@@ -26,13 +26,25 @@ LastFields = FinMap nat_cmp Fields
 abbrev pub last_known : LastFields → LivingKeyspace → Fields
 last_known records k = unwrap_or (get records k.id) (fields (first_of k.number))
 
--- the reader is of a table of the keyspace of this id, and the table's id is below the next one, so that it was given out
+-- the reader is of the table of its own id, of the keyspace of this id, and that id is below the next one, so that it was given out
 abbrev pub IsGiven : (id next : ℕ) → Reader → Type 0
-IsGiven id next reader = (n : ℕ) × (n < next) × (n < 2 ^ 64) × (reader.name ≡ table_name id n)
+IsGiven id next reader = (reader.info.id < next) × (reader.info.id < 2 ^ 64) × (reader.name ≡ table_name id reader.info.id)
 
--- each table of these trees is one of its own keyspace's, whose id was given out, as the last records tell
+-- These are tables of the keyspace of this id, in files of their own: each has an id that was given out, and no two have the same one.
+pub record AreListed (id next : ℕ) (tables : List Reader) : Type 0 where
+  pub given : All (IsGiven id next) tables
+  pub once : AllPairs (λ a b. a ≢ b) (map (λ t. t.info.id) tables)
+
+-- These tables are the keyspace's own, and their ids were given out, each once, as the last record of that keyspace tells, which lists
+-- them in the same order.
+abbrev pub IsAtHome : LastFields → ℕ → List Reader → Type 0
+IsAtHome records id tables =
+    let last = unwrap_or (get records id) no_fields in
+    AreListed id last.next_table_id tables × (map (λ t. t.info) tables ≡ last.tables)
+
+-- so those of each of these trees
 abbrev pub AreAtHome : LastFields → Forest → Type 0
-AreAtHome records trees = All (λ k. All (IsGiven k.id (unwrap_or (get records k.id) no_fields).next_table_id) k.shape.tables) trees
+AreAtHome records trees = All (λ k. IsAtHome records k.id k.shape.tables) trees
 
 -- A tree goes on where a record ends: its tables are those of the record, in the same order, it has the record's clears, what it has in
 -- memory is numbered beyond the persisted number, and each sealed memtable holds something.

@@ -157,7 +157,7 @@ pub fn open_homes(
     // Over a disk from which the homes were read, each tree is over the tables there, also where a block of them is wrong.
     ensures opened { (disk : Meaning) (c : Contents) → IsOpenable (seen disk) c → c.keyspaces ≡ keyspaces.now → AreHomesRead (seen disk) keyspaces.now.living homes.items
         → IfOk result (λ o. All (IsOpenedOn disk c) (forest_of o.trees)) }
-    // Each table is one of its keyspace's, and its id was given out.
+    // Each table is the one of its own id in its keyspace's folder, and its id was given out, to no other table of the keyspace.
     ensures named { (image : Image) → AreHomesRead image keyspaces.now.living homes.items → IfOk result (λ o. AreAtHome o.records (forest_of o.trees)) }
     // Where the tables have some entries, but for wrong blocks, they are read there as tables of these.
     ensures reads { (disk : Meaning) (c : Contents) → IsOpenable (seen disk) c → c.keyspaces ≡ keyspaces.now → AreHomesRead (seen disk) keyspaces.now.living homes.items

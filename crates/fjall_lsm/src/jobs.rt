@@ -169,7 +169,7 @@ impl Tree {
         let Some(out) = &self.flush else {
             return Ok(false);
         };
-        if made.job.id() != out.id {
+        if made.id() != out.id {
             return Ok(false);
         }
         let count = out.count;
@@ -211,6 +211,8 @@ impl Tree {
         ensures none { IfOk result (λ job. (job ≡ None) ↔ MergesNothing least (shape_of self.old)) }
         ensures job { IsTrue D.honest → (entries : List (List Entry)) → ReadsAll (D.meaning disk.old) (shape_of self.old) entries
             → IfOk result (λ job. IfSome job (λ job. merge_task job ≡ merge_of id keyspace_id watermark entries (shape_of self.old).clears)) }
+        // What the job is told over any disk, but for what the tables hold.
+        ensures named { IfOk result (λ job. IfSome job (λ job. merge_task job ≡ merge_of id keyspace_id watermark (merge_task job).runs (shape_of self.old).clears)) }
         ensures target { IfOk result (λ job. IfSome job (λ job. job.target ≡ target)) }
         ensures begun { IfOk result (λ job. IfSome job (λ _. IsSameShape (merge_begun id watermark (shape_of self.old)) (shape_of self.new))) }
         ensures out { IsTrue D.honest → (entries : List (List Entry)) → ReadsAll (D.meaning disk.old) (shape_of self.old) entries
@@ -256,7 +258,7 @@ impl Tree {
         let Some(out) = self.merge else {
             return Ok(false);
         };
-        if made.job.id() != out.id {
+        if made.id() != out.id {
             return Ok(false);
         }
         put_in_place(&mut self.tables, out.tables, tables)?;

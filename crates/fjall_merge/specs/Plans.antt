@@ -1,5 +1,5 @@
 -- A merge that is planned: all that is to be written of it, and for which trees.
-use Rattle.std.specs.Prelude.{◌≡◌, ◌≢◌, ◌⊎◌, ⊤, ℕ, ◌+◌, ◌-◌, ◌<◌, ◌≤◌, ◌^◌, All, List, [], ◌∷◌, length, map, String, string_bytes, take}
+use Rattle.std.specs.Prelude.{◌≡◌, ◌⊎◌, ⊤, ℕ, ◌+◌, ◌-◌, ◌<◌, ◌≤◌, ◌^◌, List, [], ◌∷◌, length, map, String, string_bytes, take}
 use Rattle.std.specs.declared.alloc.Global.{Global}
 use Rattle.fjall_base.specs.declared.error.Error.{Error}
 use Rattle.fjall_base.specs.declared.error.Error.TheVariants.{NumbersUsedUp, OutOfMemory, TooManyItems}
@@ -16,7 +16,6 @@ use Rattle.fjall_recovery.specs.Halves.{Tree}
 use Rattle.fjall_recovery.specs.Places.{LiesInTree}
 use Rattle.fjall_sorted.specs.Sorted.{flat}
 use Rattle.fjall_table.specs.Blocks.{Entry}
-use Rattle.fjall_table.specs.declared.table_info.TableInfo.{TableInfo}
 use Rattle.fjall_tree.specs.Records.{Fields, Fits, IsRecord, body, record_text, view}
 use Rattle.fjall_merge.specs.declared.plan.MergePlan.{MergePlan}
 use Rattle.fjall_merge.specs.Merges.{Merge, Merges, home_after, infos_from, record_after, tree_after}
@@ -57,10 +56,6 @@ pub record AreReadersOf (id next : ℕ) (tables : List MadeTable) (readers : Lis
 -- Each table of the keyspace of this id stands in sight as it did, but those of so many ids from this one on.
 abbrev pub KeepsTables : (id next count : ℕ) → Meaning → Meaning → Type 0
 KeepsTables id next count old new = (n : ℕ) → n < 2 ^ 64 → (n < next) ⊎ (next + count ≤ n) → (state_in new (table_name id n)).now ≡ (state_in old (table_name id n)).now
-
--- Each table of the keyspace of this id stands in sight as it did, but these.
-abbrev pub KeepsOthers : ℕ → List TableInfo → Meaning → Meaning → Type 0
-KeepsOthers id tables old new = (n : ℕ) → n < 2 ^ 64 → All (λ t. (t.id < 2 ^ 64) × (t.id ≢ n)) tables → (state_in new (table_name id n)).now ≡ (state_in old (table_name id n)).now
 
 -- No folder has the name of a table of the keyspace of this id.
 abbrev pub HasNoTableFolder : Meaning → ℕ → Type 0

@@ -104,19 +104,19 @@ pub fn plan_merge(
     ensures ok { IfOk result (IsPlan keyspace_id (view last.now) (merge_of input made.now)) }
     ensures cause { IfErr result (IsPlanRefusal (view last.now) (merge_of input made.now)) }
 {
-    let count = made.tables.len() as u64;
-    let Some(next_table_id) = last.next_table_id.checked_add(count) else {
+    let tables = made.tables();
+    let Some(next_table_id) = last.next_table_id.checked_add(tables.len() as u64) else {
         return Err(Error::NumbersUsedUp);
     };
     let mut clears = Vec::new(alloc);
-    clears.extend_from_slice(&made.clears)?;
+    clears.extend_from_slice(made.clears())?;
     clears.extend_from_slice(behind(&last.clears, input.1))?;
     let record = Record {
         persisted: last.persisted,
         highest: last.highest,
         next_table_id,
         next_keyspace_id: last.next_keyspace_id,
-        tables: next_tables(alloc, last, input.0, &made.tables)?,
+        tables: next_tables(alloc, last, input.0, tables)?,
         clears,
     };
     let mut record_text = Vec::new(alloc);
@@ -126,7 +126,7 @@ pub fn plan_merge(
         record_text,
         folder: keyspace_folder(alloc, keyspace_id)?,
         current: current_name(alloc, keyspace_id)?,
-        files: new_files(alloc, keyspace_id, last.next_table_id, &made.tables)?,
+        files: new_files(alloc, keyspace_id, last.next_table_id, tables)?,
         taken: table_files(alloc, keyspace_id, first(&last.tables, input.0))?,
     })
 }

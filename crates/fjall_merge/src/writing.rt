@@ -1,9 +1,9 @@
 //! A merge on the disk: its tables, the record that puts them in the place of others, and the removal of these.
 
-ghost use Rattle.std.specs.Prelude.{◌≡◌, ◌≢◌, ◌⊎◌, [], IsTrue, OnOk, length, map, take, true};
+ghost use Rattle.std.specs.Prelude.{◌≡◌, ◌≢◌, ◌⊎◌, [], ℕ, List, All, IsTrue, OnOk, length, map, string_bytes, true};
 ghost use Rattle.fjall_base.specs.Disk.{CanCreate, File, LeavesOnly, LeavesOnlyBy, Name, OnlyFaults, folder_of, state_in};
 ghost use Rattle.fjall_files.specs.Calls.{AllServed};
-ghost use Rattle.fjall_files.specs.Names.{keyspace_folder};
+ghost use Rattle.fjall_files.specs.Names.{keyspace_folder, table_name};
 ghost use Rattle.fjall_files.specs.Regions.{Within, is_under};
 ghost use Rattle.fjall_files.specs.Tidy.{FitsAt, StaysTidy};
 ghost use Rattle.fjall_flush.specs.Plans.{HaveFiles, IsPut};
@@ -11,7 +11,7 @@ ghost use Rattle.fjall_home.specs.Changes.{AreGone};
 ghost use Rattle.fjall_home.specs.Homes.{HasHome, SyncedStays};
 ghost use Rattle.fjall_recovery.specs.Halves.{HasTree};
 ghost use Rattle.fjall_recovery.specs.Places.{LiesInTree};
-ghost use Rattle.fjall_merge.specs.Plans.{ForHomeOn, ForMergeOn, ForPlan, ForTaken, ForTakenOn, HasNoTableFolder, KeepsOthers, KeepsTables};
+ghost use Rattle.fjall_merge.specs.Plans.{ForHomeOn, ForMergeOn, ForPlan, ForTaken, ForTakenOn, HasNoTableFolder, KeepsTables};
 
 use crate::plan::MergePlan;
 use fjall_base::{Disk, Result};
@@ -95,7 +95,8 @@ pub fn write_merge<D: Disk>(disk: &mut D, plan: &MergePlan, tables: &[MadeTable]
 /// Removes the tables that a merge took, which the keyspace's last record names no more. A crash may bring each of them back; they mean
 /// nothing then. It takes no memory. The names are those that were planned.
 pub fn remove_taken<D: Disk>(disk: &mut D, taken: &[String]) -> Result<()>
-    ensures within { IsTrue D.honest → ForTaken taken.now (λ id last m. Within (keyspace_folder id) (D.meaning disk.old) (D.meaning disk.new)) }
+    ensures within { IsTrue D.honest → (id : ℕ) (ids : List ℕ) → map string_bytes taken.now ≡ map (table_name id) ids
+        → Within (keyspace_folder id) (D.meaning disk.old) (D.meaning disk.new) }
     // A crash at any moment of the call leaves the tree after the merge, which lies there also where the call fails.
     ensures any_moment { IsTrue D.honest → ForTakenOn (D.meaning disk.old) taken.now (λ records t.
         LeavesOnly (D.meaning disk.old) (D.meaning disk.new) (λ image. HasTree image t)) }
@@ -103,10 +104,11 @@ pub fn remove_taken<D: Disk>(disk: &mut D, taken: &[String]) -> Result<()>
     ensures served { IsTrue D.honest → ForTaken taken.now (λ id last m. HasNoTableFolder (D.meaning disk.old) id → AllServed (D.meaning disk.old) (D.meaning disk.new)) }
     ensures cause { OnlyFaults (D.meaning disk.old) (D.meaning disk.new) result }
     ensures kinds { IsTrue D.honest → StaysTidy (D.meaning disk.old) (D.meaning disk.new) }
-    // In sight each table of the keyspace that the merge doesn't take stands as it did, whatever lies on the disk.
-    ensures beside { IsTrue D.honest → ForTaken taken.now (λ id last m. KeepsOthers id (take m.table_count last.tables) (D.meaning disk.old) (D.meaning disk.new)) }
+    // In sight nothing changes but these names.
+    ensures beside { IsTrue D.honest → (q : Name) → All (λ name. q ≢ string_bytes name) taken.now → (state_in (D.meaning disk.new) q).now ≡ (state_in (D.meaning disk.old) q).now }
     // At Ok those that it takes are gone.
-    ensures gone { IsTrue D.honest → ForTaken taken.now (λ id last m. OnOk result (AreGone (state_in (D.meaning disk.new)) id (map (λ t. t.id) (take m.table_count last.tables)))) }
+    ensures gone { IsTrue D.honest → (id : ℕ) (ids : List ℕ) → map string_bytes taken.now ≡ map (table_name id) ids
+        → OnOk result (AreGone (state_in (D.meaning disk.new)) id ids) }
 {
     remove_tables(disk, taken)
 }

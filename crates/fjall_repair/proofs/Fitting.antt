@@ -1,5 +1,5 @@
 -- What was read of journals has sizes that trees take, and the numbers of a folder are below 2^63.
-use Rattle.std.proofs.Common.{◌≡◌, inl, inr, ℕ, ◌+◌, ◌<◌, ◌≤◌, ◌^◌, List, [], ◌∷◌, ◌++◌, length, map, All, Option, None, Some, sym, ◌∙◌, ap, subst, arith}
+use Rattle.std.proofs.Common.{◌≡◌, inl, inr, ℕ, ◌+◌, ◌<◌, ◌≤◌, ◌^◌, List, [], ◌∷◌, ◌++◌, length, map, All, Option, None, Some, arith}
 use Rattle.std.proofs.lemmas.List.Elements.{All-from_recursion, All-head, All-tail, All-weaker}
 use Rattle.std.specs.List.{AllByRecursion}
 use Rattle.std.specs.Prelude.{IfSome}
@@ -9,14 +9,13 @@ use Rattle.fjall_journal.specs.declared.entry.Entry.{Entry}
 use Rattle.fjall_journal.specs.declared.entry.Entry.TheVariants.{Start, Item, End, Clear}
 use Rattle.fjall_journal.specs.declared.entry.ValueType.{ValueType}
 use Rattle.fjall_journal.specs.declared.entry.ValueType.TheVariants.{Value, Tombstone, WeakTombstone, Indirection}
-use Rattle.fjall_journal.specs.Batches.{IsChange, IsWritten, Shown, Written, items_of, shown, view}
+use Rattle.fjall_journal.specs.Batches.{IsChange, IsWritten, Shown, Written, items_of, shown}
 use Rattle.fjall_tree.specs.Records.{Fields}
 use Rattle.fjall_table.specs.Blocks.{IsEntry, value_bytes}
 use Rattle.fjall_versions.specs.Replays.{fault_of, first_fault, least_after, value_of}
 use Rattle.fjall_versions.specs.Views.{entry_of}
 use Rattle.fjall_versions.proofs.Viewing.{no_fault, number_fits}
-use Rattle.fjall_recovery.specs.declared.folder.RecoveredFolder.{RecoveredFolder}
-use Rattle.fjall_recovery.specs.Folders.{IsFinished, past, past_records}
+use Rattle.fjall_recovery.specs.Folders.{past, past_records}
 use Rattle.fjall_recovery.specs.Journals.{AreRead, Journal, batches_in}
 use Rattle.fjall_replay.specs.Replayed.{MayReplay}
 use Rattle.fjall_repair.specs.Opened.{HasNumbers, HasSizes, IsFit}

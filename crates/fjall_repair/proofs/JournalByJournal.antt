@@ -1,5 +1,5 @@
 -- The journals of a folder, taken one after another as they were read before.
-use Rattle.std.proofs.Common.{◌≡◌, ◌⊎◌, ◌↔◌, inl, inr, ℕ, ◌+◌, ◌-◌, ◌<◌, ◌≤◌, Bool, false, true, IsTrue, IfErr, IfOk, List, [], ◌∷◌, ◌++◌, length, get_or, map, take, drop, All, Option, Some, None, Result, Ok, Err, refl, sym, ◌∙◌, ap, subst, arith}
+use Rattle.std.proofs.Common.{◌≡◌, ◌↔◌, ℕ, ◌+◌, ◌-◌, ◌<◌, ◌≤◌, Bool, false, IsTrue, IfErr, IfOk, List, [], ◌∷◌, ◌++◌, length, get_or, map, take, drop, All, Option, Some, None, Result, Ok, Err, refl, sym, ◌∙◌, ap, subst, arith}
 use Rattle.std.specs.List.{AllByRecursion, flat_map}
 use Rattle.std.proofs.lemmas.Bool.{true≢false}
 use Rattle.std.proofs.lemmas.List.{append-nil, drop_more, get_or-append-add, get_or-map, get_or_append_left, length-append, length-map, map-append, take_more, take-append-drop}
@@ -8,10 +8,8 @@ use Rattle.std.proofs.Math.Seq.{get_or-append_seam, take-append_seam}
 use Rattle.fjall_base.specs.Disk.{Image}
 use Rattle.fjall_base.specs.declared.error.Error.{Error}
 use Rattle.fjall_base.specs.declared.error.Error.TheVariants.{InvalidTag, Unrecoverable}
-use Rattle.fjall_journal.specs.declared.batch.Batch.{Batch}
-use Rattle.fjall_journal.specs.declared.batch.Tail.TheVariants.{Clean}
-use Rattle.fjall_journal.specs.Batches.{IsTail, IsWhole, IsWritten, Shown, Written, batch_text, shown, view}
-use Rattle.fjall_recovery.specs.Journals.{AreRead, EndsAt, IsSealed, Journal, ReadsAs, batches_in, journal_text}
+use Rattle.fjall_journal.specs.Batches.{IsWritten, Shown, Written, batch_text, shown}
+use Rattle.fjall_recovery.specs.Journals.{AreRead, EndsAt, IsSealed, Journal, batches_in, journal_text}
 use Rattle.fjall_recovery.specs.Refusals.{HasRisen}
 use Rattle.fjall_recovery.proofs.Gathering.{batches-append}
 use Rattle.fjall_trees.specs.Forests.{AreBefore, Forest}

@@ -1,5 +1,5 @@
 -- The trees of what was opened: their tables stay on the disk, which an opening leaves them on as they were.
-use Rattle.std.proofs.Common.{◌≡◌, ℕ, ◌<◌, ◌≤◌, Bool, true, false, cond, List, [], ◌∷◌, get_or, map, All, Option, None, Some, unwrap_or, refl, sym, ◌∙◌, ap, subst, arith}
+use Rattle.std.proofs.Common.{◌≡◌, ℕ, ◌<◌, ◌≤◌, Bool, false, cond, List, [], ◌∷◌, get_or, map, All, Option, None, Some, refl, sym, ◌∙◌, ap, subst, arith}
 use Rattle.std.proofs.lemmas.List.Elements.{All-cons, All-head, All-nil, All-tail}
 use Rattle.std.proofs.lemmas.Option.{get_or_from_slice_get, slice_get_within}
 use Rattle.std.specs.FinMap.{get}
@@ -7,7 +7,7 @@ use Rattle.fjall_base.specs.Disk as disk
 use Rattle.fjall_base.specs.Disk.{Image, Meaning, Name, State, state_in}
 use Rattle.fjall_files.specs.Calls.{seen}
 use Rattle.fjall_files.specs.Names.{table_name}
-use Rattle.fjall_journal.specs.Batches.{Shown, shown, view}
+use Rattle.fjall_journal.specs.Batches.{shown}
 use Rattle.fjall_table.specs.declared.table_info.TableInfo.{TableInfo}
 use Rattle.fjall_table.specs.Blocks.{Entry}
 use Rattle.fjall_table.specs.Files.{entry_at}
@@ -18,7 +18,6 @@ use Rattle.fjall_meta.specs.Keyspaces.{Keyspaces, keyspace_at, no_keyspaces}
 use Rattle.fjall_catalog.specs.Catalog.{first_catalog}
 use Rattle.fjall_lsm.specs.Trees.{ReadsAll, Shape}
 use Rattle.fjall_contents.specs.Contents.{AreWithin, IsWithin, Stored, is_beyond, store_held as store_beyond}
-use Rattle.fjall_versions.specs.declared.recovery.Persisted.{Persisted}
 use Rattle.fjall_trees.specs.Forests.{Forest, Planted}
 use Rattle.fjall_trees.specs.Tables.{AreReadOn}
 use Rattle.fjall_trees.specs.Views.{forest_of}
@@ -30,11 +29,11 @@ use Rattle.fjall_replay.specs.Replayed.{AreTold}
 use Rattle.fjall_replay.proofs.Behind.{replayed_store_beside}
 use Rattle.fjall_recovery.specs.declared.folder.RecoveredFolder.{RecoveredFolder}
 use Rattle.fjall_recovery.specs.Folders.{Contents, IsFinished, IsOpenable, Shows, store_of}
-use Rattle.fjall_recovery.specs.Homes.{HasHomeAt, HaveVersions, Homes, no_fields, stored_in}
+use Rattle.fjall_recovery.specs.Homes.{HasHomeAt, HaveVersions, Homes, stored_in}
 use Rattle.fjall_recovery.specs.Journals.{batches_in}
 use Rattle.fjall_recovery.proofs.Shown.{all_within}
 use Rattle.fjall_loading.specs.Opening.{AreReadersOf, HaveEntries, IsOpenedOn, stored_entries, stored_with}
-use Rattle.fjall_loading.specs.Known.{AreAtHome, IsGiven, IsKnown}
+use Rattle.fjall_loading.specs.Known.{AreAtHome, IsAtHome, IsKnown}
 use Rattle.fjall_loading.proofs.KnownHomes.{known_still}
 use Rattle.fjall_loading.proofs.Opening.{other_id}
 use Rattle.fjall_repair.specs.declared.opened.Opened.{Opened}
@@ -149,7 +148,7 @@ module _ (old new : Meaning) (found : RecoveredFolder) (c : Contents) (active : 
   stay = files_stay old new c takes.loaded kept each
 
   named : AreAtHome o.records (forest_of o.trees)
-  named = rest_tables (λ id tables. All (IsGiven id (unwrap_or (get o.records id) no_fields).next_table_id) tables) takes.loaded (forest_of o.trees) takes.takes.rest takes.named
+  named = rest_tables (IsAtHome o.records) takes.loaded (forest_of o.trees) takes.takes.rest takes.named
 
   unused : (entries : ℕ → List (List Entry)) → ((id : ℕ) → get c.homes id ≡ None → entries id ≡ []) → (id : ℕ) → o.keyspaces.next ≤ id → entries id ≡ []
   unused entries none id le = none id (no_home (seen old) c openable id (subst (λ (s : Keyspaces). s.next ≤ id) (takes.takes.keyspaces ∙ shows.keyspaces) le))
@@ -210,7 +209,7 @@ makes_nothing disk active o takes =
     record {
       entries = λ id. [];
       on = subst (λ (trees : Forest). AreReadOn disk trees (λ id. [])) none (All-nil (λ (k : Planted). ReadsAll disk k.shape []));
-      named = subst (AreAtHome o.records) none (All-nil (λ (k : Planted). All (IsGiven k.id (unwrap_or (get o.records k.id) no_fields).next_table_id) k.shape.tables));
+      named = subst (AreAtHome o.records) none (All-nil (λ (k : Planted). IsAtHome o.records k.id k.shape.tables));
       right = subst (All (λ k. SomeTableIsWrong disk k.shape.tables → ⊥)) none (All-nil (λ (k : Planted). SomeTableIsWrong disk k.shape.tables → ⊥));
       unused = λ id le. refl;
       made = ap (λ (s : Keyspaces). store_with (λ id. []) s (forest_of o.trees)) takes.keyspaces;

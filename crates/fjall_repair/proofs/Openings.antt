@@ -1,21 +1,19 @@
 -- What was opened, and the disk until then.
-use Rattle.std.proofs.Common.{◌≡◌, ◌⊎◌, inl, inr, ℕ, zero, suc, ◌<◌, ◌≤◌, ◌^◌, ◌==◌, Bool, true, false, if◌then◌else◌, max, List, [], ◌∷◌, length, get_or, map, All, Option, None, Some, unwrap_or, Result, Ok, Err, refl, sym, ◌∙◌, ap, subst, arith}
+use Rattle.std.proofs.Common.{◌≡◌, ◌⊎◌, inl, inr, ℕ, zero, suc, ◌<◌, ◌≤◌, ◌^◌, ◌==◌, Bool, true, false, if◌then◌else◌, max, List, [], ◌∷◌, length, get_or, map, All, Option, None, Some, Result, Ok, Err, refl, sym, ◌∙◌, ap, subst, arith}
 use Rattle.std.specs.List.{AllByRecursion}
 use Rattle.std.proofs.lemmas.List.Elements.{All-from_recursion, All-nil}
 use Rattle.std.specs.Prelude.{IfOk, IfErr, IfSome}
-use Rattle.std.specs.FinMap.{get}
 use Rattle.fjall_base.specs.Disk.{Name, State, Image, Survives, LeavesBy, LeavesOnly, Meaning, Took, standing, state_in}
 use Rattle.fjall_base.specs.declared.error.Error.{Error}
 use Rattle.fjall_base.specs.declared.error.Error.TheVariants.{Io, OutOfMemory, Storage, Unrecoverable}
 use Rattle.fjall_base.specs.declared.error.StorageError.TheVariants.{TableDamaged}
 use Rattle.fjall_base.proofs.Moments.{started}
 use Rattle.fjall_files.proofs.Made.{took_both}
-use Rattle.fjall_journal.specs.Batches.{Shown, Written, shown}
+use Rattle.fjall_journal.specs.Batches.{Written, shown}
 use Rattle.fjall_meta.specs.Keyspaces.{Keyspaces, no_keyspaces}
 use Rattle.fjall_journal.specs.Writer.{Journal}
 use Rattle.fjall_files.specs.Names.{journal_name}
-use Rattle.fjall_versions.specs.declared.recovery.Persisted.{Persisted}
-use Rattle.fjall_versions.specs.Replays.{first_fault, least_after}
+use Rattle.fjall_versions.specs.Replays.{least_after}
 use Rattle.fjall_contents.specs.Contents.{store_held as store_beyond}
 use Rattle.fjall_maps.specs.Tables.{store_with}
 use Rattle.fjall_table.specs.Blocks.{Entry}
@@ -37,8 +35,8 @@ use Rattle.fjall_home.proofs.Resting.{last_has}
 use Rattle.fjall_recovery.specs.Folders.{Contents, IsFinished, IsOpenable, IsSound, IsUnfinished, Shows, StandsFor, number_of, past, past_record, past_records, store_of}
 use Rattle.fjall_recovery.specs.declared.folder.RecoveredFolder.{RecoveredFolder}
 use Rattle.fjall_home.specs.declared.reading.LoadedHome.{LoadedHome}
-use Rattle.fjall_recovery.specs.Homes.{AreHomesRead, lasts, no_fields, stored_in}
-use Rattle.fjall_loading.specs.Known.{AreAtHome, IsGiven}
+use Rattle.fjall_recovery.specs.Homes.{AreHomesRead, lasts, stored_in}
+use Rattle.fjall_loading.specs.Known.{AreAtHome, IsAtHome}
 use Rattle.fjall_recovery.specs.Refusals.{FolderRefuses, HasRisen, IsDue, IsOpeningRefusal}
 use Rattle.fjall_journal.proofs.Writing.{took_none}
 use Rattle.fjall_files.specs.declared.marker.Marker.TheVariants.{Whole, Unfinished}
@@ -264,7 +262,7 @@ begun_from old new (Ok o) is keyspaces trees number = record {
   folder = None;
   is = is;
   number = number;
-  named = subst (AreAtHome o.records) (sym trees) (All-nil (λ (k : Planted). All (IsGiven k.id (unwrap_or (get o.records k.id) no_fields).next_table_id) k.shape.tables));
+  named = subst (AreAtHome o.records) (sym trees) (All-nil (λ (k : Planted). IsAtHome o.records k.id k.shape.tables));
   reads = λ entries none. record {
     on = subst (λ (f : Forest). AreReadOn new f entries) (sym trees) (All-nil (λ (k : Planted). ReadsAll new k.shape (entries k.id)));
     store = ap (λ (s : Keyspaces). store_with entries s (forest_of o.trees)) keyspaces;

@@ -76,11 +76,13 @@ module _ (s : Keyspaces) (trees : Forest) (ids : ids_of trees ≡ map (λ (k : L
 abbrev resting : Planted → Planted
 resting k = record { id = k.id; shape = unwritten k.shape }
 
--- trees that differ in memory alone have the same flushes out
-pub rest_flushes : (old new : Forest) → all_unwritten new ≡ all_unwritten old → All (λ k. k.shape.flush ≡ None) old → All (λ k. k.shape.flush ≡ None) new
-rest_flushes old new same all =
-    unmapped (λ (k : Planted). k.shape.flush ≡ None) resting new
-    (subst (All (λ (k : Planted). k.shape.flush ≡ None)) (sym same) (All-map (λ (k : Planted). k.shape.flush ≡ None) resting old all))
+-- no flush and no merge is out of the tree
+abbrev pub IsStill : Planted → Type 0
+IsStill k = (k.shape.flush ≡ None) × (k.shape.merge ≡ None)
+
+-- trees that differ in memory alone have the same flushes and merges out
+pub rest_still : (old new : Forest) → all_unwritten new ≡ all_unwritten old → All IsStill old → All IsStill new
+rest_still old new same all = unmapped IsStill resting new (subst (All IsStill) (sym same) (All-map IsStill resting old all))
 
 -- and the same tables
 pub rest_tables : (Q : ℕ → List Reader → Type 0) (old new : Forest) → all_unwritten new ≡ all_unwritten old → All (λ k. Q k.id k.shape.tables) old → All (λ k. Q k.id k.shape.tables) new

@@ -20,7 +20,7 @@ use Rattle.fjall_meta.specs.Keyspaces.{Keyspaces}
 use Rattle.fjall_contents.specs.Contents.{AreWithin, Stored}
 use Rattle.fjall_parts.specs.Parts.{Held, holds_nothing}
 use Rattle.fjall_replay.specs.Beside.{AreReplayedWith, all_at_rest}
-use Rattle.fjall_replay.specs.Parted.{ActivesEmpty, ActivesPass, AllPass, ArePartedBy, AreUnwritten, HasSealed, IsPartedBy, all_unwritten}
+use Rattle.fjall_replay.specs.Parted.{ActivesEmpty, ActivesPass, ArePartedBy, AreUnwritten, HasSealed, IsPartedBy, all_unwritten}
 use Rattle.fjall_replay.specs.Replayed.{AreTold, ids_of}
 use Rattle.fjall_replay.proofs.Parting.{empty_pass, same_unwritten, seals_all, sealed_unwritten, still_sealed, unwritten_empty, unwritten_sealed}
 use Rattle.fjall_table.specs.Blocks.{Entry}

@@ -9,7 +9,6 @@ use Rattle.fjall_base.specs.declared.error.Error.TheVariants.{Io, OutOfMemory}
 use Rattle.fjall_base.specs.Store.{Store}
 use Rattle.fjall_files.specs.Calls.{seen}
 use Rattle.fjall_files.specs.Names.{journal_name, table_name}
-use Rattle.fjall_journal.specs.declared.batch.Batch.{Batch}
 use Rattle.fjall_journal.specs.declared.batch.ReadBatchItem.{ReadBatchItem}
 use Rattle.fjall_journal.specs.Batches.{Shown, shown}
 use Rattle.fjall_manager.specs.Journals.{Sealed}
@@ -25,18 +24,16 @@ use Rattle.fjall_table.specs.Blocks.{Entry}
 use Rattle.fjall_table.specs.Files.{entry_at}
 use Rattle.fjall_blocks.specs.Readers.{SomeTableIsWrong}
 use Rattle.fjall_home.specs.Homes.{Home}
-use Rattle.fjall_contents.specs.Contents.{AreWithin, Stored, store_held as store_beyond}
+use Rattle.fjall_contents.specs.Contents.{store_held as store_beyond}
 use Rattle.fjall_maps.specs.Tables.{store_with}
 use Rattle.fjall_replay.specs.Beside.{AreReplayedWith}
 use Rattle.fjall_replay.specs.Parted.{ArePartedBy, all_unwritten}
-use Rattle.fjall_replay.specs.Replayed.{AreTold}
 use Rattle.fjall_loading.specs.Known.{AreAtHome, IsKnown}
 use Rattle.fjall_loading.specs.Opening.{HaveEntries, stored_with}
 use Rattle.fjall_trees.specs.Forests.{AreBefore, Forest, IsForest, tree_at}
 use Rattle.fjall_trees.specs.Views.{forest_of}
 use Rattle.fjall_trees.specs.Tables.{AreReadOn}
 use Rattle.fjall_versions.specs.Replays.{bare}
-use Rattle.fjall_versions.specs.declared.recovery.Persisted.{Persisted}
 use Rattle.fjall_recovery.specs.declared.folder.RecoveredFolder.{RecoveredFolder}
 use Rattle.fjall_recovery.specs.Folders.{Contents, number_of, store_of}
 use Rattle.fjall_recovery.specs.Journals.{Journal, batches_in}
@@ -82,9 +79,9 @@ pub record Opens (disk : Meaning) (folder : Option Contents) (o : Opened) : Type
 
 -- Keyspaces were made, and all in memory was changed, under lesser numbers than the next one, which is at most 2^63. The trees are
 -- of ids that were given out, and each keyspace that lives has one. The numbers of the sealed journals ascend, and the active one's
--- is greater. Of each keyspace that lives the last record is kept, and none of an id that isn't given out. No flush is out of a tree.
--- What the sealed journals have of it is sealed: all in its sealed memtables is numbered up to some watermark of theirs, and nothing in
--- the active one is.
+-- is greater. Of each keyspace that lives the last record is kept, and none of an id that isn't given out. No flush and no merge is out
+-- of a tree. What the sealed journals have of it is sealed: all in its sealed memtables is numbered up to some watermark of theirs, and
+-- nothing in the active one is.
 pub record IsLawful (o : Opened) : Type 0 where
   pub keyspaces : AreKeyspaces o.keyspaces
   pub made : All (λ k. k.number < o.number) o.keyspaces.living
@@ -97,7 +94,7 @@ pub record IsLawful (o : Opened) : Type 0 where
   pub numbered : IsStrictlyIncreasing (map (λ journal. journal.id) o.sealed ++ o.active ∷ [])
   pub recorded : All (λ k. is_some (get o.records k.id) ≡ true) o.keyspaces.living
   pub kept : (id : ℕ) → o.keyspaces.next ≤ id → get o.records id ≡ None
-  pub still : All (λ k. k.shape.flush ≡ None) (forest_of o.trees)
+  pub still : All (λ k. (k.shape.flush ≡ None) × (k.shape.merge ≡ None)) (forest_of o.trees)
   pub parted : ArePartedBy (some_reaches o.sealed) (forest_of o.trees)
 
 -- This is opened: a writer at the end of the active journal, what the last record of tree 0 says, the keyspaces that live, and

@@ -1,5 +1,5 @@
 -- The journals of a folder, replayed one after another: what the sealed ones have is sealed behind each of them.
-use Rattle.std.specs.Prelude.{◌≡◌, ℕ, ◌<◌, ◌≤◌, Bool, true, false, not, List, [], length, map, take, slice_get, All, Option, None, Some}
+use Rattle.std.specs.Prelude.{◌≡◌, ℕ, ◌<◌, ◌≤◌, Bool, false, not, List, [], length, map, take, slice_get, All, Option, None, Some}
 use Rattle.std.specs.List.{flat_map}
 use Rattle.fjall_base.specs.Disk.{Image, Meaning}
 use Rattle.fjall_journal.specs.Batches.{Shown, Written, batch_text}

@@ -21,14 +21,15 @@ use Rattle.fjall_history.specs.Queries.{Query}
 use Rattle.fjall_history.specs.declared.reply.Reply.{Reply}
 use Rattle.fjall_history.specs.declared.reply.Reply.TheVariants.{Began, Done, Ids, Value, Pairs, Number, Names, Flag, Opened, Refused}
 use Rattle.fjall_state.specs.declared.call.Call.{Call}
-use Rattle.fjall_state.specs.declared.call.Call.TheVariants.{FlushBegin, FlushFinish}
+use Rattle.fjall_state.specs.declared.call.Call.TheVariants.{FlushBegin, FlushFinish, MajorBegin, MergeFinish}
 use Rattle.fjall_state.specs.Places.{resolved, view_at}
-use Rattle.fjall_state.specs.Shapes.{OfFlushBegin, OfFlushFinish, Shape, shape_of}
+use Rattle.fjall_state.specs.declared.merges.MergeKind.TheVariants.{Major}
+use Rattle.fjall_state.specs.Shapes.{OfFlushBegin, OfFlushFinish, OfMergeBegin, OfMergeFinish, Shape, shape_of}
 use Rattle.fjall_lines.specs.declared.command.Command.{Command}
 use Rattle.fjall_lines.specs.declared.command.Command.TheVariants.{Ask, Crash, Reopen}
 use Rattle.fjall_lines.specs.declared.command.Request.{Request}
-use Rattle.fjall_lines.specs.declared.command.Request.TheVariants.{Keyspace, Delete, Insert, Remove, RemoveWeak, Clear, Batch, Get, Len, Scan, Snapshot, GetAt, CloseSnapshot, Begin, TxGet, TxInsert, Commit, Gc, Rotate, Flush, Persist}
-use Rattle.fjall_script.specs.Answers.{bad_line, done_text, flag_text, flushed, number_text, ok_line, reply_text, reply_to}
+use Rattle.fjall_lines.specs.declared.command.Request.TheVariants.{Keyspace, Delete, Insert, Remove, RemoveWeak, Clear, Batch, Get, Len, Scan, Snapshot, GetAt, CloseSnapshot, Begin, TxGet, TxInsert, Commit, Gc, Rotate, Flush, Merge, Persist}
+use Rattle.fjall_script.specs.Answers.{bad_line, done_text, flag_text, ended, number_text, ok_line, reply_text, reply_to}
 use Rattle.fjall_core.specs.Holding.{Held}
 use Rattle.fjall_transactions.specs.Transactions.{Kept}
 use Rattle.fjall_lists.specs.declared.call.Kind.TheVariants.{Optimistic}
@@ -37,8 +38,8 @@ use Rattle.fjall_lists.specs.declared.call.TxCall.TheVariants as tx
 use Rattle.fjall_lists.specs.declared.call.Within.TheVariants as within
 use Rattle.fjall_calls.specs.Serving as served
 use Rattle.fjall_calls.specs.Serving.{AllCome, ComesTo, Itself, OneComes, Others}
-use Rattle.fjall_core.specs.Standing.{Gives, GivesRead, IsOfKind, Owes, OwesAll, OwesBegin, OwesFinish, tables_of}
-use Rattle.fjall_script.specs.Requests.{AreCallsFrom, IsCallOf, asked_with, begun_at, calls_in, finish_of, flushes, is_stop, named, place_of, numbers_before, requests_of}
+use Rattle.fjall_core.specs.Standing.{Gives, GivesRead, IsOfKind, Owes, OwesAll, OwesBegin, OwesFinish, OwesMerge, OwesMergeBegin, tables_of}
+use Rattle.fjall_script.specs.Requests.{AreCallsFrom, IsCallOf, asked_with, begun_at, calls_in, finish_of, has_job, is_stop, named, place_of, numbers_before, requests_of}
 use Rattle.fjall_script.specs.Sessions.{answers_to, IsAnswer, IsReplyTo, Session, begun, run, restarted, Restarts}
 
 -- no refusal has the number 0
@@ -179,7 +180,7 @@ module _ (before : List Reply) (call : TxCall) (reply : Reply) (made : List Call
   by_other c is other = told_other before c reply made told (subst (λ (t : TxCall). ComesTo before t reply made told) is comes) other
 
   -- it is a reply to the request, where that makes one call
-  fits : (request : Request) (place : ℕ → ℕ) → flushes request ≡ false → IsCallOf place request call → IsReplyTo request reply
+  fits : (request : Request) (place : ℕ → ℕ) → has_job request ≡ false → IsCallOf place request call → IsReplyTo request reply
   fits (Keyspace name) place one is = by_core (Keyspace name) _ is (λ mid given. subst (IsReplyTo (Keyspace name)) (sym given.1) tt)
   fits (Delete id) place one is = by_core (Delete id) _ is (λ mid given. subst (IsReplyTo (Delete id)) (sym given.0) tt)
   fits (Insert id key value) place one is = by_core (Insert id key value) _ is (λ mid given. subst (IsReplyTo (Insert id key value)) (sym given.0) tt)
@@ -203,6 +204,7 @@ module _ (before : List Reply) (call : TxCall) (reply : Reply) (made : List Call
   fits Gc place one is = by_core Gc _ is (λ mid given. subst (IsReplyTo Gc) (sym given.0.0) tt)
   fits (Rotate id) place one is = by_core (Rotate id) _ is (λ mid given. subst (IsReplyTo (Rotate id)) (sym given.0) tt)
   fits (Flush id) place one is = absurd (true≢false one)
+  fits (Merge id) place one is = absurd (true≢false one)
   fits Persist place one is = by_core Persist _ is (λ mid given. subst (IsReplyTo Persist) (sym given.0) tt)
 
 -- ---- the two calls of a flush
@@ -220,16 +222,43 @@ finish_fits id job finished old new owes =
       | inr gives ↦ finish_gives id _ _ job finished old new gives
     ]
 
-begin_gives : (id : ℕ) (begins : Bool) (first finished : Reply) (old new : Held) → OwesBegin begins old id first new → IsReplyTo (Flush id) finished → IsReplyTo (Flush id) (flushed first finished)
-begin_gives id true first finished old new gives fit = subst (λ (r : Reply). IsReplyTo (Flush id) (flushed r finished)) (sym gives.0) fit
-begin_gives id false first finished old new gives fit = subst (λ (r : Reply). IsReplyTo (Flush id) (flushed r finished)) (sym gives.0) tt
+begin_gives : (id : ℕ) (begins : Bool) (first finished : Reply) (old new : Held) → OwesBegin begins old id first new → IsReplyTo (Flush id) finished → IsReplyTo (Flush id) (ended first finished)
+begin_gives id true first finished old new gives fit = subst (λ (r : Reply). IsReplyTo (Flush id) (ended r finished)) (sym gives.0) fit
+begin_gives id false first finished old new gives fit = subst (λ (r : Reply). IsReplyTo (Flush id) (ended r finished)) (sym gives.0) tt
 
 -- and so does the flush that it begins
-begin_fits : (id : ℕ) (first finished : Reply) (old new : Held) → Owes old (OfFlushBegin id) first new → IsReplyTo (Flush id) finished → IsReplyTo (Flush id) (flushed first finished)
+begin_fits : (id : ℕ) (first finished : Reply) (old new : Held) → Owes old (OfFlushBegin id) first new → IsReplyTo (Flush id) finished → IsReplyTo (Flush id) (ended first finished)
 begin_fits id first finished old new owes fit =
     elim (owed (OfFlushBegin id) first old new owes) [
-      | inl refused ↦ subst (λ (r : Reply). IsReplyTo (Flush id) (flushed r finished)) (sym refused.1) (refusal_fits (Flush id) refused.0)
+      | inl refused ↦ subst (λ (r : Reply). IsReplyTo (Flush id) (ended r finished)) (sym refused.1) (refusal_fits (Flush id) refused.0)
       | inr gives ↦ begin_gives id _ first finished old new gives fit
+    ]
+
+-- ---- the two calls of a merge
+
+merge_gives : (id : ℕ) (out lives : Bool) (job : JobId) (finished : Reply) (old new : Held) → OwesMerge out lives old job finished new → IsReplyTo (Merge id) finished
+merge_gives id true true job finished old new gives = subst (IsReplyTo (Merge id)) (sym gives.0) tt
+merge_gives id true false job finished old new gives = subst (IsReplyTo (Merge id)) (sym gives.0) tt
+merge_gives id false lives job finished old new gives = subst (IsReplyTo (Merge id)) (sym gives.0) tt
+
+-- a finish gives a reply to the merge
+merge_fits : (id : ℕ) (job : JobId) (finished : Reply) (old new : Held) → Owes old (OfMergeFinish job) finished new → IsReplyTo (Merge id) finished
+merge_fits id job finished old new owes =
+    elim (owed (OfMergeFinish job) finished old new owes) [
+      | inl refused ↦ subst (IsReplyTo (Merge id)) (sym refused.1) (refusal_fits (Merge id) refused.0)
+      | inr gives ↦ merge_gives id _ _ job finished old new gives
+    ]
+
+major_gives : (id : ℕ) (begins : Bool) (first finished : Reply) (old new : Held) → OwesMergeBegin begins old id first new → IsReplyTo (Merge id) finished → IsReplyTo (Merge id) (ended first finished)
+major_gives id true first finished old new gives fit = subst (λ (r : Reply). IsReplyTo (Merge id) (ended r finished)) (sym gives.0) fit
+major_gives id false first finished old new gives fit = subst (λ (r : Reply). IsReplyTo (Merge id) (ended r finished)) (sym gives.0) tt
+
+-- and so does the merge that it begins
+major_fits : (id : ℕ) (first finished : Reply) (old new : Held) → Owes old (OfMergeBegin Major id) first new → IsReplyTo (Merge id) finished → IsReplyTo (Merge id) (ended first finished)
+major_fits id first finished old new owes fit =
+    elim (owed (OfMergeBegin Major id) first old new owes) [
+      | inl refused ↦ subst (λ (r : Reply). IsReplyTo (Merge id) (ended r finished)) (sym refused.1) (refusal_fits (Merge id) refused.0)
+      | inr gives ↦ major_gives id _ first finished old new gives fit
     ]
 
 -- ---- the calls of a list
@@ -289,7 +318,7 @@ record IsRepliedBy (request : Request) (told : Reply × List Reply) (later : Lis
   comes : AllCome before later told.1 made heard
   owes : OwesAll mid made heard new
 
-by_one : (request : Request) (place : ℕ → ℕ) (at : ℕ) (before : List Reply) (call : TxCall) (calls later : List TxCall) (reply : Reply) (replies : List Reply) (made : List Call) (told : List Reply) (old new : Held) → flushes request ≡ false
+by_one : (request : Request) (place : ℕ → ℕ) (at : ℕ) (before : List Reply) (call : TxCall) (calls later : List TxCall) (reply : Reply) (replies : List Reply) (made : List Call) (told : List Reply) (old new : Held) → has_job request ≡ false
     → IsCallOf place request call → calls ≡ finish_of at request ++ later → AllCome before (call ∷ calls) (reply ∷ replies) made told → OwesAll old made told new
     → IsRepliedBy request (reply_to request reply replies) later new
 by_one request place at before call calls later reply replies made told old new one is split come owes =
@@ -307,32 +336,42 @@ by_one request place at before call calls later reply replies made told old new 
       owes = first.others;
     })
 
-by_two : (id at : ℕ) (before : List Reply) (later : List TxCall) (started : Reply) (replies : List Reply) (made : List Call) (told : List Reply) (old new : Held)
-    → AllCome before (tx.Core (FlushBegin id) ∷ tx.Core (FlushFinish (begun_at at)) ∷ later) (started ∷ replies) made told → OwesAll old made told new → IsRepliedBy (Flush id) (reply_to (Flush id) started replies) later new
-by_two id at before later started [] made told old new come owes =
-    let first = next before (tx.Core (FlushBegin id)) started (tx.Core (FlushFinish (begun_at at)) ∷ later) [] made told old new come owes in
-    absurd (none_left (before ++ started ∷ []) (tx.Core (FlushFinish (begun_at at))) later first.later first.heard first.others_come)
-by_two id at before later started (finished ∷ replies) made told old new come owes =
-    let first = next before (tx.Core (FlushBegin id)) started (tx.Core (FlushFinish (begun_at at)) ∷ later) (finished ∷ replies) made told old new come owes in
-    let second = next (before ++ started ∷ []) (tx.Core (FlushFinish (begun_at at))) finished later replies first.later first.heard first.mid new first.others_come first.others in
-    let begins = owed_itself before (FlushBegin id) started first.made first.told old first.mid first.comes first.owes in
-    let ends = owed_itself (before ++ started ∷ []) (FlushFinish (begun_at at)) finished second.made second.told first.mid second.mid second.comes second.owes in
-    record {
-      fit = begin_fits id started finished old begins.0 begins.1 (finish_fits id _ finished first.mid ends.0 ends.1);
+-- A request was replied to by two calls of the core, where a reply to the second is one to it, and with that the reply to the first.
+by_two : (request : Request) (begins ends : Call) (before : List Reply) (later : List TxCall) (started : Reply) (replies : List Reply) (made : List Call) (told : List Reply) (old new : Held) → has_job request ≡ true
+    → ((at : List Reply) (finished : Reply) (one two : Held) → Owes one (shape_of (resolved at ends)) finished two → IsReplyTo request finished)
+    → ((finished : Reply) (one two : Held) → Owes one (shape_of (resolved before begins)) started two → IsReplyTo request finished → IsReplyTo request (ended started finished))
+    → AllCome before (tx.Core begins ∷ tx.Core ends ∷ later) (started ∷ replies) made told → OwesAll old made told new → IsRepliedBy request (reply_to request started replies) later new
+by_two request begins ends before later started [] made told old new has finish begin come owes =
+    let first = next before (tx.Core begins) started (tx.Core ends ∷ later) [] made told old new come owes in
+    absurd (none_left (before ++ started ∷ []) (tx.Core ends) later first.later first.heard first.others_come)
+by_two request begins ends before later started (finished ∷ replies) made told old new has finish begin come owes =
+    let same : reply_to request started (finished ∷ replies) ≡ (ended started finished, replies) = rw has refl in
+    let first = next before (tx.Core begins) started (tx.Core ends ∷ later) (finished ∷ replies) made told old new come owes in
+    let second = next (before ++ started ∷ []) (tx.Core ends) finished later replies first.later first.heard first.mid new first.others_come first.others in
+    let begun = owed_itself before begins started first.made first.told old first.mid first.comes first.owes in
+    let done = owed_itself (before ++ started ∷ []) ends finished second.made second.told first.mid second.mid second.comes second.owes in
+    subst (λ (t : Reply × List Reply). IsRepliedBy request t later new) (sym same)
+    (record {
+      fit = begin finished old begun.0 begun.1 (finish (before ++ started ∷ []) finished first.mid done.0 done.1);
       mid = second.mid;
       before = (before ++ started ∷ []) ++ finished ∷ [];
       made = second.later;
       heard = second.heard;
       comes = second.others_come;
       owes = second.others;
-    }
+    })
 
 replied : (request : Request) (place : ℕ → ℕ) (at : ℕ) (before : List Reply) (call : TxCall) (calls later : List TxCall) (reply : Reply) (replies : List Reply) (made : List Call) (told : List Reply) (old new : Held)
     → IsCallOf place request call → calls ≡ finish_of at request ++ later → AllCome before (call ∷ calls) (reply ∷ replies) made told → OwesAll old made told new
     → IsRepliedBy request (reply_to request reply replies) later new
 replied (Flush id) place at before call calls later reply replies made told old new is split come owes =
     let both : call ∷ calls ≡ tx.Core (FlushBegin id) ∷ tx.Core (FlushFinish (begun_at at)) ∷ later = cc (is, split) in
-    by_two id at before later reply replies made told old new (subst (λ (l : List TxCall). AllCome before l (reply ∷ replies) made told) both come) owes
+    by_two (Flush id) (FlushBegin id) (FlushFinish (begun_at at)) before later reply replies made told old new refl (λ so_far finished one two. finish_fits id _ finished one two) (λ finished one two. begin_fits id reply finished one two)
+    (subst (λ (l : List TxCall). AllCome before l (reply ∷ replies) made told) both come) owes
+replied (Merge id) place at before call calls later reply replies made told old new is split come owes =
+    let both : call ∷ calls ≡ tx.Core (MajorBegin id) ∷ tx.Core (MergeFinish (begun_at at)) ∷ later = cc (is, split) in
+    by_two (Merge id) (MajorBegin id) (MergeFinish (begun_at at)) before later reply replies made told old new refl (λ so_far finished one two. merge_fits id _ finished one two) (λ finished one two. major_fits id reply finished one two)
+    (subst (λ (l : List TxCall). AllCome before l (reply ∷ replies) made told) both come) owes
 replied request place at before call calls later reply replies made told old new is split come owes = by_one request place at before call calls later reply replies made told old new refl is split come owes
 
 abbrev IsCall : Option Command → Type 0

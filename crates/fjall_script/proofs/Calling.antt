@@ -1,13 +1,12 @@
 -- More calls are made.
 use Rattle.std.proofs.Common.{◌≡◌, ℕ, zero, suc, ◌+◌, ◌<◌, ◌≤◌, Bool, true, false, List, [], ◌∷◌, ◌++◌, length, length-append, drop, get_or, Option, Some, None, if◌then◌else◌, refl, sym, subst, ap, ◌∙◌, append_assoc, arith}
 use Rattle.std.proofs.lemmas.List.{append-nil}
-use Rattle.fjall_state.specs.declared.call.Call.TheVariants.{FlushFinish}
 use Rattle.fjall_lists.specs.declared.call.TxCall.{TxCall}
 use Rattle.fjall_lists.specs.declared.call.TxCall.TheVariants.{Core}
 use Rattle.fjall_lines.specs.declared.command.Command.{Command}
 use Rattle.fjall_lines.specs.declared.command.Command.TheVariants.{Ask, Crash, Reopen}
 use Rattle.fjall_lines.specs.declared.command.Request.{Request}
-use Rattle.fjall_script.specs.Requests.{AddsCalls, AreCalls, AreCallsFrom, IsCallOf, asked_with, begun_at, calls_in, finish_of, flushes, nowhere, numbers_in, openings_from, place_by, place_in, place_of, request_of, requests_of}
+use Rattle.fjall_script.specs.Requests.{AddsCalls, AreCalls, AreCallsFrom, IsCallOf, asked_with, begun_at, calls_in, finish_of, finishes, has_job, nowhere, numbers_in, openings_from, place_by, place_in, place_of, request_of, requests_of}
 use Rattle.fjall_script.specs.declared.calls.Numbers.{Numbers}
 use Rattle.fjall_script.proofs.Counts.{one_asked}
 use Rattle.fjall_script.proofs.Printing.{next_is}
@@ -21,9 +20,9 @@ asked_more earlier asked commands i found request whole lt at is counted all =
 
 -- the calls of a request are as many as they should be
 pub finish_is : (place : ℕ) (request : Request) → suc (length (finish_of place request)) ≡ calls_in request
-finish_is place request = either (flushes request)
+finish_is place request = either (has_job request)
   where
-    either : (b : Bool) → suc (length (if b then Core (FlushFinish (begun_at place)) ∷ [] else [])) ≡ (if b then 2 else 1)
+    either : (b : Bool) → suc (length (if b then Core (finishes request (begun_at place)) ∷ [] else [])) ≡ (if b then 2 else 1)
     either true = refl
     either false = refl
 

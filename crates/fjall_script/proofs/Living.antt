@@ -38,10 +38,10 @@ use Rattle.fjall_calls.specs.Serving.{AllCome, NoneComes, OneComes, RunsTx}
 use Rattle.fjall_lines.specs.declared.command.Command.{Command}
 use Rattle.fjall_lines.specs.declared.command.Command.TheVariants.{Ask, Crash, Reopen}
 use Rattle.fjall_lines.specs.declared.command.Request.{Request}
-use Rattle.fjall_script.specs.Answers.{bad_line, flushed_by, ok_line, reply_text, reply_to}
+use Rattle.fjall_script.specs.Answers.{bad_line, ended_by, ok_line, reply_text, reply_to}
 use Rattle.fjall_script.specs.Lived.{AreServed, Asked, GoesThrough, HasLived, IsServed, replies_of, served_in, told_as, unasked}
 use Rattle.fjall_script.specs.Machine.{Begins, Closes, Crashes, OpenedOn, new_disk, none_kept}
-use Rattle.fjall_script.specs.Requests.{AreCalls, AreCallsFrom, asked_with, asks_number, calls_in, finish_of, flushes, is_stop, request_of, requests_of, numbers_before, numbers_in}
+use Rattle.fjall_script.specs.Requests.{AreCalls, AreCallsFrom, asked_with, asks_number, calls_in, finish_of, has_job, is_stop, request_of, requests_of, numbers_before, numbers_in}
 use Rattle.fjall_script.specs.Sessions as sessions
 use Rattle.fjall_script.specs.Sessions.{Restarts, Session, answers_to}
 use Rattle.fjall_script.proofs.Calling.{finish_is}
@@ -62,7 +62,7 @@ abbrev calls_if : Bool → ℕ
 calls_if b = if b then 2 else 1
 
 abbrev told_if : Bool → Reply → List Reply → Reply × List Reply
-told_if b first behind = if b then flushed_by first behind else (first, behind)
+told_if b first behind = if b then ended_by first behind else (first, behind)
 
 some_if : (b : Bool) → 1 ≤ calls_if b
 some_if true = omega arith
@@ -92,14 +92,14 @@ through-append k (Some Reopen ∷ front) more replies others all =
     ap (λ (l : List (List ℕ)). ok_line ∷ l) (through-append k front more replies others all ∙ ap (λ (n : ℕ). answers_to k front replies ++ answers_to (k + n) more others) (sym (none_asked (Some Reopen) front refl)))
 through-append k (Some (Ask request) ∷ front) more [] others all =
     let count = sum_by-cons calls_in request (requests_of front) in
-    let some = some_if (flushes request) in
+    let some = some_if (has_job request) in
     absurd (omega (arith, all, count, some))
 through-append k (Some (Ask request) ∷ front) more (reply ∷ replies) others all =
     let told = reply_to request reply replies in
     let count = sum_by-cons calls_in request (requests_of front) in
     let enough : calls_in request ≤ suc (length replies) = omega (arith, all, count) in
-    let left : calls_in request + length told.1 ≡ suc (length replies) = told_left (flushes request) reply replies enough in
-    ap (λ (t : Reply × List Reply). reply_text (k + 1) request t.0 ∷ answers_to (asked_with k request) (front ++ more) t.1) (told-append (flushes request) reply replies others enough)
+    let left : calls_in request + length told.1 ≡ suc (length replies) = told_left (has_job request) reply replies enough in
+    ap (λ (t : Reply × List Reply). reply_text (k + 1) request t.0 ∷ answers_to (asked_with k request) (front ++ more) t.1) (told-append (has_job request) reply replies others enough)
     ∙ ap (λ (l : List (List ℕ)). reply_text (k + 1) request told.0 ∷ l)
     (through-append (asked_with k request) front more told.1 others (omega (arith, all, count, left))
     ∙ ap (λ (n : ℕ). answers_to (asked_with k request) front told.1 ++ answers_to n more others) (one_asked k request front))

@@ -9,7 +9,7 @@ use Rattle.fjall_history.specs.declared.reply.Reply.TheVariants.{Began, Done, Id
 use Rattle.fjall_lines.specs.declared.command.Request.{Request}
 use Rattle.fjall_lines.specs.declared.command.Request.TheVariants.{Begin, Commit, Gc, Keyspace, Len}
 use Rattle.fjall_lines.specs.Lines.{hex_word}
-use Rattle.fjall_script.specs.Requests.{flushes}
+use Rattle.fjall_script.specs.Requests.{has_job}
 
 -- a refusal: its number and its name
 abbrev pub refusal_text : Error → List ℕ
@@ -30,19 +30,19 @@ pairs_text pairs = codes "pairs" ++ flat_map (λ pair. codes " " ++ pair_word pa
 abbrev pub count_text : ℕ → List ℕ
 count_text count = codes "count " ++ decimal count
 
--- the reply to a flush, by those to its two calls: where a job was begun, that to its finish
-abbrev pub flushed : Reply → Reply → Reply
-flushed (Began (Some job)) finished = finished
-flushed begun finished = begun
+-- the reply to a flush or a merge, by those to its two calls: where a job was begun, that to its finish
+abbrev pub ended : Reply → Reply → Reply
+ended (Began (Some job)) finished = finished
+ended begun finished = begun
 
 -- the same of the reply to its first call and those behind it, and what is left of these
-abbrev pub flushed_by : Reply → List Reply → Reply × List Reply
-flushed_by begun [] = (begun, [])
-flushed_by begun (finished ∷ later) = (flushed begun finished, later)
+abbrev pub ended_by : Reply → List Reply → Reply × List Reply
+ended_by begun [] = (begun, [])
+ended_by begun (finished ∷ later) = (ended begun finished, later)
 
 -- The reply to a request, by that to its first call and those behind it, and what is left of these for later requests.
 abbrev pub reply_to : Request → Reply → List Reply → Reply × List Reply
-reply_to request first behind = if flushes request then flushed_by first behind else (first, behind)
+reply_to request first behind = if has_job request then ended_by first behind else (first, behind)
 
 -- the answer to a request that is done: a transaction that begins is told by its number
 abbrev pub done_text : ℕ → Request → List ℕ
@@ -63,7 +63,7 @@ number_text Gc watermark = codes "watermark " ++ decimal watermark
 number_text request count = count_text count
 
 -- the answer to a request, by its reply, where a snapshot that it opens, or a transaction that it begins, gets this number: `len` tells
--- how many pairs there are, `scan` the pairs, and `flush` whether one was begun and finished
+-- how many pairs there are, `scan` the pairs, and `flush` and `merge` whether one was begun and finished
 abbrev pub reply_text : ℕ → Request → Reply → List ℕ
 reply_text number request Done = done_text number request
 reply_text number request (Value None) = codes "none"

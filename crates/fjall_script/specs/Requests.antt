@@ -21,7 +21,7 @@ use Rattle.fjall_lists.specs.declared.call.Within.TheVariants as within
 use Rattle.fjall_lines.specs.declared.command.Command.{Command}
 use Rattle.fjall_lines.specs.declared.command.Command.TheVariants.{Ask, Crash, Reopen}
 use Rattle.fjall_lines.specs.declared.command.Request.{Request}
-use Rattle.fjall_lines.specs.declared.command.Request.TheVariants.{Keyspace, Delete, Insert, Remove, RemoveWeak, Clear, Batch, Get, Len, Scan, Snapshot, GetAt, CloseSnapshot, Begin, TxGet, TxInsert, Commit, Gc, Rotate, Flush, Persist}
+use Rattle.fjall_lines.specs.declared.command.Request.TheVariants.{Keyspace, Delete, Insert, Remove, RemoveWeak, Clear, Batch, Get, Len, Scan, Snapshot, GetAt, CloseSnapshot, Begin, TxGet, TxInsert, Commit, Gc, Rotate, Flush, Merge, Persist}
 use Rattle.fjall_lines.specs.Lines.{Write}
 use Rattle.fjall_script.specs.declared.calls.Numbers.{Numbers}
 
@@ -66,14 +66,15 @@ numbers_before script rest = numbers_in script - numbers_in rest
 
 -- ---- calls
 
--- it makes two calls: a flush is begun, and then finished
-abbrev pub flushes : Request → Bool
-flushes (Flush id) = true
-flushes request = false
+-- it makes two calls: a flush or a merge is begun, and then finished
+abbrev pub has_job : Request → Bool
+has_job (Flush id) = true
+has_job (Merge id) = true
+has_job request = false
 
 -- how many calls it makes
 abbrev pub calls_in : Request → ℕ
-calls_in request = if flushes request then 2 else 1
+calls_in request = if has_job request then 2 else 1
 
 -- the place of no call
 abbrev pub nowhere : ℕ
@@ -117,7 +118,7 @@ pub record IsBatch (writes : List Write) (call : TxCall) : Type 0 where
   pub is : call ≡ tx.Core (calls.CommitBatch items (Some Buffer))
   pub same : items.items ≡ map item_of writes
 
--- The call that a request makes, for a flush the first of two, where numbers stand for these places: one of the core, or one that begins,
+-- The call that a request makes, for a flush and a merge the first of two, where numbers stand for these places: one of the core, or one that begins,
 -- is within, or commits an optimistic transaction.
 abbrev pub IsCallOf : (ℕ → ℕ) → Request → TxCall → Type 0
 IsCallOf place (Keyspace name) call = call ≡ tx.Core (calls.Keyspace name default_options)
@@ -140,15 +141,21 @@ IsCallOf place (Commit number) call = call ≡ tx.Commit Optimistic (place numbe
 IsCallOf place Gc call = call ≡ tx.Core calls.Gc
 IsCallOf place (Rotate id) call = call ≡ tx.Core (calls.RotateMemtable id)
 IsCallOf place (Flush id) call = call ≡ tx.Core (calls.FlushBegin id)
+IsCallOf place (Merge id) call = call ≡ tx.Core (calls.MajorBegin id)
 IsCallOf place Persist call = call ≡ tx.Core (calls.Persist SyncAll)
 
 -- within a list of calls a job is named by the place of the call that began it
 abbrev pub begun_at : ℕ → JobId
 begun_at place = record { number = place; keyspace_id = 0 }
 
--- the calls behind the first of a request, which has this place: the job that a flush began is finished
+-- the call that finishes the job that a request began
+abbrev pub finishes : Request → JobId → Call
+finishes (Merge id) job = calls.MergeFinish job
+finishes request job = calls.FlushFinish job
+
+-- the calls behind the first of a request, which has this place: the job that it began is finished
 abbrev pub finish_of : ℕ → Request → List TxCall
-finish_of place request = if flushes request then tx.Core (calls.FlushFinish (begun_at place)) ∷ [] else []
+finish_of place request = if has_job request then tx.Core (finishes request (begun_at place)) ∷ [] else []
 
 -- the calls of requests one after another, where the first call has this place
 abbrev pub AreCallsFrom : ℕ → (ℕ → ℕ) → List Request → List TxCall → Type 0

@@ -14,7 +14,7 @@ use Rattle.fjall_history.specs.declared.reply.Reply.TheVariants.{Began, Done, Fl
 use Rattle.fjall_lines.specs.declared.command.Command.{Command}
 use Rattle.fjall_lines.specs.declared.command.Command.TheVariants.{Ask, Crash, Reopen}
 use Rattle.fjall_lines.specs.declared.command.Request.{Request}
-use Rattle.fjall_lines.specs.declared.command.Request.TheVariants.{Keyspace, Delete, Insert, Remove, RemoveWeak, Clear, Batch, Get, Len, Scan, Snapshot, GetAt, CloseSnapshot, Begin, TxGet, TxInsert, Commit, Gc, Rotate, Flush, Persist}
+use Rattle.fjall_lines.specs.declared.command.Request.TheVariants.{Keyspace, Delete, Insert, Remove, RemoveWeak, Clear, Batch, Get, Len, Scan, Snapshot, GetAt, CloseSnapshot, Begin, TxGet, TxInsert, Commit, Gc, Rotate, Flush, Merge, Persist}
 use Rattle.fjall_script.specs.Answers.{reply_text, reply_to, bad_line, ok_line, text_of}
 use Rattle.fjall_script.specs.Outputs.{AppendsFront, IsIo}
 use Rattle.fjall_script.specs.Requests.{AreCalls, asked_with, is_stop, numbers_before, numbers_in}
@@ -55,6 +55,8 @@ IsReplyTo Gc (Number watermark) = Unit {0}
 IsReplyTo (Rotate id) (Flag is_sealed) = Unit {0}
 IsReplyTo (Flush id) (Flag is_finished) = Unit {0}
 IsReplyTo (Flush id) (Began None) = Unit {0}
+IsReplyTo (Merge id) (Flag is_finished) = Unit {0}
+IsReplyTo (Merge id) (Began None) = Unit {0}
 IsReplyTo Persist Done = Unit {0}
 IsReplyTo request reply = ⊥
 

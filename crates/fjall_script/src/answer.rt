@@ -2,9 +2,9 @@
 
 ghost use Rattle.std.specs.Prelude.{◌≡◌, IfOk, Some, string_bytes};
 ghost use Rattle.fjall_lines.specs.Lines.{hex_word};
-ghost use Rattle.fjall_script.specs.Answers.{done_text, flag_text, flushed, number_text, pairs_text, refusal_text, reply_text, reply_to};
+ghost use Rattle.fjall_script.specs.Answers.{done_text, flag_text, ended, number_text, pairs_text, refusal_text, reply_text, reply_to};
 
-use crate::calls::flushes;
+use crate::calls::has_job;
 use fjall_base::{Error, KvPair, Slice};
 use fjall_core::Reply;
 use fjall_lines::Request;
@@ -52,9 +52,9 @@ fn pairs_text(alloc: Global, pairs: &[KvPair]) -> Result<String, AllocError>
     Ok(text)
 }
 
-// The reply to a flush, by those to its two calls: where a job was begun, that to its finish.
-fn flushed<'a>(begun: &'a Reply, finished: &'a Reply) -> &'a Reply
-    ensures { result.now ≡ flushed begun.now finished.now }
+// The reply to a flush or a merge, by those to its two calls: where a job was begun, that to its finish.
+fn ended<'a>(begun: &'a Reply, finished: &'a Reply) -> &'a Reply
+    ensures { result.now ≡ ended begun.now finished.now }
 {
     match begun {
         Reply::Began(Some(_)) => finished,
@@ -72,7 +72,7 @@ pub fn reply_to<'a>(
     ensures left { result.1.now ≡ (reply_to request.now first.now behind.now).1 }
 {
     match behind {
-        [finished, later @ ..] if flushes(request) => (flushed(first, finished), later),
+        [finished, later @ ..] if has_job(request) => (ended(first, finished), later),
         _ => (first, behind),
     }
 }

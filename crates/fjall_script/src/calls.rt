@@ -1,7 +1,7 @@
 //! The calls that lines make, and the snapshots and transactions that they name.
 
 ghost use Rattle.std.specs.Prelude.{◌≡◌, ◌<◌, ◌+◌, ◌∷◌, ◌^◌, IfOk, IsOkUnless, OnOk, length, map};
-ghost use Rattle.fjall_script.specs.Requests.{AddsCalls, all_pairs, AreCalls, asked_with, calls_in, flushes, IsBatch, IsCallOf, item_of, named, nowhere, numbers_in, op_of, openings_from, opens, place_by, request_of, requests_of};
+ghost use Rattle.fjall_script.specs.Requests.{AddsCalls, all_pairs, AreCalls, asked_with, calls_in, finishes, has_job, IsBatch, IsCallOf, item_of, named, nowhere, numbers_in, op_of, openings_from, opens, place_by, request_of, requests_of};
 ghost use Rattle.fjall_options.specs.Options.{default_options};
 ghost use Rattle.fjall_state.specs.declared.call.Call.TheVariants as calls;
 ghost use Rattle.fjall_lists.specs.declared.call.TxCall.TheVariants as tx;
@@ -21,18 +21,18 @@ fn opens(request: &Request) -> bool
     matches!(request, Request::Snapshot | Request::Begin)
 }
 
-/// Whether a request makes two calls: a flush is begun, and then finished.
-pub(crate) fn flushes(request: &Request) -> bool
-    ensures { result ≡ flushes request.now }
+/// Whether a request makes two calls: a flush or a merge is begun, and then finished.
+pub(crate) fn has_job(request: &Request) -> bool
+    ensures { result ≡ has_job request.now }
 {
-    matches!(request, Request::Flush(_))
+    matches!(request, Request::Flush(_) | Request::Merge(_))
 }
 
 // How many calls a request makes.
 fn calls_in(request: &Request) -> u64
     ensures { result ≡ calls_in request.now }
 {
-    if flushes(request) { 2 } else { 1 }
+    if has_job(request) { 2 } else { 1 }
 }
 
 // How many numbers were asked for, where so many were before this request.
@@ -155,7 +155,7 @@ fn batch(alloc: Global, writes: &[Write]) -> Result<Call>
     Ok(Call::CommitBatch(items, Some(PersistMode::Buffer)))
 }
 
-// The call that a request makes, for a flush the first of two, where numbers stand for these places.
+// The call that a request makes, for a flush and a merge the first of two, where numbers stand for these places.
 fn call_of(alloc: Global, request: &Request, numbers: &Numbers) -> Result<TxCall>
     ensures ok { IfOk result (λ call. IsCallOf (place_by numbers.now) request.now call) }
     ensures only { IsOkUnless result Error.OutOfMemory }
@@ -190,9 +190,20 @@ fn call_of(alloc: Global, request: &Request, numbers: &Numbers) -> Result<TxCall
         Request::Gc => Call::Gc,
         Request::Rotate(id) => Call::RotateMemtable(*id),
         Request::Flush(id) => Call::FlushBegin(*id),
+        Request::Merge(id) => Call::MajorBegin(*id),
         Request::Persist => Call::Persist(PersistMode::SyncAll),
     };
     Ok(TxCall::Core(call))
+}
+
+// The call that finishes the job that a request began.
+fn finish_of(request: &Request, job: JobId) -> Call
+    ensures { result ≡ finishes request.now job }
+{
+    match request {
+        Request::Merge(_) => Call::MergeFinish(job),
+        _ => Call::FlushFinish(job),
+    }
 }
 
 // Adds the calls that a line makes to those of the lines before it.
@@ -210,8 +221,9 @@ fn add_calls(
     };
     let place = calls.len() as u64;
     calls.push(call_of(alloc, request, numbers)?)?;
-    if flushes(request) {
-        calls.push(TxCall::Core(Call::FlushFinish(JobId::of_call(place))))?;
+    if has_job(request) {
+        let finish = finish_of(request, JobId::of_call(place));
+        calls.push(TxCall::Core(finish))?;
     }
     Ok(())
 }

@@ -41,11 +41,11 @@ use Rattle.fjall_maps.proofs.Changed.{changed_has}
 use Rattle.fjall_maps.proofs.Finished.{flushed_before, flushed_forest, flushed_has, flushed_store, flushed_with}
 use Rattle.fjall_state.specs.Machine as machine
 use Rattle.fjall_state.specs.Machine.{EvictsSome, Flushed, FlushesIn, FlushesOne, Parts, State, flush_with, flushed, is_flushed, is_living, present, records_with, task_of}
-use Rattle.fjall_state.specs.Remembered.{IsBegun, IsLawful, Remembered, StandsFor, flush_gone, flush_out, flushed_by, flushed_of, with_flush, with_sealed}
+use Rattle.fjall_state.specs.Remembered.{IsBegun, IsLawful, IsMergeBegun, Remembered, StandsFor, flush_gone, flush_out, flushed_by, flushed_of, with_flush, with_sealed}
 use Rattle.fjall_state.proofs.Facts.{living_names}
-use Rattle.fjall_state.proofs.Lawful.{alike, all_begun_later, other_kept, others, read_above, still_kept}
+use Rattle.fjall_state.proofs.Lawful.{alike, all_begun_later, all_merges_begun_later, other_kept, others, read_above, still_kept}
 use Rattle.fjall_state.proofs.Older.{finished_none, finished_older}
-use Rattle.fjall_state.proofs.SameTrees.{altered_tables, given_flushes, same_altered, same_altered_by, same_in}
+use Rattle.fjall_state.proofs.SameTrees.{altered_merges, altered_tables, given_flushes, same_altered, same_altered_by, same_in}
 use Rattle.fjall_state.proofs.Standing.{living_agree}
 
 -- ---- what flushes leave lawful
@@ -84,6 +84,8 @@ out_is_lawful id m is small =
       recorded = is.recorded;
       kept = is.kept;
       begun = begun_now m id is;
+      merging = altered_merges (IsMergeBegun (m.next_job + 1) m.tickets.watermark) m.trees
+          (all_merges_begun_later m.next_job (m.next_job + 1) m.tickets.watermark m.tickets.watermark m.trees (omega arith) (omega arith) is.merging) id change (λ shape. refl);
       jobs = omega (arith, small);
     }
 
@@ -105,6 +107,7 @@ gone_is_lawful id m is = record {
   recorded = is.recorded;
   kept = is.kept;
   begun = given_flushes (IsBegun m.next_job m.tickets.watermark) m.trees is.begun id flush_dropped (λ shape. tt);
+  merging = altered_merges (IsMergeBegun m.next_job m.tickets.watermark) m.trees is.merging id flush_dropped (λ shape. refl);
   jobs = is.jobs;
 }
 
@@ -130,6 +133,7 @@ finished_is_lawful id out readers last m is given =
       recorded = All-weaker (λ (k : LivingKeyspace). is_some (get m.records k.id) ≡ true) (λ k. is_some (get (insert m.records id last) k.id) ≡ true) (λ k h. still_kept m.records id last k.id h) m.keyspaces.living is.recorded;
       kept = λ other le. other_kept m.records id last other (λ same. absurd (omega (arith, given, le, same))) ∙ is.kept other le;
       begun = given_flushes (IsBegun m.next_job m.tickets.watermark) m.trees is.begun id change (λ shape. tt);
+      merging = altered_merges (IsMergeBegun m.next_job m.tickets.watermark) m.trees is.merging id change (λ shape. refl);
       jobs = is.jobs;
     }
 
@@ -148,6 +152,7 @@ a_begun_flush_stands m table s stands id small =
       lasting = stands.lasting;
       tickets = stands.tickets;
       next_job = ap (λ n. n + 1) stands.next_job;
+      merges_done = stands.merges_done;
       records = stands.records;
       next_table = stands.next_table;
       trees = subst (λ (at : ℕ × ℕ). AreSameTrees (altered_at id (flush_begun at.0 at.1) s.parts.trees) (altered_at id change m.trees)) (sym (λ i. (stands.next_job i, (stands.tickets i).watermark)))
@@ -171,6 +176,7 @@ a_dropped_flush_stands m table s stands id = record {
   lasting = stands.lasting;
   tickets = stands.tickets;
   next_job = stands.next_job;
+  merges_done = stands.merges_done;
   records = stands.records;
   next_table = stands.next_table;
   trees = same_altered id flush_dropped (λ tables shape. refl) s.parts.trees m.trees stands.trees;
@@ -332,6 +338,7 @@ module _ (m : Remembered) (table : ℕ) (s : State) (stands : StandsFor m table 
         lasting = stands.lasting;
         tickets = stands.tickets;
         next_job = stands.next_job;
+        merges_done = stands.merges_done;
         records = records_then;
         next_table = stands.next_table;
         trees = same_altered_by id (flush_finished readers is.out) (finished_same readers is.out) s.parts.trees m.trees stands.trees;
@@ -378,6 +385,7 @@ with_sealed_stands m table s stands left = record {
   lasting = stands.lasting;
   tickets = stands.tickets;
   next_job = stands.next_job;
+  merges_done = stands.merges_done;
   records = stands.records;
   next_table = stands.next_table;
   trees = stands.trees;

@@ -38,12 +38,12 @@ use Rattle.fjall_writes.specs.Ingestions.{KeyOp}
 use Rattle.fjall_state.specs.Machine.{Parts, State, accepted, is_living}
 use Rattle.fjall_state.specs.Shapes.{ByMode}
 use Rattle.fjall_state.specs.Ingesting.{Ingests, Makes, last_ingested, parts_ingested, with_ingestion}
-use Rattle.fjall_state.specs.Remembered.{IsBegun, IsLawful, Remembered, StandsFor, with_change}
+use Rattle.fjall_state.specs.Remembered.{IsBegun, IsLawful, IsMergeBegun, Remembered, StandsFor, with_change}
 use Rattle.fjall_state.proofs.Facts.{living_names}
 use Rattle.fjall_state.proofs.Flushing.{above_begun, id_given, ids_stay, known_record, still_planted, tables_behind}
 use Rattle.fjall_state.proofs.Lawful.{may_push, other_kept, others, read_above, still_kept, tree_there}
 use Rattle.fjall_state.proofs.Older.{both_empty, both_none, none_listed, none_made}
-use Rattle.fjall_state.proofs.SameTrees.{same_altered_by, same_in}
+use Rattle.fjall_state.proofs.SameTrees.{altered_merges, same_altered_by, same_in}
 use Rattle.fjall_state.proofs.Standing.{a_change_stands}
 
 -- ---- its items as a batch
@@ -222,6 +222,7 @@ module _ (m : Remembered) (table : ℕ) (s : State) (stands : StandsFor m table 
         recorded = All-weaker (λ (j : LivingKeyspace). is_some (get m.records j.id) ≡ true) (λ j. is_some (get (insert m.records id last) j.id) ≡ true) (λ j h. still_kept m.records id last j.id h) m.keyspaces.living lawful.recorded;
         kept = λ other le. other_kept m.records id last other (λ same. absurd (omega (arith, given, le, same))) ∙ lawful.kept other le;
         begun = begun_still m.next_job m.tickets.watermark id m.next readers m.trees lawful.begun;
+        merging = altered_merges (IsMergeBegun m.next_job m.tickets.watermark) m.trees lawful.merging id (ingested m.next readers) (λ shape. refl);
         jobs = lawful.jobs;
       }
 
@@ -242,6 +243,7 @@ module _ (m : Remembered) (table : ℕ) (s : State) (stands : StandsFor m table 
         lasting = stands.lasting;
         tickets = stands.tickets;
         next_job = stands.next_job;
+        merges_done = stands.merges_done;
         records = records_then;
         next_table = stands.next_table;
         trees = subst (λ (n : ℕ). AreSameTrees (altered_at id (ingested n readers) s.parts.trees) after.trees) (sym stands.number)

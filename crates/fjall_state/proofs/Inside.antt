@@ -16,4 +16,5 @@ memory_in a = record {
   journals = journals_of a.sealed a.active a.watermarks;
   records = a.records;
   next_job = a.next_job;
+  merges_done = a.merges_done;
 }

@@ -38,7 +38,7 @@ flush_each change leaves id trees = ap (λ (o : Option Shape). (unwrap_or o (bar
     by None = refl
     by (Some shape) = leaves id shape
 
-flush_altered : (id other : ℕ) (change : Shape → Shape) → LeavesFlush change → (trees : Forest) → (shape_in id (altered_at other change trees)).flush ≡ (shape_in id trees).flush
+pub flush_altered : (id other : ℕ) (change : Shape → Shape) → LeavesFlush change → (trees : Forest) → (shape_in id (altered_at other change trees)).flush ≡ (shape_in id trees).flush
 flush_altered id other change leaves trees = flush_each (λ k shape. cond (k == other) (change shape) shape) (λ k. by (k == other)) id trees
   where
     by : (b : Bool) → LeavesFlush (λ shape. cond b (change shape) shape)
@@ -62,7 +62,7 @@ flush_planted id other from trees =
 -- ---- what is known
 
 -- where the flush that is out is the same, and what was begun stays so
-known_on : (m n : Remembered) (task : Task) → m.next_job ≤ n.next_job → (shape_in task.keyspace n.trees).flush ≡ (shape_in task.keyspace m.trees).flush
+pub known_on : (m n : Remembered) (task : Task) → m.next_job ≤ n.next_job → (shape_in task.keyspace n.trees).flush ≡ (shape_in task.keyspace m.trees).flush
     → (IsFlushing (shape_in task.keyspace m.trees) task → IsFlushing (shape_in task.keyspace n.trees) task) → KnowsTask m task → KnowsTask n task
 known_on m n task le same keeps (given, out, some) = (omega (arith, given, le), λ is. keeps (out (ap (λ (o : Option Flushing). is_flush_due task.id o) (sym same) ∙ is)), some)
 

@@ -23,7 +23,7 @@ use Rattle.fjall_versions.proofs.Slots.{get_put, same_id, same_maps, ties}
 use Rattle.fjall_catalog.specs.Catalog.{fields, first_of}
 use Rattle.fjall_loading.specs.Known.{LastFields}
 use Rattle.fjall_tree.specs.Records.{Fields}
-use Rattle.fjall_lsm.specs.Trees.{Flushing, emptied, sealed_off}
+use Rattle.fjall_lsm.specs.Trees.{Flushing, Merging, emptied, sealed_off}
 use Rattle.fjall_trees.specs.Forests.{AreBefore, Forest, Planted, altered_at, tree_at}
 use Rattle.fjall_trees.specs.Forests as forests
 use Rattle.fjall_lsm.specs.Puts.{bare_tree}
@@ -34,10 +34,10 @@ use Rattle.fjall_history.specs.Tickets.{Tickets, Tracked, closed, collected, lea
 use Rattle.fjall_history.proofs.Values.{all_inserted, all_removed, of_value}
 use Rattle.fjall_state.specs.Allowed.{FitsBatch}
 use Rattle.fjall_state.specs.Machine.{handles_of, is_living, one_less, without}
-use Rattle.fjall_state.specs.Remembered.{IsBegun, IsLawful, IsReadAt, Remembered, is_last, let_go, poisoned, released, retained, rotated, with_change, with_creation, with_deletion, with_tickets, with_trees}
+use Rattle.fjall_state.specs.Remembered.{IsBegun, IsLawful, IsMergeBegun, IsReadAt, Remembered, is_last, let_go, poisoned, released, retained, rotated, with_change, with_creation, with_deletion, with_tickets, with_trees}
 use Rattle.fjall_state.proofs.Facts.{living_names, some_there}
 use Rattle.fjall_trees.specs.Tables.{AreSameTrees}
-use Rattle.fjall_state.proofs.SameTrees.{all_alike, all_same, altered_flushes, pushed_flushes}
+use Rattle.fjall_state.proofs.SameTrees.{all_alike, all_same, altered_flushes, altered_merges, pushed_flushes, pushed_merges}
 use Rattle.fjall_maps.proofs.Alike.{same_before, same_forest, same_has}
 use Rattle.fjall_maps.proofs.Emptied.{emptied_before, emptied_forest, emptied_has, emptied_ids}
 use Rattle.fjall_maps.proofs.Pushed.{pushed_before, pushed_forest, pushed_has, pushed_ids}
@@ -66,6 +66,7 @@ as_lawful a b is = record {
   recorded = is.recorded;
   kept = is.kept;
   begun = is.begun;
+  merging = is.merging;
   jobs = is.jobs;
 }
 
@@ -84,6 +85,7 @@ alike a b is keyspaces trees next tickets records next_job = subst IsLawful (sym
       journals = b.journals;
       records = records i;
       next_job = next_job i;
+      merges_done = b.merges_done;
     }
 
 module _ (m : Remembered) (is : IsLawful m) where
@@ -180,6 +182,7 @@ items_are_lawful items m is small fits =
       recorded = is.recorded;
       kept = is.kept;
       begun = pushed_flushes (IsBegun m.next_job m.tickets.watermark) m.trees is.begun m.next items;
+      merging = pushed_merges (IsMergeBegun m.next_job m.tickets.watermark) m.trees is.merging m.next items;
       jobs = is.jobs;
     }
 
@@ -200,6 +203,7 @@ clear_is_lawful id m is small = record {
   recorded = is.recorded;
   kept = is.kept;
   begun = altered_flushes (IsBegun m.next_job m.tickets.watermark) m.trees is.begun id (emptied m.next) (λ shape. refl);
+  merging = altered_merges (IsMergeBegun m.next_job m.tickets.watermark) m.trees is.merging id (emptied m.next) (λ shape. refl);
   jobs = is.jobs;
 }
 
@@ -234,6 +238,7 @@ made_is_lawful name options m is small are =
           (kept_here m.records id first);
       kept = λ other le. other_kept m.records id first other (λ same. let gap : id + 1 ≤ other = le in omega (arith, gap, same)) ∙ is.kept other (omega (arith, le));
       begun = All-push (λ (j : Planted). IsBegun m.next_job m.tickets.watermark j.shape.flush) m.trees (record { id = id; shape = bare_tree m.next }) is.begun tt;
+      merging = All-push (λ (j : Planted). IsMergeBegun m.next_job m.tickets.watermark j.shape.merge) m.trees (record { id = id; shape = bare_tree m.next }) is.merging tt;
       jobs = is.jobs;
     }
 
@@ -262,6 +267,7 @@ deletion_is_lawful id m is small = record {
   recorded = All-filter (λ k. not (k.id == id)) (λ k. is_some (get m.records k.id) ≡ true) m.keyspaces.living is.recorded;
   kept = is.kept;
   begun = is.begun;
+  merging = is.merging;
   jobs = is.jobs;
 }
 
@@ -307,6 +313,7 @@ let_go_is_lawful id m is gone = record {
       (λ k there other. ap (λ (o : Option Fields). is_some o) (other_left m.records id k.id other) ∙ there) m.keyspaces.living is.recorded (others_live m.keyspaces.living id (gone_is_none m id gone));
   kept = λ other le. none_left m.records id other (is.kept other le);
   begun = dropped_each (λ k. IsBegun m.next_job m.tickets.watermark k.shape.flush) id m.trees is.begun;
+  merging = dropped_each (λ k. IsMergeBegun m.next_job m.tickets.watermark k.shape.merge) id m.trees is.merging;
   jobs = is.jobs;
 }
 
@@ -349,15 +356,30 @@ pub begun_later : (job later watermark risen : ℕ) (flush : Option Flushing) �
 begun_later job later watermark risen None le up is = tt
 begun_later job later watermark risen (Some out) le up is = let id = is.0 in let low = is.1 in (omega (arith, id, le), omega (arith, low, up))
 
+-- so was a merge
+pub merge_begun_later : (job later watermark risen : ℕ) (merge : Option Merging) → job ≤ later → watermark ≤ risen → IsMergeBegun job watermark merge → IsMergeBegun later risen merge
+merge_begun_later job later watermark risen None le up is = tt
+merge_begun_later job later watermark risen (Some out) le up is = let id = is.0 in let low = is.1 in (omega (arith, id, le), omega (arith, low, up))
+
 -- where none is out, each was begun
-pub still_begun : (job watermark : ℕ) (trees : Forest) → All (λ k. k.shape.flush ≡ None) trees → All (λ k. IsBegun job watermark k.shape.flush) trees
-still_begun job watermark trees still =
-    All-weaker (λ (k : Planted). k.shape.flush ≡ None) (λ k. IsBegun job watermark k.shape.flush) (λ k none. subst (IsBegun job watermark) (sym none) tt) trees still
+abbrev pub IsStill : Planted → Type 0
+IsStill k = (k.shape.flush ≡ None) × (k.shape.merge ≡ None)
+
+pub still_begun : (job watermark : ℕ) (trees : Forest) → All IsStill trees → All (λ k. IsBegun job watermark k.shape.flush) trees
+still_begun job watermark trees still = All-weaker IsStill (λ k. IsBegun job watermark k.shape.flush) (λ k none. subst (IsBegun job watermark) (sym none.0) tt) trees still
+
+pub still_merge_begun : (job watermark : ℕ) (trees : Forest) → All IsStill trees → All (λ k. IsMergeBegun job watermark k.shape.merge) trees
+still_merge_begun job watermark trees still = All-weaker IsStill (λ k. IsMergeBegun job watermark k.shape.merge) (λ k none. subst (IsMergeBegun job watermark) (sym none.1) tt) trees still
 
 pub all_begun_later : (job later watermark risen : ℕ) (trees : Forest) → job ≤ later → watermark ≤ risen → All (λ k. IsBegun job watermark k.shape.flush) trees
     → All (λ k. IsBegun later risen k.shape.flush) trees
 all_begun_later job later watermark risen trees le up all =
     All-weaker (λ (k : Planted). IsBegun job watermark k.shape.flush) (λ k. IsBegun later risen k.shape.flush) (λ k is. begun_later job later watermark risen k.shape.flush le up is) trees all
+
+pub all_merges_begun_later : (job later watermark risen : ℕ) (trees : Forest) → job ≤ later → watermark ≤ risen → All (λ k. IsMergeBegun job watermark k.shape.merge) trees
+    → All (λ k. IsMergeBegun later risen k.shape.merge) trees
+all_merges_begun_later job later watermark risen trees le up all =
+    All-weaker (λ (k : Planted). IsMergeBegun job watermark k.shape.merge) (λ k. IsMergeBegun later risen k.shape.merge) (λ k is. merge_begun_later job later watermark risen k.shape.merge le up is) trees all
 
 pub tickets_are_lawful : (m : Remembered) (tickets : Tickets) → IsLawful m → IsTime m tickets → IsLawful (with_tickets tickets m)
 tickets_are_lawful m tickets is times = record {
@@ -374,6 +396,7 @@ tickets_are_lawful m tickets is times = record {
   recorded = is.recorded;
   kept = is.kept;
   begun = all_begun_later m.next_job m.next_job m.tickets.watermark tickets.watermark m.trees (omega arith) times.risen is.begun;
+  merging = all_merges_begun_later m.next_job m.next_job m.tickets.watermark tickets.watermark m.trees (omega arith) times.risen is.merging;
   jobs = is.jobs;
 }
 
@@ -485,6 +508,9 @@ rotated_is_lawful id m is =
       begun =
           altered_flushes (IsBegun m.next_job (collected m.next m.tickets).watermark) m.trees
           (all_begun_later m.next_job m.next_job m.tickets.watermark (collected m.next m.tickets).watermark m.trees (omega arith) times.risen is.begun) id sealed_off (λ shape. refl);
+      merging =
+          altered_merges (IsMergeBegun m.next_job (collected m.next m.tickets).watermark) m.trees
+          (all_merges_begun_later m.next_job m.next_job m.tickets.watermark (collected m.next m.tickets).watermark m.trees (omega arith) times.risen is.merging) id sealed_off (λ shape. refl);
       jobs = is.jobs;
     }
 
@@ -546,5 +572,6 @@ read_is_lawful trees m same is = record {
   recorded = is.recorded;
   kept = is.kept;
   begun = all_alike (λ id shape. IsBegun m.next_job m.tickets.watermark shape.flush) (λ id a b alike here. subst (IsBegun m.next_job m.tickets.watermark) (sym alike.flush) here) m.trees trees same is.begun;
+  merging = all_alike (λ id shape. IsMergeBegun m.next_job m.tickets.watermark shape.merge) (λ id a b alike here. subst (IsMergeBegun m.next_job m.tickets.watermark) (sym alike.merge) here) m.trees trees same is.merging;
   jobs = is.jobs;
 }

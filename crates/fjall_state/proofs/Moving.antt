@@ -16,9 +16,9 @@ use Rattle.fjall_history.specs.Histories.{grown, number, plain}
 use Rattle.fjall_history.specs.Moves.{Accepts, Closes, Collects, Moves, MovesOn, NoMove, OneMove, Opens, Rests, Times}
 use Rattle.fjall_history.specs.Tickets.{Tickets, closing_refusal, is_open}
 use Rattle.fjall_state.specs.declared.call.Call.{Call}
-use Rattle.fjall_state.specs.Shapes.{Clone, Close, Collect, OfChange, OfCount, OfCreation, OfDeletion, OfFlushBegin, OfFlushFinish, OfHandle, OfIngestion, OfJournalRotation, OfMaintenance, OfPersist, OfRead, OfRotation, OfTickets, OneLess, OneMore}
+use Rattle.fjall_state.specs.Shapes.{Clone, Close, Collect, OfChange, OfCount, OfCreation, OfDeletion, OfFlushBegin, OfFlushFinish, OfHandle, OfIngestion, OfJournalRotation, OfMaintenance, OfMergeBegin, OfMergeFinish, OfPersist, OfRead, OfRotation, OfTickets, OneLess, OneMore}
 use Rattle.fjall_state.specs.Shapes.{Open, Shape, TicketCall, shape_of}
-use Rattle.fjall_state.specs.Machine.{Answers, BeginsFlush, CreatesOrFinds, EvictsSome, FinishesFlush, IngestionFails, IngestsInto, IsPoisoned, MayFail, Refuses, Run, State, Step, StepOf, TurnsTickets, WorkFails, at_fault, begins_flush, deleted, due, is_flushing}
+use Rattle.fjall_state.specs.Machine.{Answers, BeginsFlush, BeginsMerge, CreatesOrFinds, EvictsSome, FinishesFlush, FinishesMerge, IngestionFails, IngestsInto, IsPoisoned, MayFail, Refuses, Run, State, Step, StepOf, TurnsTickets, WorkFails, at_fault, begins_flush, begins_merge, deleted, due, is_flushing, is_merging}
 use Rattle.fjall_state.specs.Machine.{is_living, is_long, journal_rotated, journal_synced, present, rotated, rotates, takes_effect, ticket_refusal, times, written_out}
 
 still : (s t : State) → times t ≡ times s → Moves (times s) (times t)
@@ -39,6 +39,8 @@ fault_times s (OfRotation id) = refl
 fault_times s OfJournalRotation = refl
 fault_times s (OfFlushBegin id) = refl
 fault_times s (OfFlushFinish job) = refl
+fault_times s (OfMergeBegin kind id) = refl
+fault_times s (OfMergeFinish job) = refl
 fault_times s OfMaintenance = refl
 fault_times s (OfRead view id query) = refl
 fault_times s (OfTickets call) = refl
@@ -66,6 +68,9 @@ work_times : (s t : State) (shape : Shape) → WorkFails shape s t → times t �
 work_times s t (OfFlushBegin id) (begins, left, poisoned) = ap times poisoned.is
 work_times s t (OfFlushFinish job) (due, well, inl poisoned) = ap times poisoned.is
 work_times s t (OfFlushFinish job) (due, well, inr (parts, mid, flushed, evicts, poisoned)) = evicted_times (record s { parts = parts }) mid t evicts poisoned
+work_times s t (OfMergeBegin kind id) (begins, left, same) = ap times same
+work_times s t (OfMergeFinish job) (due, well, inl poisoned) = ap times poisoned.is
+work_times s t (OfMergeFinish job) (due, well, inr (parts, merged, poisoned)) = ap times poisoned.is
 work_times s t OfMaintenance (mid, evicts, poisoned) = evicted_times s mid t evicts poisoned
 work_times s t (OfIngestion id []) fails = absurd fails
 work_times s t (OfIngestion id (item ∷ items)) (left, fails) = ingestion_times s t id (item ∷ items) fails
@@ -117,6 +122,15 @@ finished_moves s t job reply true true (told, well, parts, flushed, is) = still 
 finished_moves s t job reply true false (told, is) = still s t (ap times is)
 finished_moves s t job reply false takes (told, same) = as_it_was s t same
 
+merge_begun_moves : (s t : State) (id : ℕ) (reply : Reply) (begins : Bool) → BeginsMerge begins s id reply t → Moves (times s) (times t)
+merge_begun_moves s t id reply true (told, small, is) = still s t (ap times is)
+merge_begun_moves s t id reply false (told, same) = as_it_was s t same
+
+merge_finished_moves : (s t : State) (job : JobId) (reply : Reply) (out lives : Bool) → FinishesMerge out lives s job reply t → Moves (times s) (times t)
+merge_finished_moves s t job reply true true (told, well, parts, merged, is) = still s t (ap times is)
+merge_finished_moves s t job reply true false (told, is) = still s t (ap times is)
+merge_finished_moves s t job reply false lives (told, same) = as_it_was s t same
+
 -- a ticket whose closing nothing refuses is open
 pub open_there : (t : Tickets) (id : ℕ) → closing_refusal id t ≡ None → is_open t id ≡ true
 open_there t id none = either (is_open t id) none
@@ -150,6 +164,8 @@ answer_moves s t (OfRotation id) reply none (told, is) = rotated_moves s t id (r
 answer_moves s t OfJournalRotation reply none (told, is) = still s t (ap times is)
 answer_moves s t (OfFlushBegin id) reply none begun = begun_moves s t id reply (begins_flush s.parts.trees id) begun
 answer_moves s t (OfFlushFinish job) reply none finished = finished_moves s t job reply (is_flushing s.parts.trees job) (takes_effect s job) finished
+answer_moves s t (OfMergeBegin kind id) reply none begun = merge_begun_moves s t id reply (begins_merge (present s) s.parts.trees kind id) begun
+answer_moves s t (OfMergeFinish job) reply none finished = merge_finished_moves s t job reply (is_merging s.parts.trees job) (is_living (present s) job.keyspace_id) finished
 answer_moves s t OfMaintenance reply none (told, is) = still s t (ap times is)
 answer_moves s t (OfRead view id query) reply none (told, same) = as_it_was s t same
 answer_moves s t (OfTickets call) reply none (turns, same) = tickets_move s t call reply none turns same

@@ -6,7 +6,7 @@ use Rattle.fjall_journal.specs.Ops.{BatchItem}
 use Rattle.fjall_table.specs.Blocks.{Entry}
 use Rattle.fjall_blocks.specs.Readers.{AreSameTables, Reader}
 use Rattle.fjall_lsm.specs.Puts.{bare_tree, has_stamp, put, put_all}
-use Rattle.fjall_lsm.specs.Trees.{Flushing, IsSameShape, Shape, emptied, sealed_off, written}
+use Rattle.fjall_lsm.specs.Trees.{Flushing, IsSameShape, Merging, Shape, emptied, sealed_off, written}
 use Rattle.fjall_lsm.proofs.Outstanding.{same_shape}
 use Rattle.fjall_trees.specs.Forests.{Forest, Planted, altered_at, tree_at, without}
 use Rattle.fjall_trees.specs.Tables.{AreSameTrees, shape_in}
@@ -28,6 +28,12 @@ tables_along (t ∷ a) (u ∷ b) (v ∷ c) one two = (
   record { name = two.0.name ∙ one.0.name; info = two.0.info ∙ one.0.info; handles = two.0.handles ∙ one.0.handles },
   tables_along a b c one.1 two.1,
 )
+
+tables_back : (a b : List Reader) → AreSameTables a b → AreSameTables b a
+tables_back [] [] same = tt
+tables_back [] (u ∷ b) same = absurd same
+tables_back (t ∷ a) [] same = absurd same
+tables_back (t ∷ a) (u ∷ b) same = (record { name = sym same.0.name; info = sym same.0.info; handles = sym same.0.handles }, tables_back a b same.1)
 
 -- none stay none
 pub none_same : (a b : List Reader) → AreSameTables a b → a ≡ [] → b ≡ []
@@ -61,6 +67,15 @@ shape_along a b c one two = record {
   memory = two.memory ∙ one.memory;
   flush = two.flush ∙ one.flush;
   merge = two.merge ∙ one.merge;
+}
+
+shape_back : (a b : Shape) → IsSameShape a b → IsSameShape b a
+shape_back a b same = record {
+  tables = tables_back a.tables b.tables same.tables;
+  clears = sym same.clears;
+  memory = sym same.memory;
+  flush = sym same.flush;
+  merge = sym same.merge;
 }
 
 -- the tree over other tables
@@ -101,6 +116,12 @@ along [] (k ∷ b) c one two = absurd one
 along (j ∷ a) [] c one two = absurd one
 along (j ∷ a) (k ∷ b) [] one two = two
 along (j ∷ a) (k ∷ b) (l ∷ c) one two = (two.0 ∙ one.0, shape_along j.shape k.shape l.shape one.1 two.1, along a b c one.2 two.2)
+
+pub back : (a b : Forest) → AreSameTrees a b → AreSameTrees b a
+back [] [] same = tt
+back [] (k ∷ b) same = absurd same
+back (j ∷ a) [] same = absurd same
+back (j ∷ a) (k ∷ b) same = (sym same.0, shape_back j.shape k.shape same.1, back a b same.2)
 
 each_same : (change : ℕ → Shape → Shape) → ((id : ℕ) → PassesTables (change id)) → (a b : Forest) → AreSameTrees a b → AreSameTrees (each_by change a) (each_by change b)
 each_same change passes [] [] same = tt
@@ -242,3 +263,24 @@ module _ (Q : Option Flushing → Type 0) (trees : Forest) (all : All (λ k. Q k
   -- or gives one for which the same holds
   pub given_flushes : (id : ℕ) (change : Shape → Shape) → ((shape : Shape) → Q (change shape).flush) → All (λ k. Q k.shape.flush) (altered_at id change trees)
   given_flushes id change gives = one_keeps (λ shape entries. Q shape.flush) trees no_entries all change (λ shape entries here. gives shape) id
+
+-- ---- merges that are out, likewise
+
+-- a change that leaves the merge that is out
+abbrev pub LeavesMerge : (Shape → Shape) → Type 0
+LeavesMerge change = (shape : Shape) → (change shape).merge ≡ shape.merge
+
+module _ (Q : Option Merging → Type 0) (trees : Forest) (all : All (λ k. Q k.shape.merge) trees) where
+  -- no table has a say in it
+  none_held : ℕ → List (List Entry)
+  none_held id = []
+
+  pub pushed_merges : (n : ℕ) (items : List BatchItem) → All (λ k. Q k.shape.merge) (pushed n items trees)
+  pushed_merges n items = pushed_keeps (λ shape entries. Q shape.merge) trees none_held all (λ v shape entries here. here) n items
+
+  pub altered_merges : (id : ℕ) (change : Shape → Shape) → LeavesMerge change → All (λ k. Q k.shape.merge) (altered_at id change trees)
+  altered_merges id change leaves = one_keeps (λ shape entries. Q shape.merge) trees none_held all change (λ shape entries here. subst Q (sym (leaves shape)) here) id
+
+  -- or gives one for which the same holds
+  pub given_merges : (id : ℕ) (change : Shape → Shape) → ((shape : Shape) → Q (change shape).merge) → All (λ k. Q k.shape.merge) (altered_at id change trees)
+  given_merges id change gives = one_keeps (λ shape entries. Q shape.merge) trees none_held all change (λ shape entries here. gives shape) id

@@ -39,7 +39,7 @@ fold_map : {X Y : Type 0} (f : Y → ℕ) (g : X → Y) (sum : ℕ) (xs : List X
 fold_map f g sum [] = refl
 fold_map f g sum (x ∷ xs) = fold_map f g (sum + f (g x)) xs
 
-sum_map : {X Y : Type 0} (f : Y → ℕ) (g : X → Y) (xs : List X) → sum_by f (map g xs) ≡ sum_by (λ x. f (g x)) xs
+pub sum_map : {X Y : Type 0} (f : Y → ℕ) (g : X → Y) (xs : List X) → sum_by f (map g xs) ≡ sum_by (λ x. f (g x)) xs
 sum_map f g xs = fold_map f g 0 xs
 
 -- what a keyspace's memtables count for, where the sum stops at the greatest number
@@ -143,7 +143,7 @@ infos_sum : (f : TableInfo → ℕ) (a b : List Reader) → AreSameTables a b �
 infos_sum f a b same = sym (sum_map f (λ (t : Reader). t.info) a) ∙ ap (sum_by f) (sym (infos_same a b same)) ∙ sum_map f (λ (t : Reader). t.info) b
 
 module _ (m : Remembered) (table : ℕ) (s : State) (stands : StandsFor m table s) where
-  same_at : (id : ℕ) → IsSameShape (shape_in id s.parts.trees) (shape_in id m.trees)
+  pub same_at : (id : ℕ) → IsSameShape (shape_in id s.parts.trees) (shape_in id m.trees)
   same_at id = same_in id s.parts.trees m.trees stands.trees
 
   pub table_counts_agree : (id : ℕ) → length (shape_in id s.parts.trees).tables ≡ length (shape_in id m.trees).tables

@@ -38,7 +38,7 @@ use Rattle.fjall_history.specs.declared.ticket.View.{View}
 use Rattle.fjall_history.specs.declared.ticket.View.TheVariants.{Present, At}
 use Rattle.fjall_history.specs.Histories.{grown, latest, number, plain, view}
 use Rattle.fjall_history.specs.Tickets.{Tickets, closed, collected, is_open, no_tickets, opened}
-use Rattle.fjall_state.specs.Shapes.{OfChange, OfCount, OfCreation, OfDeletion, OfFlushBegin, OfFlushFinish, OfHandle, OfIngestion, OfJournalRotation, OfMaintenance, OfPersist, OfRead, OfRotation, OfTickets, OneLess, OneMore, Persistence, Shape}
+use Rattle.fjall_state.specs.Shapes.{OfChange, OfCount, OfCreation, OfDeletion, OfFlushBegin, OfFlushFinish, OfHandle, OfIngestion, OfJournalRotation, OfMaintenance, OfMergeBegin, OfMergeFinish, OfPersist, OfRead, OfRotation, OfTickets, OneLess, OneMore, Persistence, Shape}
 use Rattle.fjall_state.specs.Allowed.{FitsBatch, IsOfLiving}
 use Rattle.fjall_journal.specs.Writer.{counted}
 use Rattle.fjall_manager.specs.Journals.{next_journal}
@@ -84,6 +84,8 @@ names_due f (OfRotation id) = refl
 names_due f OfJournalRotation = refl
 names_due f (OfFlushBegin id) = refl
 names_due f (OfFlushFinish job) = refl
+names_due f (OfMergeBegin kind id) = refl
+names_due f (OfMergeFinish job) = refl
 names_due f OfMaintenance = refl
 names_due f (OfRead Present id query) = refl
 names_due f (OfRead (At ticket) id query) = refl
@@ -157,6 +159,7 @@ after_change m table s stands change on store is journal buffer = record {
   lasting = stands.lasting;
   tickets = stands.tickets;
   next_job = stands.next_job;
+  merges_done = stands.merges_done;
   records = stands.records;
   next_table = stands.next_table;
   trees = subst (λ n. AreSameTrees (changed n change s.parts.trees) (changed m.next change m.trees)) (sym stands.number) (same_changed m.next change s.parts.trees m.trees stands.trees);
@@ -228,6 +231,7 @@ a_rotation_stands m table s stands id = record {
   lasting = stands.lasting;
   tickets = λ i. collected (stands.number i) (stands.tickets i);
   next_job = stands.next_job;
+  merges_done = stands.merges_done;
   records = stands.records;
   next_table = stands.next_table;
   trees = same_rotated id s.parts.trees m.trees stands.trees;
@@ -315,6 +319,7 @@ module _ (m : Remembered) (table : ℕ) (s : State) (stands : StandsFor m table 
         lasting = stands.lasting;
         tickets = stands.tickets;
         next_job = stands.next_job;
+        merges_done = stands.merges_done;
         records = created_records;
         next_table = ap (λ n. n + 1) stands.next_table;
         journals = stands.journals;
@@ -364,6 +369,7 @@ module _ (m : Remembered) (table : ℕ) (s : State) (stands : StandsFor m table 
         lasting = ap (λ l. l ++ id ∷ []) stands.lasting;
         tickets = stands.tickets;
         next_job = stands.next_job;
+        merges_done = stands.merges_done;
         records = All-filter (λ (j : LivingKeyspace). not (j.id == id)) (λ j. s.parts.records j.id ≡ last_known m.records j) m.keyspaces.living stands.records;
         next_table = λ i. if nat_le 2 (len (names i)) then stands.next_table i + 1 else stands.next_table i;
         trees = stands.trees;
@@ -384,6 +390,7 @@ a_retained_stands m table s stands id = record {
   lasting = stands.lasting;
   tickets = stands.tickets;
   next_job = stands.next_job;
+  merges_done = stands.merges_done;
   records = stands.records;
   next_table = stands.next_table;
   trees = stands.trees;
@@ -454,6 +461,7 @@ module _ (m : Remembered) (table : ℕ) (s : State) (stands : StandsFor m table 
     lasting = ap (λ l. if last then without l id else l) stands.lasting;
     tickets = stands.tickets;
     next_job = stands.next_job;
+    merges_done = stands.merges_done;
     records = records_left last gone;
     next_table = stands.next_table;
     trees = trees_left last;
@@ -483,6 +491,7 @@ with_tickets_stands m table s stands tickets times = record {
   lasting = stands.lasting;
   tickets = refl;
   next_job = stands.next_job;
+  merges_done = stands.merges_done;
   records = stands.records;
   next_table = stands.next_table;
   trees = stands.trees;
@@ -541,6 +550,7 @@ a_fault_stands m table s stands parts trees entries records journals =
       lasting = stands.lasting;
       tickets = stands.tickets;
       next_job = stands.next_job;
+      merges_done = stands.merges_done;
       records = stands.records;
       next_table = refl;
       trees = stands.trees;
@@ -566,6 +576,7 @@ other_parts_stand m table s stands parts is trees entries records journals =
       lasting = stands.lasting;
       tickets = stands.tickets;
       next_job = stands.next_job;
+      merges_done = stands.merges_done;
       records = stands.records;
       next_table = is;
       trees = stands.trees;
@@ -586,6 +597,7 @@ a_read_stands m table s stands trees same = record {
   lasting = stands.lasting;
   tickets = stands.tickets;
   next_job = stands.next_job;
+  merges_done = stands.merges_done;
   records = stands.records;
   next_table = stands.next_table;
   trees = along s.parts.trees m.trees trees stands.trees same;
@@ -609,6 +621,7 @@ a_journal_rotation_stands m table s stands len is = record {
   lasting = stands.lasting;
   tickets = stands.tickets;
   next_job = stands.next_job;
+  merges_done = stands.merges_done;
   records = stands.records;
   next_table = stands.next_table;
   trees = stands.trees;
@@ -703,10 +716,10 @@ opened_map m entries older is lasting id (it_waits le) =
     ap (λ slot. unwrap_or slot empty) (stored_by (λ q. pairs_with entries q (2 ^ 63) m.trees) m.keyspaces id ∙ ap (λ found. option_map (λ (k : LivingKeyspace). pairs_with entries id (2 ^ 63) m.trees) found) none)
     ∙ sym (waits_empty m entries m.trees is.given id m.next le)
 
-pub an_opening_stands : (m : Remembered) → IsLawful m → m.handles ≡ empty → m.lasting ≡ [] → m.poisoned ≡ false → m.tickets ≡ no_tickets → m.next_job ≡ 0
+pub an_opening_stands : (m : Remembered) → IsLawful m → m.handles ≡ empty → m.lasting ≡ [] → m.poisoned ≡ false → m.tickets ≡ no_tickets → m.next_job ≡ 0 → m.merges_done ≡ 0
     → (table : ℕ) (parts : Parts) → parts.table ≡ table → parts.trees ≡ m.trees → parts.journals ≡ m.journals → All (λ k. parts.records k.id ≡ last_known m.records k) m.keyspaces.living
     → AreBeside m parts.entries → (damaged : List ℕ) → StandsFor m table (opened_state (store_with parts.entries m.keyspaces m.trees) damaged m.next parts)
-an_opening_stands m is handles lasting well tickets none table parts at trees journals records beside damaged = record {
+an_opening_stands m is handles lasting well tickets none begins table parts at trees journals records beside damaged = record {
   present = refl;
   views = shown;
   number = omega arith;
@@ -715,6 +728,7 @@ an_opening_stands m is handles lasting well tickets none table parts at trees jo
   lasting = sym lasting;
   tickets = sym tickets;
   next_job = sym none;
+  merges_done = sym begins;
   records = records;
   next_table = at;
   trees = subst (λ t. AreSameTrees t m.trees) (sym trees) (same_trees m.trees);

@@ -23,11 +23,12 @@ use Rattle.fjall_versions.proofs.Found.{found_passes}
 use Rattle.fjall_versions.proofs.Slots.{same_id}
 use Rattle.fjall_state.specs.Ingesting.{with_record, with_tables}
 use Rattle.fjall_state.specs.Machine.{is_living}
-use Rattle.fjall_state.specs.Remembered.{IsLawful, Remembered}
+use Rattle.fjall_state.specs.Remembered.{IsLawful, IsMergeBegun, Remembered}
 use Rattle.fjall_state.proofs.Facts.{living_names}
 use Rattle.fjall_state.proofs.Flushing.{ids_stay, still_planted}
 use Rattle.fjall_state.proofs.Ingesting.{begun_still}
 use Rattle.fjall_state.proofs.Lawful.{clear_is_lawful, other_kept, still_kept, tree_there}
+use Rattle.fjall_state.proofs.SameTrees.{altered_merges}
 
 -- another record of a keyspace of which one is kept
 pub record_is_lawful : (id : ℕ) (last : Fields) (m : Remembered) → IsLawful m → contains_key m.records id ≡ true → IsLawful (with_record id last m)
@@ -47,6 +48,7 @@ record_is_lawful id last m is there = record {
       let none = is.kept other le in
       other_kept m.records id last other (λ same. true≢false (sym there ∙ ap (λ (k : ℕ). is_some (get m.records k)) (sym same) ∙ ap (λ (o : Option Fields). is_some o) none)) ∙ none;
   begun = is.begun;
+  merging = is.merging;
   jobs = is.jobs;
 }
 
@@ -68,6 +70,7 @@ tables_are_lawful id readers m is small =
       recorded = is.recorded;
       kept = is.kept;
       begun = begun_still m.next_job m.tickets.watermark id m.next readers m.trees is.begun;
+      merging = altered_merges (IsMergeBegun m.next_job m.tickets.watermark) m.trees is.merging id (ingested m.next readers) (λ shape. refl);
       jobs = is.jobs;
     }
 

@@ -1,5 +1,6 @@
 pub mod Shapes
 pub mod Machine
+pub mod Merging
 pub mod Remembered
 pub mod Allowed
 pub mod Places

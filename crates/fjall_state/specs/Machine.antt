@@ -1,5 +1,5 @@
 -- The engine as a machine: what each call may answer, and the state after it.
-use Rattle.std.specs.Prelude.{◌≡◌, ◌≢◌, ◌⊎◌, ℕ, ◌+◌, ◌-◌, ◌<◌, ◌≤◌, Any, Bool, IsTrue, count_by, map, take, true, false, nat_le, nat_lt, not, ◌==◌, ◌||◌, ◌&&◌, ◌^◌, if◌then◌else◌, List, [], ◌∷◌, ◌++◌, codes, filter, length, Option, None}
+use Rattle.std.specs.Prelude.{◌≡◌, ◌≢◌, ◌⊎◌, ℕ, ◌+◌, ◌-◌, ◌<◌, ◌≤◌, Any, Bool, IsTrue, count_by, map, take, true, false, nat_le, nat_lt, not, ◌==◌, ◌||◌, ◌&&◌, ◌^◌, if◌then◌else◌, List, [], ◌∷◌, ◌++◌, codes, drop, filter, is_some, length, Option, None}
 use Rattle.std.specs.Prelude.{Some, is_none, unwrap_or, IsPermutation, IsSorted, Vec}
 use Rattle.std.specs.List.{list_all, list_any, sum_by}
 use Rattle.byteorder.specs.Endian.{little_number}
@@ -25,8 +25,8 @@ use Rattle.fjall_memtable.specs.Entries.{size_of}
 use Rattle.fjall_parts.specs.Parts.{clears_in, holds_nothing, parts_of, versions_in}
 use Rattle.fjall_lsm.specs.Ingestions.{ingested}
 use Rattle.fjall_lsm.specs.Trees as lsm
-use Rattle.fjall_lsm.specs.Jobs.{count_out, flush_begun, flush_dropped, flush_end, flush_finished, flush_of, is_flush_out}
-use Rattle.fjall_lsm.specs.Trees.{Flushing, emptied, is_l0, sealed_off}
+use Rattle.fjall_lsm.specs.Jobs.{count_out, flush_begun, flush_dropped, flush_end, flush_finished, flush_of, is_flush_out, is_merge_out, merge_begun, merge_dropped, merge_finished, merge_of}
+use Rattle.fjall_lsm.specs.Trees.{Flushing, Merging, emptied, is_l0, sealed_off}
 use Rattle.fjall_trees.specs.Forests.{Forest, altered_at, tree_at}
 use Rattle.fjall_trees.specs.Forests as forests
 use Rattle.fjall_trees.specs.Tables.{entries_with, shape_in}
@@ -39,7 +39,11 @@ use Rattle.fjall_flush.specs.Flushes as flushes
 use Rattle.fjall_ingest.specs.Ingests.{batch_items, ingestion}
 use Rattle.fjall_ingest.specs.Whole.{LacksIds, LacksRecordRoom, Makes, last_ingested}
 use Rattle.fjall_jobs.specs.declared.made_table.MadeTable.{MadeTable}
+use Rattle.fjall_jobs.specs.Merges.{IsMerged}
 use Rattle.fjall_jobs.specs.Tasks.{IsFlushed, Task}
+use Rattle.fjall_merge.specs.Merges.{Merge}
+use Rattle.fjall_merge.specs.Merges as merges
+use Rattle.fjall_merge.specs.Finishing as merging
 use Rattle.fjall_tree.specs.Records.{Fields, body}
 use Rattle.fjall_writes.specs.Ingestions.{AreWritable, KeyOp, KeysAscend}
 use Rattle.fjall_options.specs.Options.{is_set, value_of}
@@ -55,15 +59,17 @@ use Rattle.fjall_history.specs.Tickets.{Tickets, cloning_refusal, closed, closin
 use Rattle.fjall_history.specs.Moves.{Times}
 use Rattle.fjall_history.specs.Queries.{Tells}
 use Rattle.fjall_state.specs.declared.call.Call.{Call}
-use Rattle.fjall_state.specs.Shapes.{AsKeyspace, ByMode, Clone, Close, Collect, Count, DiskSpace, Exists, Flushes, HandleCall, JournalSpace, Keyspaces, Next, OfChange, OfCount, OfCreation, OfDeletion, OfFlushBegin, OfFlushFinish, OfIngestion}
-use Rattle.fjall_state.specs.Shapes.{OfHandle, OfJournalRotation, OfMaintenance, OfPersist, OfRead, OfRotation, OfTickets, OneLess, OneMore, Open, OpenTickets, Persistence, Entries, SealedMemtables, Shape, Tables, TablesL0, TicketCall}
+use Rattle.fjall_state.specs.declared.merges.MergeKind.{MergeKind}
+use Rattle.fjall_state.specs.declared.merges.MergeKind.TheVariants.{Due, Major}
+use Rattle.fjall_state.specs.Shapes.{AsKeyspace, ByMode, Clone, Close, Collect, Count, DiskSpace, Exists, Flushes, HandleCall, JournalSpace, Keyspaces, Next, OfChange, OfCount, OfCreation, OfDeletion, OfFlushBegin, OfFlushFinish, OfIngestion, OfMergeBegin, OfMergeFinish}
+use Rattle.fjall_state.specs.Shapes.{MergesDone, MergesOut, OfHandle, OfJournalRotation, OfMaintenance, OfPersist, OfRead, OfRotation, OfTickets, OneLess, OneMore, Open, OpenTickets, Persistence, Entries, SealedMemtables, Shape, Tables, TablesL0, TicketCall}
 use Rattle.fjall_state.specs.Shapes.{ToFlush, Visible, WriteBuffer, shape_of}
 use Rattle.fjall_state.specs.Shapes as shapes
 
 -- The journals, the sealed ones and the active one: of each its number, up to which number each keyspace has changes in it, and
 -- of a sealed one how many bytes its file has. How many bytes the active journal's file has, how many wait in the buffer, the id
 -- that tree 0's next table gets, and the trees of the keyspaces that are read: of each its tables, its memtables, sealed ones and an
--- active one, and the flush that is out of it, where one is. By their ids, what the tables of keyspaces hold, table by table, and
+-- active one, and the flush and the merge that are out of it, where they are. By their ids, what the tables of keyspaces hold, table by table, and
 -- what the last record of each keyspace that lives says.
 pub record Parts : Type 0 where
   pub journals : Journals
@@ -76,8 +82,8 @@ pub record Parts : Type 0 where
 
 -- The history, whether a fault of the disk has poisoned the engine, how many handles of each keyspace are counted, the
 -- deleted keyspaces whose last maps are still read, the keyspaces that have a table with a wrong block, the tickets, the number
--- that the next job gets, and the parts that its counts, its reads and its jobs speak of. No call changes which keyspaces are
--- damaged: an id is never given anew.
+-- that the next job gets, how many merges were finished and took effect, and the parts that its counts, its reads and its jobs speak
+-- of. No call changes which keyspaces are damaged: an id is never given anew.
 pub record State : Type 0 where
   pub history : History
   pub poisoned : Bool
@@ -86,6 +92,7 @@ pub record State : Type 0 where
   pub damaged : List ℕ
   pub tickets : Tickets
   pub next_job : ℕ
+  pub merges_done : ℕ
   pub parts : Parts
 
 -- just opened, where these keyspaces have a table with a wrong block
@@ -98,6 +105,7 @@ opened_state store damaged base parts = record {
   damaged = damaged;
   tickets = no_tickets;
   next_job = 0;
+  merges_done = 0;
   parts = parts;
 }
 
@@ -266,7 +274,7 @@ abbrev pub change_refusals : Facts → Change → List (Bool × Error)
 change_refusals f (Items items) = items_refusals f items
 change_refusals f (Emptied id) = clear_refusals f id
 
--- the refusals of a rotation of a keyspace's memtable, and of a flush that is to begin
+-- the refusals of a rotation of a keyspace's memtable, and of a flush or a merge that is to begin
 abbrev pub rotation_refusals : Facts → ℕ → List (Bool × Error)
 rotation_refusals f id = (is_unknown f.store id, UnknownKeyspace) ∷ (is_deleted f.store id, KeyspaceDeleted) ∷ (f.poisoned, Poisoned) ∷ []
 
@@ -335,6 +343,8 @@ due_in f (OfRotation id) = first_due (rotation_refusals f id)
 due_in f OfJournalRotation = first_due (journal_refusals f)
 due_in f (OfFlushBegin id) = first_due (rotation_refusals f id)
 due_in f (OfFlushFinish job) = None
+due_in f (OfMergeBegin kind id) = first_due (rotation_refusals f id)
+due_in f (OfMergeFinish job) = None
 due_in f OfMaintenance = first_due ((f.poisoned, Poisoned) ∷ [])
 due_in f (OfRead view id query) = first_due (view_refusals f view id)
 due_in f (OfTickets call) = ticket_refusal f.tickets call
@@ -362,6 +372,8 @@ IsListed (Tables id) = ⊥
 IsListed (TablesL0 id) = ⊥
 IsListed (DiskSpace id) = ⊥
 IsListed Flushes = ⊥
+IsListed MergesOut = ⊥
+IsListed MergesDone = ⊥
 IsListed ToFlush = Unit {0}
 
 abbrev pub OpensTicket : TicketCall → Type 0
@@ -384,6 +396,8 @@ TakesMemory (OfRotation id) = Unit {0}
 TakesMemory OfJournalRotation = Unit {0}
 TakesMemory (OfFlushBegin id) = Unit {0}
 TakesMemory (OfFlushFinish job) = Unit {0}
+TakesMemory (OfMergeBegin kind id) = Unit {0}
+TakesMemory (OfMergeFinish job) = Unit {0}
 TakesMemory OfMaintenance = ⊥
 TakesMemory (OfRead view id query) = Unit {0}
 TakesMemory (OfTickets call) = OpensTicket call
@@ -400,7 +414,7 @@ mode_in s (ByMode mode) = mode
 abbrev pub leaves_buffer : Facts → ℕ → Change → Persistence → Bool
 leaves_buffer f waiting change how = goes_out (is_none (mode_in f.store how)) (waiting + length (change_text change f.next))
 
--- A call that changes the disk, where so many bytes wait in the journal's buffer. What flushes, ingestions and
+-- A call that changes the disk, where so many bytes wait in the journal's buffer. What flushes, merges, ingestions and
 -- maintenance change is said below.
 abbrev pub ChangesDisk : Facts → ℕ → Shape → Type 0
 ChangesDisk f waiting (OfChange (Items []) how) = ⊥
@@ -415,6 +429,8 @@ ChangesDisk f waiting (OfRotation id) = ⊥
 ChangesDisk f waiting OfJournalRotation = Unit {0}
 ChangesDisk f waiting (OfFlushBegin id) = ⊥
 ChangesDisk f waiting (OfFlushFinish job) = ⊥
+ChangesDisk f waiting (OfMergeBegin kind id) = ⊥
+ChangesDisk f waiting (OfMergeFinish job) = ⊥
 ChangesDisk f waiting OfMaintenance = ⊥
 ChangesDisk f waiting (OfRead view id query) = ⊥
 ChangesDisk f waiting (OfTickets call) = ⊥
@@ -445,6 +461,8 @@ TooLong s (OfRotation id) = ⊥
 TooLong s OfJournalRotation = ⊥
 TooLong s (OfFlushBegin id) = ⊥
 TooLong s (OfFlushFinish job) = ⊥
+TooLong s (OfMergeBegin kind id) = ⊥
+TooLong s (OfMergeFinish job) = ⊥
 TooLong s OfMaintenance = ⊥
 TooLong s (OfRead view id query) = ⊥
 TooLong s (OfTickets call) = ⊥
@@ -650,6 +668,99 @@ abbrev pub EvictsSome : State → State → Type 0
 EvictsSome old new =
     (gone left : List Sealed) × (old.parts.journals.sealed ≡ gone ++ left) × IsTrue (list_all (may_go (is_flushed old)) gone) × (new ≡ with_sealed left old)
 
+-- ---- merges
+
+-- from how many tables at level 0 on these settings want a merge
+abbrev pub l0_threshold : Options → ℕ
+l0_threshold options = little_number 1 (unwrap_or (value_of (codes "leveled_l0_threshold") options) [])
+
+-- the size at which these settings close a table that a merge makes
+abbrev pub target_size : Options → ℕ
+target_size options = little_number 8 (unwrap_or (value_of (codes "leveled_target_size") options) [])
+
+-- the settings of a keyspace
+abbrev pub options_in : Store → ℕ → Options
+options_in s id = unwrap_or (get s.options id) []
+
+-- how many tables at level 0 a merge of a keyspace with these settings wants: one that is due as many as they say, a major one none
+abbrev pub least_of : MergeKind → Options → ℕ
+least_of Due options = l0_threshold options
+least_of Major options = 0
+
+-- whether a merge of a tree begins that wants so many tables at level 0: it has a table and so many there, and no merge of it is out
+abbrev pub begins_merging : ℕ → lsm.Shape → Bool
+begins_merging least tree = nat_lt 0 (length tree.tables) && (nat_le least (count_by (λ t. is_l0 t.info.level) tree.tables) && is_none tree.merge)
+
+-- whether a merge of the keyspace begins
+abbrev pub begins_merge : Store → Forest → MergeKind → ℕ → Bool
+begins_merge s trees kind id = begins_merging (least_of kind (options_in s id)) (shape_in id trees)
+
+-- a merge of all tables of the keyspace, and of all clears of its record, is out, under the next number, and with the watermark of now
+abbrev pub merge_out : State → ℕ → State
+merge_out s id = record s {
+  next_job = s.next_job + 1;
+  parts = record s.parts { trees = altered_at id (merge_begun s.next_job s.tickets.watermark) s.parts.trees };
+}
+
+-- What comes of a merge that is to begin: it is out; or there is none to begin.
+abbrev pub BeginsMerge : Bool → State → ℕ → Reply → State → Type 0
+BeginsMerge true old id reply new =
+    (reply ≡ Began (Some (record { number = old.next_job; keyspace_id = id }))) × (old.next_job < 2 ^ 64 - 1) × (new ≡ merge_out old id)
+BeginsMerge false old id reply new = (reply ≡ Began None) × (new ≡ old)
+
+-- whether the merge of this job is out
+abbrev pub is_merging : Forest → JobId → Bool
+is_merging trees job = is_merge_out job.number (shape_in job.keyspace_id trees).merge
+
+-- what a merge that is out of a keyspace's tree was begun with, where its tables have these entries
+abbrev pub merge_task_of : ℕ → lsm.Shape → List (List Entry) → Merging → Task
+merge_task_of id tree entries out = merge_of out.id id out.watermark (take out.tables entries) (take out.clears tree.clears)
+
+-- The parts once the merge of a keyspace is finished that is out, which made these tables, of these entries and with these readers, and
+-- left these clears.
+abbrev pub merged : ℕ → Merging → List MadeTable → List ℕ → List (List Entry) → List Reader → Parts → Parts
+merged id out tables clears lists readers parts = record parts {
+  trees = altered_at id (merge_finished readers out) parts.trees;
+  entries = entries_with id (lists ++ drop out.tables (parts.entries id)) parts.entries;
+  records = records_with id (merges.record_after (merging.merge_out out tables clears) (parts.records id)) parts.records;
+}
+
+-- A merge that was out is finished: of the tables that it was begun with others were made, closed at the target size, of exactly the
+-- versions that its watermark neither hides nor has spent; they stand in the place of those, at level 1 and under the next ids, and of
+-- the clears that it was begun with those stay that its watermark doesn't reach. What came since stays.
+pub record MergesOne (target : ℕ) (old : Parts) (id : ℕ) (out : Merging) (new : Parts) : Type 0 where
+  pub tables : List MadeTable
+  pub clears : List ℕ
+  pub made : IsMerged target (merge_task_of id (shape_in id old.trees) (old.entries id) out) tables clears
+  pub readers : List Reader
+  pub infos : map (λ t. t.info) readers ≡ merges.infos_from (old.records id).next_table_id tables
+  pub is : new ≡ merged id out tables clears made.lists readers old
+
+abbrev pub MergesIn : Option Merging → ℕ → Parts → ℕ → Parts → Type 0
+MergesIn None target old id new = ⊥
+MergesIn (Some out) target old id new = MergesOne target old id out new
+
+-- the merge of the keyspace that is out is finished, whose tables are closed at the target size of its settings
+abbrev pub Merged : State → ℕ → Parts → Type 0
+Merged old id new = MergesIn (shape_in id old.parts.trees).merge (target_size (options_in (present old) id)) old.parts id new
+
+-- no merge of the keyspace is out any more
+abbrev pub merge_gone : State → ℕ → State
+merge_gone s id = record s { parts = record s.parts { trees = altered_at id merge_dropped s.parts.trees } }
+
+-- What comes of a merge that is to be finished. Where it is out and its keyspace lives, it takes effect. Where it isn't out it is stale,
+-- and nothing changes; one of a keyspace that was deleted is stale too, and out no more.
+abbrev pub FinishesMerge : (out lives : Bool) → State → JobId → Reply → State → Type 0
+FinishesMerge true true old job reply new =
+    (reply ≡ Flag true) × (old.poisoned ≡ false)
+    × (parts : Parts) × Merged old job.keyspace_id parts × (new ≡ record old { merges_done = counted (old.merges_done + 1); parts = parts })
+FinishesMerge true false old job reply new = (reply ≡ Flag false) × (new ≡ merge_gone old job.keyspace_id)
+FinishesMerge false lives old job reply new = (reply ≡ Flag false) × (new ≡ old)
+
+-- how many merges are out
+abbrev pub merge_count : Forest → ℕ
+merge_count trees = count_by (λ k. is_some k.shape.merge) trees
+
 -- ---- ingestions
 
 -- no number of a journal is left where the journal is rotated before it
@@ -751,6 +862,8 @@ CountIs s (Tables id) reply = reply ≡ Number (length (shape_in id s.parts.tree
 CountIs s (TablesL0 id) reply = reply ≡ Number (count_by (λ t. is_l0 t.info.level) (shape_in id s.parts.trees).tables)
 CountIs s (DiskSpace id) reply = reply ≡ Number (space_of s id)
 CountIs s Flushes reply = reply ≡ Number (flush_count (present s) s.parts.trees)
+CountIs s MergesOut reply = reply ≡ Number (merge_count s.parts.trees)
+CountIs s MergesDone reply = reply ≡ Number s.merges_done
 CountIs s ToFlush reply = (ids : Vec ℕ Global) × (reply ≡ Ids ids) × (ids.items ≡ waited_for (is_flushed s) s.parts.journals.sealed)
 
 -- What comes of an ingestion: of no items nothing; of some, once all that waited was synced, the next command, and journals that nobody
@@ -771,6 +884,8 @@ Answers old (OfRotation id) reply new = (reply ≡ Flag (rotates old.parts.trees
 Answers old OfJournalRotation reply new = (reply ≡ Done) × (new ≡ journal_rotated old)
 Answers old (OfFlushBegin id) reply new = BeginsFlush (begins_flush old.parts.trees id) old id reply new
 Answers old (OfFlushFinish job) reply new = FinishesFlush (is_flushing old.parts.trees job) (takes_effect old job) old job reply new
+Answers old (OfMergeBegin kind id) reply new = BeginsMerge (begins_merge (present old) old.parts.trees kind id) old id reply new
+Answers old (OfMergeFinish job) reply new = FinishesMerge (is_merging old.parts.trees job) (is_living (present old) job.keyspace_id) old job reply new
 Answers old OfMaintenance reply new = (reply ≡ Done) × (new ≡ evicted old)
 Answers old (OfRead view id query) reply new = Tells query (map_at (maps_in old view) id) reply × (new ≡ old)
 Answers old (OfTickets call) reply new = TurnsTickets (number old.history) old.tickets call reply new.tickets × (new ≡ record old { tickets = new.tickets })
@@ -796,6 +911,8 @@ at_fault s (OfRotation id) = s
 at_fault s OfJournalRotation = s
 at_fault s (OfFlushBegin id) = s
 at_fault s (OfFlushFinish job) = s
+at_fault s (OfMergeBegin kind id) = s
+at_fault s (OfMergeFinish job) = s
 at_fault s OfMaintenance = s
 at_fault s (OfRead view id query) = s
 at_fault s (OfTickets call) = s
@@ -806,7 +923,7 @@ at_fault s (OfCount count) = s
 abbrev pub HasTables : ℕ → Forest → Type 0
 HasTables id trees = (shape_in id trees).tables ≢ []
 
--- a read of a keyspace that has a table: it may ask the disk
+-- A read of a keyspace that has a table: it may ask the disk. What a merge reads that is to begin is said below.
 abbrev pub ReadsTables : Forest → Shape → Type 0
 ReadsTables trees (OfChange change how) = ⊥
 ReadsTables trees (OfIngestion id items) = ⊥
@@ -817,13 +934,15 @@ ReadsTables trees (OfRotation id) = ⊥
 ReadsTables trees OfJournalRotation = ⊥
 ReadsTables trees (OfFlushBegin id) = ⊥
 ReadsTables trees (OfFlushFinish job) = ⊥
+ReadsTables trees (OfMergeBegin kind id) = ⊥
+ReadsTables trees (OfMergeFinish job) = ⊥
 ReadsTables trees OfMaintenance = ⊥
 ReadsTables trees (OfRead view id query) = HasTables id trees
 ReadsTables trees (OfTickets call) = ⊥
 ReadsTables trees (OfPersist mode) = ⊥
 ReadsTables trees (OfCount count) = ⊥
 
--- a read of a keyspace one of whose tables has a wrong block
+-- a read of a keyspace one of whose tables has a wrong block, or a merge of it that is to begin
 abbrev pub ReadsDamaged : State → Shape → Type 0
 ReadsDamaged s (OfChange change how) = ⊥
 ReadsDamaged s (OfIngestion id items) = ⊥
@@ -834,6 +953,8 @@ ReadsDamaged s (OfRotation id) = ⊥
 ReadsDamaged s OfJournalRotation = ⊥
 ReadsDamaged s (OfFlushBegin id) = ⊥
 ReadsDamaged s (OfFlushFinish job) = ⊥
+ReadsDamaged s (OfMergeBegin kind id) = (begins_merge (present s) s.parts.trees kind id ≡ true) × (is_among s.damaged id ≡ true)
+ReadsDamaged s (OfMergeFinish job) = ⊥
 ReadsDamaged s OfMaintenance = ⊥
 ReadsDamaged s (OfRead view id query) = HasTables id s.parts.trees × (is_among s.damaged id ≡ true)
 ReadsDamaged s (OfTickets call) = ⊥
@@ -844,6 +965,10 @@ ReadsDamaged s (OfCount count) = ⊥
 abbrev pub IsDueToFinish : State → JobId → Type 0
 IsDueToFinish s job = (is_flushing s.parts.trees job ≡ true) × (takes_effect s job ≡ true)
 
+-- the merge of this job would take effect, but for a fault that has poisoned the engine, or for want of something
+abbrev pub IsDueToMerge : State → JobId → Type 0
+IsDueToMerge s job = (is_merging s.parts.trees job ≡ true) × (is_living (present s) job.keyspace_id ≡ true)
+
 -- What a fault leaves of an ingestion, but that it poisons the engine: of what is read nothing changed; all that waited in the journal's
 -- file may be there, a long journal may be sealed, and where the ingestion reached the disk, some journals may be gone that nobody wants
 -- behind it.
@@ -853,22 +978,50 @@ IngestionFails old id items new =
     IsPoisoned old new
     ⊎ (IsPoisoned synced new ⊎ ((mid left : State) × Ingests synced id items mid × EvictsSome mid left × IsPoisoned (with_sealed left.parts.journals.sealed synced) new))
 
--- What a fault leaves of a worker's step, but that it poisons the engine: of a flush that begins nothing; a flush that is finished took
--- effect or it didn't; and some journals may be gone that nobody wants.
+-- What a fault leaves of a worker's step, but that it poisons the engine: of a flush that begins nothing; a flush or a merge that is
+-- finished took effect or it didn't; and some journals may be gone that nobody wants. One that a merge meets as it begins, in a read,
+-- leaves all as it was, and poisons nothing.
 abbrev pub WorkFails : Shape → State → State → Type 0
 WorkFails (OfFlushBegin id) old new = (begins_flush old.parts.trees id ≡ true) × (are_jobs_used_up old ≡ false) × IsPoisoned old new
 WorkFails (OfFlushFinish job) old new =
     IsDueToFinish old job × (old.poisoned ≡ false)
     × (IsPoisoned old new ⊎ ((parts : Parts) × (mid : State) × Flushed old.parts job.keyspace_id parts × EvictsSome (record old { parts = parts }) mid × IsPoisoned mid new))
+WorkFails (OfMergeBegin kind id) old new = (begins_merge (present old) old.parts.trees kind id ≡ true) × (old.next_job < 2 ^ 64 - 1) × (new ≡ old)
+WorkFails (OfMergeFinish job) old new =
+    IsDueToMerge old job × (old.poisoned ≡ false)
+    × (IsPoisoned old new ⊎ ((parts : Parts) × Merged old job.keyspace_id parts × IsPoisoned (record old { parts = parts }) new))
 WorkFails (OfIngestion id []) old new = ⊥
 WorkFails (OfIngestion id (item ∷ items)) old new = (are_journals_used_up old ≡ false) × IngestionFails old id (item ∷ items) new
 WorkFails OfMaintenance old new = (mid : State) × EvictsSome old mid × IsPoisoned mid new
 WorkFails shape old new = ⊥
 
+-- too few ids are left for the tables that a merge made
+abbrev pub LacksMergeIds : Fields → Merge → Type 0
+LacksMergeIds last m = 2 ^ 64 ≤ last.next_table_id + length m.tables
+
+-- a record has no room for the tables and the clears that a merge leaves in it
+abbrev pub LacksMergeRoom : Fields → Merge → Type 0
+LacksMergeRoom last m = 2 ^ 32 ≤ length (body (merges.record_after m last))
+
+-- what some merge that is out of a tree may make of its task, whose tables are closed at this size, meets this with a record
+abbrev pub MayLack : Option Merging → (target id : ℕ) → lsm.Shape → List (List Entry) → Fields → (Fields → Merge → Type 0) → Type 0
+MayLack None target id tree entries last Lacks = ⊥
+MayLack (Some out) target id tree entries last Lacks =
+    (tables : List MadeTable) × (clears : List ℕ) × IsMerged target (merge_task_of id tree entries out) tables clears × Lacks last (merging.merge_out out tables clears)
+
+-- A merge is to be finished, and what it made lacks something.
+abbrev pub LacksAt : State → JobId → (Fields → Merge → Type 0) → Type 0
+LacksAt s job Lacks =
+    let id = job.keyspace_id in
+    let tree = shape_in id s.parts.trees in
+    IsDueToMerge s job × (s.poisoned ≡ false) × MayLack tree.merge (target_size (options_in (present s) id)) id tree (s.parts.entries id) (s.parts.records id) Lacks
+
 -- A worker's step or an ingestion that needs a number of which none is left: a job's, a journal's, or that of a keyspace's next table.
 abbrev pub UsesUp : State → Shape → Type 0
 UsesUp s (OfFlushBegin id) = (begins_flush s.parts.trees id ≡ true) × (are_jobs_used_up s ≡ true)
 UsesUp s (OfFlushFinish job) = IsDueToFinish s job × (s.poisoned ≡ false) × ((s.parts.records job.keyspace_id).next_table_id ≡ 2 ^ 64 - 1)
+UsesUp s (OfMergeBegin kind id) = (begins_merge (present s) s.parts.trees kind id ≡ true) × (s.next_job ≡ 2 ^ 64 - 1)
+UsesUp s (OfMergeFinish job) = LacksAt s job LacksMergeIds
 UsesUp s (OfIngestion id []) = ⊥
 UsesUp s (OfIngestion id (item ∷ items)) =
     (are_journals_used_up s ≡ true) ⊎ LacksIds (shape_in id s.parts.trees) id s.tickets.watermark (s.parts.records id)
@@ -879,19 +1032,22 @@ abbrev pub LacksRoom : lsm.Shape → Option Flushing → Fields → Type 0
 LacksRoom tree None last = ⊥
 LacksRoom tree (Some out) last = (tables : List MadeTable) × (length tables ≤ 1) × (2 ^ 32 ≤ length (body (record_after (flush_with tree out tables) last)))
 
--- The record of a keyspace whose flush is to be finished, or into which items are ingested, has no room for the tables and the clears.
+-- The record of a keyspace whose flush or merge is to be finished, or into which items are ingested, has no room for the tables and the
+-- clears.
 abbrev pub HasNoRoom : State → Shape → Type 0
 HasNoRoom s (OfFlushFinish job) =
     let tree = shape_in job.keyspace_id s.parts.trees in
     IsDueToFinish s job × (s.poisoned ≡ false) × LacksRoom tree tree.flush (s.parts.records job.keyspace_id)
+HasNoRoom s (OfMergeFinish job) = LacksAt s job LacksMergeRoom
 HasNoRoom s (OfIngestion id []) = ⊥
 HasNoRoom s (OfIngestion id (item ∷ items)) =
     LacksRecordRoom (shape_in id s.parts.trees) id s.tickets.watermark (number s.history) (item ∷ items) (s.parts.records id)
 HasNoRoom s shape = ⊥
 
--- a flush that is to be finished in a poisoned engine, and isn't stale
+-- a flush or a merge that is to be finished in a poisoned engine, and isn't stale
 abbrev pub FinishesLate : State → Shape → Type 0
 FinishesLate s (OfFlushFinish job) = IsDueToFinish s job × (s.poisoned ≡ true)
+FinishesLate s (OfMergeFinish job) = IsDueToMerge s job × (s.poisoned ≡ true)
 FinishesLate s shape = ⊥
 
 -- Where none is due, the disk may fail, memory run out, a read meet a wrong block, an option's value be too long to be stored, or a

@@ -7,7 +7,7 @@ use Rattle.fjall_history.specs.declared.ticket.View.TheVariants.{Present, At}
 use Rattle.fjall_history.specs.declared.reply.Reply.{Reply}
 use Rattle.fjall_history.specs.declared.reply.Reply.TheVariants.{Began, Opened}
 use Rattle.fjall_state.specs.declared.call.Call.{Call}
-use Rattle.fjall_state.specs.declared.call.Call.TheVariants.{CloneSnapshot, CloseSnapshot, FlushFinish, GetAt, PageAt}
+use Rattle.fjall_state.specs.declared.call.Call.TheVariants.{CloneSnapshot, CloseSnapshot, FlushFinish, GetAt, MergeFinish, PageAt}
 
 -- the id of the ticket that a call opened, as its reply tells; where it opened none, the greatest u64, which no ticket has
 abbrev pub id_opened : Option Reply → ℕ
@@ -34,6 +34,7 @@ resolved replies (PageAt view id range back max) = PageAt (view_at replies view)
 resolved replies (CloneSnapshot ticket) = CloneSnapshot (ticket_at replies ticket)
 resolved replies (CloseSnapshot ticket) = CloseSnapshot (ticket_at replies ticket)
 resolved replies (FlushFinish job) = FlushFinish (job_begun (slice_get replies job.number))
+resolved replies (MergeFinish job) = MergeFinish (job_begun (slice_get replies job.number))
 resolved replies call = call
 
 -- calls of a list that got these replies, behind those that got the first

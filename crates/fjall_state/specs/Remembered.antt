@@ -6,6 +6,7 @@ use Rattle.std.specs.FinMap.{FinMap, code, empty, get, insert, remove, values}
 use Rattle.fjall_base.specs.Pairs.{Bytes}
 use Rattle.fjall_base.specs.Store.{kept, map_at}
 use Rattle.fjall_journal.specs.Changes.{Change}
+use Rattle.fjall_journal.specs.Writer.{counted}
 use Rattle.fjall_manager.specs.Journals.{Journals, Sealed, next_journal}
 use Rattle.fjall_manager.specs.Places.{Places, told}
 use Rattle.fjall_meta.specs.declared.living.LivingKeyspace.{LivingKeyspace}
@@ -16,9 +17,9 @@ use Rattle.fjall_catalog.specs.Catalog.{fields, first_of}
 use Rattle.fjall_contents.specs.Contents.{is_beyond}
 use Rattle.fjall_loading.specs.Known.{LastFields, last_known}
 use Rattle.fjall_lsm.specs.Ingestions.{is_flush_due}
-use Rattle.fjall_lsm.specs.Jobs.{flush_begun, flush_dropped, flush_finished}
+use Rattle.fjall_lsm.specs.Jobs.{flush_begun, flush_dropped, flush_finished, merge_begun, merge_dropped, merge_finished}
 use Rattle.fjall_lsm.specs.Jobs as lsm
-use Rattle.fjall_lsm.specs.Trees.{Flushing, sealed_off}
+use Rattle.fjall_lsm.specs.Trees.{Flushing, Merging, sealed_off}
 use Rattle.fjall_jobs.specs.Tasks.{Task}
 use Rattle.fjall_tree.specs.Records.{Fields}
 use Rattle.fjall_trees.specs.Forests.{AreBefore, Forest, IsForest, altered_at, tree_at}
@@ -36,7 +37,7 @@ use Rattle.fjall_state.specs.Machine.{Facts, State, changed, handles_of, instant
 
 -- The keyspaces that live, the trees of keyspaces, the next number, whether a fault has poisoned the engine, how many
 -- handles of each keyspace are counted, the deleted keyspaces whose last maps are still read, the tickets, the journals, the last
--- records of keyspaces that are kept, and the number that the next job gets.
+-- records of keyspaces that are kept, the number that the next job gets, and how many merges were finished and took effect.
 pub record Remembered : Type 0 where
   pub keyspaces : Keyspaces
   pub trees : Forest
@@ -48,14 +49,19 @@ pub record Remembered : Type 0 where
   pub journals : Journals
   pub records : LastFields
   pub next_job : ℕ
+  pub merges_done : ℕ
 
 -- A flush that is out has a number that was given out, and a watermark that was reached.
 abbrev pub IsBegun : ℕ → ℕ → Option Flushing → Type 0
 IsBegun next_job watermark flush = IfSome flush (λ out. (out.id < next_job) × (out.watermark ≤ watermark))
 
+-- so has a merge
+abbrev pub IsMergeBegun : ℕ → ℕ → Option Merging → Type 0
+IsMergeBegun next_job watermark merge = IfSome merge (λ out. (out.id < next_job) × (out.watermark ≤ watermark))
+
 -- Keyspaces and what trees hold were made under lesser numbers than the next one, which is at most 2^63. Each keyspace that
 -- lives has a tree and a record, and both are of ids that were given out. Tickets read at numbers up to the next one, above the
--- watermark. Flushes that are out were begun. Numbers of jobs are those of 64 bits.
+-- watermark. Flushes and merges that are out were begun. Numbers of jobs are those of 64 bits.
 pub record IsLawful (m : Remembered) : Type 0 where
   pub keyspaces : AreKeyspaces m.keyspaces
   pub made : All (λ k. k.number < m.next) m.keyspaces.living
@@ -70,6 +76,7 @@ pub record IsLawful (m : Remembered) : Type 0 where
   pub recorded : All (λ k. is_some (get m.records k.id) ≡ true) m.keyspaces.living
   pub kept : (id : ℕ) → m.keyspaces.next ≤ id → get m.records id ≡ None
   pub begun : All (λ k. IsBegun m.next_job m.tickets.watermark k.shape.flush) m.trees
+  pub merging : All (λ k. IsMergeBegun m.next_job m.tickets.watermark k.shape.merge) m.trees
   pub jobs : m.next_job < 2 ^ 64
 
 -- how counts of handles are told apart
@@ -118,6 +125,7 @@ pub record StandsFor (m : Remembered) (table : ℕ) (s : State) : Type 0 where
   pub lasting : s.lasting ≡ m.lasting
   pub tickets : s.tickets ≡ m.tickets
   pub next_job : s.next_job ≡ m.next_job
+  pub merges_done : s.merges_done ≡ m.merges_done
   pub records : All (λ k. s.parts.records k.id ≡ last_known m.records k) m.keyspaces.living
   pub next_table : s.parts.table ≡ table
   pub trees : AreSameTrees s.parts.trees m.trees
@@ -138,6 +146,7 @@ remembered keyspaces trees next journals records = record {
   journals = journals;
   records = records;
   next_job = 0;
+  merges_done = 0;
 }
 
 -- ---- what calls make of it
@@ -220,6 +229,24 @@ abbrev pub KnowsTask : Remembered → Task → Type 0
 KnowsTask m task =
     (task.id < m.next_job) × (is_flush_due task.id (shape_in task.keyspace m.trees).flush ≡ true → lsm.IsFlushing (shape_in task.keyspace m.trees) task)
     × (task.runs ≢ [])
+
+-- ---- merges
+
+-- with a merge of all tables of a keyspace out, under the next number of a job and the watermark of now
+abbrev pub merge_out : ℕ → Remembered → Remembered
+merge_out id m = record m { trees = altered_at id (merge_begun m.next_job m.tickets.watermark) m.trees; next_job = m.next_job + 1 }
+
+-- with no merge of a keyspace out
+abbrev pub merge_gone : ℕ → Remembered → Remembered
+merge_gone id m = record m { trees = altered_at id merge_dropped m.trees }
+
+-- With the merge of a keyspace finished that was out, with the readers of its tables, and with the keyspace's record after it.
+abbrev pub with_merge : ℕ → Merging → List Reader → Fields → Remembered → Remembered
+with_merge id out readers last m = record m { trees = altered_at id (merge_finished readers out) m.trees; records = insert m.records id last }
+
+-- with a merge more that took effect, up to the greatest u64
+abbrev pub with_merge_done : Remembered → Remembered
+with_merge_done m = record m { merges_done = counted (m.merges_done + 1) }
 
 -- whether no journal is wanted for the changes of a keyspace up to a number, as its last record tells where it lives
 abbrev pub flushed_of : LastFields → Option LivingKeyspace → ℕ → Bool

@@ -10,10 +10,12 @@ use Rattle.fjall_history.specs.declared.job.JobId.{JobId}
 use Rattle.fjall_history.specs.declared.ticket.View.{View}
 use Rattle.fjall_history.specs.Queries.{Query, Get, Page}
 use Rattle.fjall_state.specs.declared.call.Call.{Call}
+use Rattle.fjall_state.specs.declared.merges.MergeKind.{MergeKind}
+use Rattle.fjall_state.specs.declared.merges.MergeKind.TheVariants.{Due, Major}
 use Rattle.fjall_state.specs.declared.call.Call.TheVariants as calls
-use Rattle.fjall_state.specs.declared.call.Call.TheVariants.{Keyspace, DeleteKeyspace, Retain, Release, Insert, Remove, RemoveWeak, Clear, CommitBatch, Ingest, RotateMemtable, RotateJournal, FlushBegin, FlushFinish, Maintenance, GetAt, PageAt}
+use Rattle.fjall_state.specs.declared.call.Call.TheVariants.{Keyspace, DeleteKeyspace, Retain, Release, Insert, Remove, RemoveWeak, Clear, CommitBatch, Ingest, RotateMemtable, RotateJournal, FlushBegin, FlushFinish, MergeBegin, MajorBegin, MergeFinish, Maintenance, GetAt, PageAt}
 use Rattle.fjall_state.specs.declared.call.Call.TheVariants.{Snapshot, CloneSnapshot, CloseSnapshot, Gc, Persist, KeyspaceCount, ListKeyspaceNames, KeyspaceExists, Seqno, VisibleSeqno, JournalCount, JournalDiskSpace, OpenSnapshots}
-use Rattle.fjall_state.specs.declared.call.Call.TheVariants.{ApproximateLen, SealedMemtableCount, WriteBufferSize, TableCount, L0TableCount, OutstandingFlushes, KeyspacesToFlush}
+use Rattle.fjall_state.specs.declared.call.Call.TheVariants.{ApproximateLen, SealedMemtableCount, WriteBufferSize, TableCount, L0TableCount, OutstandingFlushes, ActiveCompactions, CompactionsCompleted, KeyspacesToFlush}
 
 -- How a change is persisted: as the option of the keyspace of this id says, or by a mode or none that came with it.
 pub data Persistence : Type 0 where
@@ -50,10 +52,12 @@ pub data Count : Type 0 where
   TablesL0 : (id : ℕ) → Count
   DiskSpace : (id : Option ℕ) → Count
   Flushes : Count
+  MergesOut : Count
+  MergesDone : Count
   ToFlush : Count
 
 -- A change is one command with its batch; an ingestion is one command too, of items of one keyspace; a rotation seals a keyspace's active memtable, one of the journal the active journal; a
--- flush is begun of a keyspace, and finished by its job; maintenance removes sealed journals; a read is a query on a keyspace's map
+-- flush is begun of a keyspace, and finished by its job, and so is a merge, which is begun where it is due, or as a major one; maintenance removes sealed journals; a read is a query on a keyspace's map
 -- in a view.
 pub data Shape : Type 0 where
   OfChange : (change : Change) (how : Persistence) → Shape
@@ -65,6 +69,8 @@ pub data Shape : Type 0 where
   OfJournalRotation : Shape
   OfFlushBegin : (id : ℕ) → Shape
   OfFlushFinish : (job : JobId) → Shape
+  OfMergeBegin : (kind : MergeKind) (id : ℕ) → Shape
+  OfMergeFinish : (job : JobId) → Shape
   OfMaintenance : Shape
   OfRead : (view : View) (id : ℕ) (query : Query) → Shape
   OfTickets : (call : TicketCall) → Shape
@@ -94,6 +100,9 @@ shape_of (RotateMemtable id) = OfRotation id
 shape_of RotateJournal = OfJournalRotation
 shape_of (FlushBegin id) = OfFlushBegin id
 shape_of (FlushFinish job) = OfFlushFinish job
+shape_of (MergeBegin id) = OfMergeBegin Due id
+shape_of (MajorBegin id) = OfMergeBegin Major id
+shape_of (MergeFinish job) = OfMergeFinish job
 shape_of Maintenance = OfMaintenance
 shape_of (GetAt view id key) = OfRead view id (Get key)
 shape_of (PageAt view id range back max) = OfRead view id (Page range back max)
@@ -118,4 +127,6 @@ shape_of (TableCount id) = OfCount (Tables id)
 shape_of (L0TableCount id) = OfCount (TablesL0 id)
 shape_of (calls.DiskSpace id) = OfCount (DiskSpace id)
 shape_of OutstandingFlushes = OfCount Flushes
+shape_of ActiveCompactions = OfCount MergesOut
+shape_of CompactionsCompleted = OfCount MergesDone
 shape_of KeyspacesToFlush = OfCount ToFlush

@@ -38,6 +38,12 @@ pub enum Call {
     FlushBegin(u64),
     /// The job's `run`, and then `flush_finish`: job.
     FlushFinish(JobId),
+    /// `merge_begin`: keyspace id.
+    MergeBegin(u64),
+    /// `major_begin`: keyspace id.
+    MajorBegin(u64),
+    /// The job's `run`, and then `merge_finish`: job.
+    MergeFinish(JobId),
     /// `maintenance`.
     Maintenance,
     /// `get_at`: view, keyspace id and key.
@@ -86,6 +92,10 @@ pub enum Call {
     DiskSpace(Option<u64>),
     /// `outstanding_flushes`.
     OutstandingFlushes,
+    /// `active_compactions`.
+    ActiveCompactions,
+    /// `compactions_completed`.
+    CompactionsCompleted,
     /// `get_keyspaces_to_flush_for_oldest_journal_eviction`.
     KeyspacesToFlush,
 }

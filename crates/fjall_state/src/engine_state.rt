@@ -33,7 +33,7 @@ use std::marker::Model;
 /// the tickets of snapshots with the next number, at which a new one reads, whether a fault has poisoned it, how many handles
 /// of each keyspace are counted, the deleted keyspaces that are still read, what is known of the journals: the sealed ones, and
 /// of the active one its number and up to which number each keyspace has changes in it; the last records of the keyspaces that
-/// have a tree, and the number that the next job gets.
+/// have a tree, the number that the next job gets, and how many merges were finished and took effect.
 #[derive(Drop)]
 pub struct EngineState {
     alloc: Global,
@@ -48,6 +48,7 @@ pub struct EngineState {
     pub(crate) watermarks: ActiveWatermarks,
     pub(crate) records: LastRecords,
     pub(crate) next_job: u64,
+    pub(crate) merges_done: u64,
 }
 
 impl Model for EngineState {
@@ -72,6 +73,7 @@ impl Model for EngineState {
       journals = journals_of m.sealed m.active m.watermarks;
       records = m.records;
       next_job = m.next_job;
+      merges_done = m.merges_done;
     } };
 
     ghost invariant = { λ m. IsLawful (record {
@@ -85,6 +87,7 @@ impl Model for EngineState {
       journals = journals_of m.sealed m.active m.watermarks;
       records = m.records;
       next_job = m.next_job;
+      merges_done = m.merges_done;
     }) };
 }
 
@@ -109,7 +112,7 @@ fn count_less(handles: &mut BTreeMap<u64, u64>, id: u64)
 }
 
 impl EngineState {
-    /// These keyspaces, with these trees, no flush of which is out, and these last records, whose next change takes this number.
+    /// These keyspaces, with these trees, no job of which is out, and these last records, whose next change takes this number.
     /// Before the active journal, of this number and with these watermarks, there are these sealed ones.
     pub fn new(
         alloc: Global,
@@ -128,7 +131,7 @@ impl EngineState {
         requires small { next ≤ 2 ^ 63 }
         requires recorded { All (λ k. is_some (get records k.id) ≡ true) keyspaces.living }
         requires kept { (id : ℕ) → keyspaces.next ≤ id → get records id ≡ None }
-        requires still { All (λ k. k.shape.flush ≡ None) (forest_of trees) }
+        requires still { All (λ k. (k.shape.flush ≡ None) × (k.shape.merge ≡ None)) (forest_of trees) }
         ensures { result ≡ remembered keyspaces (forest_of trees) next (journals_of sealed active watermarks) records }
     {
         EngineState {
@@ -144,6 +147,7 @@ impl EngineState {
             watermarks,
             records,
             next_job: 0,
+            merges_done: 0,
         }
     }
 

@@ -78,10 +78,10 @@ impl EngineState {
     }
 
     /// Whether the flush of this job is out.
-    pub fn is_flushing(&self, job: &FlushJob) -> bool
-        ensures { result ≡ is_flush_out (flush_task job.now).id (shape_in (flush_task job.now).keyspace self.now.trees).flush }
+    pub fn is_flushing(&self, made: &FlushMade) -> bool
+        ensures { result ≡ is_flush_out (flush_task made.now.job).id (shape_in (flush_task made.now.job).keyspace self.now.trees).flush }
     {
-        self.trees.is_flushing(job.keyspace_id(), job.id())
+        self.trees.is_flushing(made.keyspace_id(), made.id())
     }
 
     /// Whether no number of a job is left or, where the active journal is to be sealed before a flush, none of a journal.
@@ -121,8 +121,8 @@ fn plan(alloc: Global, last: &Record, number: u64, made: &FlushMade) -> Result<P
     ensures readers { IfOk result (λ p. AreReadersOf (keyspace_of made.now) last.now.next_table_id made.now.tables.items p.readers.items) }
     ensures cause { IfErr result (IsPlanRefusal (view last.now) (finished_with number made.now)) }
 {
-    let writes = plan_flush(alloc, made.job.keyspace_id(), last, number, made)?;
-    let readers = table_readers(alloc, &writes.table, last.next_table_id, &made.tables)?;
+    let writes = plan_flush(alloc, made.keyspace_id(), last, number, made)?;
+    let readers = table_readers(alloc, &writes.table, last.next_table_id, made.tables())?;
     Ok(PlannedFlush { writes, readers })
 }
 
@@ -137,7 +137,7 @@ fn settle(trees: &mut Trees, records: &mut LastRecords, made: &FlushMade, planne
 {
     let PlannedFlush { writes, readers } = planned;
     match trees.finish_flush(made, readers) {
-        Ok(true) => records.replace(made.job.keyspace_id(), writes.record),
+        Ok(true) => records.replace(made.keyspace_id(), writes.record),
         _ => unreachable!(),
     }
 }
@@ -187,14 +187,14 @@ impl EngineState {
         // Its id, and those that were given out before it, have their place.
         ensures fits { ForFlush self.old (keyspace_of made.now) (λ k out. OnOk result ((last_known self.old.records k).next_table_id + length made.now.tables.items < 2 ^ 64)) }
     {
-        let id = made.job.keyspace_id();
+        let id = made.keyspace_id();
         let Some(last) = self.records.get(id) else {
             unreachable!()
         };
         let number = self.trees.flush_end(id).saturating_sub(1);
         let planned = plan(alloc, last, number, made)?;
         self.trees
-            .reserve(id, planned.readers.len(), made.clears.len())?;
+            .reserve(id, planned.readers.len(), made.clears().len())?;
         write_flush(disk, &planned.writes, made)?;
         settle(&mut self.trees, &mut self.records, made, planned);
         Ok(())

@@ -23,7 +23,7 @@ use crate::engine_state::EngineState;
 use crate::refusals::JOURNAL_LIMIT;
 use fjall_base::{Error, Result, UserKey};
 use fjall_ingest::{PlannedIngestion, plan_ingestion};
-use fjall_jobs::FlushJob;
+use fjall_jobs::FlushMade;
 use fjall_journal::Op;
 use std::alloc::Global;
 
@@ -169,9 +169,9 @@ impl EngineState {
     }
 
     /// Whether the flush of this job is out, and takes effect once it is finished: no ingestion has made it stale.
-    pub fn is_flush_due(&self, job: &FlushJob) -> bool
-        ensures { result ≡ is_flush_due (flush_task job.now).id (shape_in (flush_task job.now).keyspace self.now.trees).flush }
+    pub fn is_flush_due(&self, made: &FlushMade) -> bool
+        ensures { result ≡ is_flush_due (flush_task made.now.job).id (shape_in (flush_task made.now.job).keyspace self.now.trees).flush }
     {
-        self.trees.is_flush_due(job.keyspace_id(), job.id())
+        self.trees.is_flush_due(made.keyspace_id(), made.id())
     }
 }

@@ -11,6 +11,8 @@ mod ingestions;
 mod journals;
 mod laws;
 mod memtables;
+mod merge_laws;
+mod merges;
 mod places;
 mod reads;
 mod refusals;
@@ -30,4 +32,9 @@ pub use laws::{
     a_step_moves, an_eviction_stands, an_opening_stands, counts_agree, facts_agree, flushes_agree,
     names_agree, nothing_refused, options_agree, other_parts_stand, reads_agree, tickets_stand,
 };
+pub use merge_laws::{
+    a_begun_merge_stands, a_counted_merge_stands, a_dropped_merge_stands, a_finished_merge_stands,
+    a_known_merge_stays, a_known_task_stays_beside_merges, a_merge_refusal_is_a_step, merges_agree,
+};
+pub use merges::MergeKind;
 pub use places::job_at;

@@ -63,6 +63,7 @@ impl Call {
             Call::CloneSnapshot(ticket) => Call::CloneSnapshot(ticket_at(replies, ticket)),
             Call::CloseSnapshot(ticket) => Call::CloseSnapshot(ticket_at(replies, ticket)),
             Call::FlushFinish(job) => Call::FlushFinish(job_at(replies, job.number)),
+            Call::MergeFinish(job) => Call::MergeFinish(job_at(replies, job.number)),
             call => call,
         }
     }

@@ -22,7 +22,7 @@ use Rattle.fjall_state.specs.Shapes.{Shape}
 use Rattle.fjall_state.specs.Machine.{State, StepOf, times}
 use Rattle.fjall_state.proofs.Moving.{shape_moves}
 use Rattle.fjall_core.specs.Holding.{Held}
-use Rattle.fjall_core.specs.Standing.{ReadsOn, Serves, StandsFor}
+use Rattle.fjall_core.specs.Standing.{ReadsOn, Serves, ServesWhere, StandsFor}
 use Rattle.fjall_transactions.specs.Standing.{StandFor, Told, gone_on, history_of}
 use Rattle.fjall_transactions.specs.Transactions.{AreOf, Kept}
 
@@ -73,6 +73,13 @@ pub served_stands : (core new : Held) (kept : Kept) (t : Told) (shape : Shape) (
     → (s : State) × StandFor new kept (gone_on t s) × ReadsOn new s × StepOf t.state shape reply s
 served_stands core new kept t shape reply stands reads serves =
     let (s, is, on, step, led) = serves.goes_on t.state stands.machine reads in
+    (s, shape_stands core new kept t s shape reply stands step is, on, step)
+
+-- the same of a call that is served from some states, of which this is one
+pub served_stands_where : (core new : Held) (kept : Kept) (t : Told) (Meets : State → Type 0) (shape : Shape) (reply : Reply) → StandFor core kept t → ReadsOn core t.state → Meets t.state → ServesWhere Meets core shape reply new
+    → (s : State) × StandFor new kept (gone_on t s) × ReadsOn new s × StepOf t.state shape reply s
+served_stands_where core new kept t Meets shape reply stands reads meets serves =
+    let (s, is, on, step, led) = serves.goes_on t.state stands.machine reads meets in
     (s, shape_stands core new kept t s shape reply stands step is, on, step)
 
 -- ---- an opening

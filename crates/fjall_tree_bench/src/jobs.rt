@@ -27,7 +27,7 @@ fn flush_of(parts: &Parts, most: usize) -> Result<FlushJob> {
 /// Flushes the oldest sealed parts, so many at most.
 pub fn flush(alloc: Global, parts: &Parts, most: usize) -> Result<Vec<MadeTable>> {
     match flush_of(parts, most)?.run(alloc) {
-        Ok(made) => Ok(made.tables),
+        Ok(made) => Ok(made.into_tables()),
         Err(refused) => Err(refused.error),
     }
 }
@@ -36,7 +36,7 @@ pub fn flush(alloc: Global, parts: &Parts, most: usize) -> Result<Vec<MadeTable>
 pub fn merge(alloc: Global, tables: Vec<Vec<Arc<Block>>>) -> Result<Vec<MadeTable>> {
     let job = MergeJob::new(1, 1, WATERMARK, TARGET, tables, Vec::new(alloc));
     match job.run(alloc) {
-        Ok(made) => Ok(made.tables),
+        Ok(made) => Ok(made.into_tables()),
         Err(refused) => Err(refused.error),
     }
 }

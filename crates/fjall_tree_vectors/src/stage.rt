@@ -93,8 +93,8 @@ impl Stage {
             return Ok(false);
         };
         let (alloc, disk) = (self.alloc, &mut self.disk);
-        let tables = write_tables(alloc, disk, &mut self.table_id, &made.tables, Level::L0)?;
-        self.tree.reserve(tables.len(), made.clears.len())?;
+        let tables = write_tables(alloc, disk, &mut self.table_id, made.tables(), Level::L0)?;
+        self.tree.reserve(tables.len(), made.clears().len())?;
         self.tree.finish_flush(made, tables)
     }
 
@@ -126,14 +126,14 @@ impl Stage {
             return Ok(false);
         };
         let (alloc, disk) = (self.alloc, &mut self.disk);
-        let tables = write_tables(alloc, disk, &mut self.table_id, &made.tables, Level::L1)?;
+        let tables = write_tables(alloc, disk, &mut self.table_id, made.tables(), Level::L1)?;
         self.tree.finish_merge(made, tables)
     }
 
     /// Whether the last flush made so many tables, and these clears.
     fn has_made(&self, tables: usize, clears: &[u64]) -> bool {
         match self.flushed.last() {
-            Some(made) => made.tables.len() == tables && made.clears.as_slice() == clears,
+            Some(made) => made.tables().len() == tables && made.clears() == clears,
             None => false,
         }
     }

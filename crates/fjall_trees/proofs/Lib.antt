@@ -1,4 +1,5 @@
 pub mod Changing
+pub mod Counting
 pub mod Ingested
 pub mod Marking
 pub mod Others

@@ -1,6 +1,6 @@
-//! What a keyspace's tree counts: nothing where it has none.
+//! What a keyspace's tree counts: nothing where it has none. And how many keyspaces have a merge out.
 
-ghost use Rattle.std.specs.Prelude.{◌≡◌, ◌+◌, ◌-◌, ◌^◌, count_by, length, min};
+ghost use Rattle.std.specs.Prelude.{◌≡◌, ◌+◌, ◌-◌, ◌^◌, count_by, is_some, length, min};
 ghost use Rattle.std.specs.List.{sum_by};
 ghost use Rattle.fjall_memtable.specs.Entries.{size_of};
 ghost use Rattle.fjall_parts.specs.Parts.{parts_of, versions_in};
@@ -81,5 +81,15 @@ impl Trees {
             Some(tree) => tree.memtable_size(),
             None => 0,
         }
+    }
+
+    /// How many keyspaces have a merge out.
+    pub fn merge_count(&self) -> usize
+        ensures { result ≡ count_by (λ k. is_some k.shape.merge) (forest_of self.now) }
+    {
+        self.trees
+            .iter()
+            .filter(|keyspace| keyspace.tree.is_merging())
+            .count()
     }
 }

@@ -158,7 +158,7 @@ impl Trees {
         ensures ready { HasRoomAt (flush_task made.now.job).keyspace self.old (length tables.items) (length (flush_task made.now.job).clears)
             → IsFlushing (shape_in (flush_task made.now.job).keyspace (forest_of self.old)) (flush_task made.now.job) → IsOk result }
     {
-        match place_of(self.trees.as_slice(), made.job.keyspace_id()) {
+        match place_of(self.trees.as_slice(), made.keyspace_id()) {
             Some(place) => self.trees[place].tree.finish_flush(made, tables),
             None => Ok(false),
         }
@@ -181,6 +181,8 @@ impl Trees {
         ensures none { IfOk result (λ made. (made ≡ None) ↔ MergesNothing least (shape_in id (forest_of self.old))) }
         ensures job { IsTrue D.honest → (entries : ℕ → List (List Entry)) → AreReadOn (D.meaning disk.old) (forest_of self.old) entries
             → IfOk result (λ made. IfSome made (λ made. merge_task made ≡ merge_of job id watermark (entries id) (shape_in id (forest_of self.old)).clears)) }
+        // What the job is told over any disk, but for what the tables hold.
+        ensures named { IfOk result (λ made. IfSome made (λ made. merge_task made ≡ merge_of job id watermark (merge_task made).runs (shape_in id (forest_of self.old)).clears)) }
         ensures target { IfOk result (λ made. IfSome made (λ made. made.target ≡ target)) }
         ensures begun { IfOk result (λ made. IfSome made (λ _. AreSameTrees (altered_at id (merge_begun job watermark) (forest_of self.old)) (forest_of self.new))) }
         ensures out { IsTrue D.honest → (entries : ℕ → List (List Entry)) → AreReadOn (D.meaning disk.old) (forest_of self.old) entries
@@ -217,7 +219,7 @@ impl Trees {
         ensures ready { IfSome (shape_in (merge_task made.now.job).keyspace (forest_of self.old)).merge
             (λ out. vec_len tables + (length (shape_in (merge_task made.now.job).keyspace (forest_of self.old)).tables - out.tables) ≤ vec_capacity tables) → IsOk result }
     {
-        match place_of(self.trees.as_slice(), made.job.keyspace_id()) {
+        match place_of(self.trees.as_slice(), made.keyspace_id()) {
             Some(place) => self.trees[place].tree.finish_merge(made, tables),
             None => Ok(false),
         }

@@ -5,12 +5,14 @@ use Rattle.fjall_calls.proofs.serving.run.Given as goal
 
 abbrev pub invariant-loop-call : goal.invariant-loop-call
 invariant-loop-call g l = record {
-  runs : RunSoFar g.D.Disk.honest l.fn.core l.fn.transactions (take (length l.yielded) l.fn.calls.items) l.replies.items l.core l.transactions l.listed.items;
-  keeps : KeepsJobs l.core.memory l.jobs.items l.replies.items;
+  runs : RunSoFar g.D.Disk.honest l.jobs.merges.items l.fn.core l.fn.transactions (take (length l.yielded) l.fn.calls.items) l.replies.items l.core l.transactions l.listed.items;
+  keeps : KeepsJobs l.core.memory l.jobs l.replies.items;
   count : vec_len l.replies ≡ length l.yielded;
   listed_count : vec_len l.listed ≤ length l.yielded;
-  jobs_count : vec_len l.jobs ≤ length l.yielded;
+  flush_count : vec_len l.jobs.flushes ≤ length l.yielded;
+  merge_count : vec_len l.jobs.merges ≤ length l.yielded;
   room : length l.fn.calls.items ≤ vec_capacity l.replies;
   listed_room : length l.fn.calls.items ≤ vec_capacity l.listed;
-  jobs_room : length l.fn.calls.items ≤ vec_capacity l.jobs;
+  flush_room : length l.fn.calls.items ≤ vec_capacity l.jobs.flushes;
+  merge_room : length l.fn.calls.items ≤ vec_capacity l.jobs.merges;
 }

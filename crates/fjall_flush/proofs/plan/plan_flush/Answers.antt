@@ -5,4 +5,4 @@ use Rattle.fjall_flush.proofs.NewTables.{at_most_one}
 use Rattle.fjall_flush.proofs.plan.plan_flush.Goals as goal
 
 pub plan_tables-requires : goal.plan_tables-requires
-plan_tables-requires c = subst (λ (l : List MadeTable). length l ≤ 1) (sym c.deref.ensures.value) (at_most_one c.args.made.now)
+plan_tables-requires c = subst (λ (l : List MadeTable). length l ≤ 1) (sym c.tables.ensures.value) (at_most_one c.args.made.now)

@@ -4,9 +4,6 @@ use Rattle.fjall_merge.specs.Merges.{home_after}
 use Rattle.fjall_merge.proofs.Taking as Taking
 use Rattle.fjall_merge.proofs.writing.remove_taken.Goals as goal
 
-pub returns-clause-within : goal.returns-clause-within
-returns-clause-within g c honest id m last are = c.remove_tables.ensures.within honest id (map (λ t. t.id) (take m.table_count last.tables)) (are.named ∙ Taking.named_ids id (take m.table_count last.tables))
-
 pub returns-clause-any_moment : goal.returns-clause-any_moment
 returns-clause-any_moment g c honest records t id m h versions lies at are =
     let w : _ → Meaning = g.D.Disk.meaning in
@@ -33,11 +30,3 @@ pub returns-clause-served : goal.returns-clause-served
 returns-clause-served g c honest id m last are none =
     let taken = take m.table_count last.tables in
     c.remove_tables.ensures.served honest id (map (λ t. t.id) taken) (are.named ∙ Taking.named_ids id taken) (Taking.no_folders m last are.record_is id (g.D.Disk.meaning c.args.disk.now) none)
-
-pub returns-clause-beside : goal.returns-clause-beside
-returns-clause-beside g c honest id m last are n small others =
-    c.remove_tables.ensures.beside honest _ (Taking.other_names id n are.small (take m.table_count last.tables) c.args.taken.now small others are.named)
-
-pub returns-clause-gone : goal.returns-clause-gone
-returns-clause-gone g c honest id m last are =
-    c.remove_tables.ensures.gone honest id (map (λ t. t.id) (take m.table_count last.tables)) (are.named ∙ Taking.named_ids id (take m.table_count last.tables))

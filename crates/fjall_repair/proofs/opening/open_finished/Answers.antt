@@ -16,7 +16,7 @@ use Rattle.fjall_repair.proofs.OpenedTrees.{kept_on, makes_sound, reads_from, ta
 use Rattle.fjall_files.specs.Tidy.{IsTidy}
 use Rattle.fjall_files.proofs.Tidying.{stays_both, stays_none as tidy_none}
 use Rattle.fjall_repair.proofs.Amid.{amid_now, amid_on}
-use Rattle.fjall_repair.specs.Readings.{names_read, persisted_of}
+use Rattle.fjall_repair.specs.Readings.{names_read}
 use Rattle.fjall_repair.specs.Steps.{active_of, opened}
 use Rattle.fjall_repair.proofs.MendOpened.{active_small}
 use Rattle.fjall_repair.proofs.Counting.{active_contents, none_read, tell_as, told_contents}

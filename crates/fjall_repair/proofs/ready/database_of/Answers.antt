@@ -1,24 +1,22 @@
-use Rattle.std.proofs.Common.{◌≡◌, ◌<◌, ◌∙◌, All, List, None, map, ap, refl, rules, subst, sym}
+use Rattle.std.proofs.Common.{◌≡◌, ◌∙◌, All, List, map, ap, refl, rules, subst, sym}
 use Rattle.std.proofs.lemmas.Bool.{true≢false}
 use Rattle.std.proofs.lemmas.List.Elements.{All-map}
 use Rattle.std.proofs.lemmas.Result.{err_from_is_err_and}
 use Rattle.fjall_base.specs.Disk.{Image, standing, state_in}
 use Rattle.fjall_journal.specs.Batches.{shown}
-use Rattle.fjall_meta.specs.declared.living.LivingKeyspace.{LivingKeyspace}
 use Rattle.fjall_meta.specs.Keyspaces.{Keyspaces}
 use Rattle.fjall_replay.specs.Beside.{AreEndedBy}
 use Rattle.fjall_replay.specs.Parted.{AreUnwritten}
-use Rattle.fjall_trees.specs.Forests.{Planted}
 use Rattle.fjall_trees.specs.Views.{forest_of}
 use Rattle.fjall_loading.specs.Opening.{opened}
-use Rattle.fjall_recovery.specs.Journals.{EndsAt, AreRead, Journal, batches_in}
+use Rattle.fjall_recovery.specs.Journals.{EndsAt, AreRead, batches_in}
 use Rattle.fjall_versions.specs.declared.recovery.Persisted.{Persisted}
 use Rattle.fjall_repair.specs.Readings.{persisted_in, persisted_of}
 use Rattle.fjall_repair.specs.Replaying.{IsHeldBy, ShowBeyond}
 use Rattle.fjall_repair.specs.Steps.{active_of}
 use Rattle.fjall_repair.proofs.Counting.{rise_of}
 use Rattle.fjall_repair.proofs.Openings.{may_replay_all, number_listed, number_risen, numbers}
-use Rattle.fjall_repair.proofs.Replayed.{all_given, all_planted, all_positive, rest_flushes}
+use Rattle.fjall_repair.proofs.Replayed.{IsStill, all_given, all_planted, all_positive, rest_still}
 use Rattle.fjall_repair.proofs.Sealings.{opened_unwritten}
 use Rattle.fjall_repair.proofs.Suiting.{ends_found}
 use Rattle.fjall_repair.proofs.ready.database_of.Goals as goal
@@ -115,8 +113,7 @@ returns-clause-lawful g c =
       recorded = c.in_ok-loaded.ensures.recorded;
       kept = c.in_ok-loaded.ensures.kept;
       still =
-          rest_flushes (forest_of c.in_ok-loaded.loaded.trees) (forest_of c.in_ok-trees.trees) some.1.rest
-          (subst (All (λ (k : Planted). k.shape.flush ≡ None)) (sym c.in_ok-loaded.ensures.trees)
-          (All-map (λ (k : Planted). k.shape.flush ≡ None) opened found.homes.items (λ i d lt. refl)));
+          rest_still (forest_of c.in_ok-loaded.loaded.trees) (forest_of c.in_ok-trees.trees) some.1.rest
+          (subst (All IsStill) (sym c.in_ok-loaded.ensures.trees) (All-map IsStill opened found.homes.items (λ i d lt. (refl, refl))));
       parted = made.parted;
     }

@@ -1,4 +1,4 @@
-use Rattle.std.proofs.Common.{◌≡◌, ◌∙◌, All, None, ap, is_some, rules, subst, sym, true}
+use Rattle.std.proofs.Common.{◌≡◌, ◌∙◌, All, ap, is_some, rules, subst, sym, true}
 use Rattle.std.specs.FinMap.{get, get-empty}
 use Rattle.std.specs.Ordering.{nat_cmp}
 use Rattle.std.proofs.lemmas.List.Elements.{All-nil}
@@ -6,9 +6,9 @@ use Rattle.fjall_meta.specs.declared.living.LivingKeyspace.{LivingKeyspace}
 use Rattle.fjall_meta.specs.Keyspaces.{Keyspaces}
 use Rattle.fjall_manager.specs.Places.{told}
 use Rattle.fjall_loading.specs.Known.{LastFields}
-use Rattle.fjall_trees.specs.Forests.{Planted}
 use Rattle.fjall_trees.specs.Views.{forest_of}
 use Rattle.fjall_repair.proofs.Counting.{none_written}
+use Rattle.fjall_repair.proofs.Replayed.{IsStill}
 use Rattle.fjall_repair.proofs.Sealings.{none_parted}
 use Rattle.fjall_repair.proofs.ready.new_database.Goals as goal
 
@@ -41,5 +41,5 @@ returns-clause-lawful c = record {
       (All-nil (λ (k : LivingKeyspace). is_some (get c.new-2.result k.id) ≡ true));
   kept = λ id le. ap (λ (m : LastFields). get m id) c.new-2.ensures ∙ get-empty nat_cmp id;
   parted = none_parted c.in_ok-empty_journals.field-0 (forest_of c.new.result) c.new.ensures;
-  still = subst (All (λ (k : Planted). k.shape.flush ≡ None)) (sym c.new.ensures) (All-nil (λ (k : Planted). k.shape.flush ≡ None));
+  still = subst (All IsStill) (sym c.new.ensures) (All-nil IsStill);
 }

@@ -10,7 +10,7 @@ use Rattle.fjall_state.proofs.flushes.plan.Goals as goal
 pub returns-in_err-readers-clause-cause : goal.returns-in_err-readers-clause-cause
 returns-in_err-readers-clause-cause c =
     let only : c.in_err-readers.field-0.0 ≡ OutOfMemory = memory_ran_out c.args.made.now c.in_err-readers.field-0.0
-    (λ lists made. c.in_err-readers.ensures.only lists (subst (λ (l : List MadeTable). AreMadeTables l lists) (sym c.deref.ensures.value) made)) in
+    (λ lists made. c.in_err-readers.ensures.only lists (subst (λ (l : List MadeTable). AreMadeTables l lists) (sym c.tables.ensures.value) made)) in
     search rules
 
 pub returns-clause-readers : goal.returns-clause-readers
@@ -18,6 +18,6 @@ returns-clause-readers c =
     let id = keyspace_of c.args.made.now in
     let next = c.args.last.now.next_table_id in
     let named = subst (λ (k : ℕ). IsNamed k next c.args.made.now.tables.items c.in_ok-writes.writes.table) c.keyspace_id.ensures c.in_ok-writes.ensures.ok.table in
-    let e = c.deref.ensures.value in
+    let e = c.tables.ensures.value in
     subst (λ (l : List MadeTable). AreReadersOf id next l c.in_ok-readers.readers.items) e
     (c.in_ok-readers.ensures.readers id (subst (λ (l : List MadeTable). IsNamed id next l c.in_ok-writes.writes.table) (sym e) named))

@@ -5,7 +5,7 @@ use Rattle.std.specs.declared.alloc.AllocFailed.{AllocFailed}
 use Rattle.fjall_jobs.specs.Flushes.{flush_task}
 use Rattle.fjall_jobs.specs.declared.flush_job.FlushJob.{FlushJob}
 use Rattle.fjall_state.specs.Remembered.{KnowsTask}
-use Rattle.fjall_core.proofs.KeptJobs.{named_so}
+use Rattle.fjall_core.proofs.FoundJobs.{named_so}
 use Rattle.fjall_core.proofs.engine.Core.serve_begin.Goals as goal
 
 pub returns-in-Ok-Some-clause-keeps : goal.returns-in-Ok-Some-clause-keeps
@@ -16,5 +16,5 @@ returns-in-Ok-Some-clause-keeps g c =
       job,
       c.push.ensures.items ∙ ap (λ (r : Result (Unit {0}) (AllocFailed FlushJob)). if is_ok r then jobs ++ job ∷ [] else jobs) c.unwrap.ensures,
       knows,
-      named_so (record { number = c.id.result; keyspace_id = c.keyspace_id.result }) job c.id.ensures c.keyspace_id.ensures,
+      named_so (record { number = c.id.result; keyspace_id = c.keyspace_id.result }) (flush_task job) c.id.ensures c.keyspace_id.ensures,
     )

@@ -4,13 +4,16 @@ use Rattle.std.specs.declared.alloc.AllocFailed.{AllocFailed}
 use Rattle.std.proofs.lemmas.Bool.{true≢false}
 use Rattle.fjall_history.specs.declared.job.JobId.{JobId}
 use Rattle.fjall_jobs.specs.declared.flush_job.FlushJob.{FlushJob}
+use Rattle.fjall_jobs.specs.Flushes.{flush_task}
 use Rattle.fjall_state.specs.Machine.{is_flushing}
+use Rattle.fjall_state.specs.Remembered.{KnowsTask}
 use Rattle.fjall_state.specs.Shapes.{OfFlushFinish}
 use Rattle.fjall_core.specs.Holding.{Held}
 use Rattle.fjall_core.specs.Jobs.{IsGivenBack, is_kept}
 use Rattle.fjall_core.specs.Standing.{Owes, Serves}
 use Rattle.fjall_core.proofs.FinishedFlushes.{stale_owes, stale_serves}
-use Rattle.fjall_core.proofs.KeptJobs.{found_known, named_job, out_given}
+use Rattle.fjall_core.proofs.FoundJobs.{at_place, named_job}
+use Rattle.fjall_core.proofs.KeptJobs.{out_given}
 use Rattle.fjall_core.proofs.engine.Core.serve_finish.Goals as goal
 
 pub returns-then-not-is_out-clause-serves : goal.returns-then-not-is_out-clause-serves
@@ -29,17 +32,17 @@ unreachable-requires g c =
 
 pub run_and_finish-reply-requires : goal.run_and_finish-reply-requires
 run_and_finish-reply-requires g c =
-    found_known c.args.self.now.memory c.args.job c.args.jobs.now.items c.take_job.new.jobs.items c.in-Some.kept c.requires.known c.in-Some.ensures.finds
+    at_place (λ (kept : FlushJob). KnowsTask c.args.self.now.memory (flush_task kept)) c.args.jobs.now.items c.in-Some.ensures.finds.1 c.in-Some.kept c.requires.known c.in-Some.ensures.finds.2
 
 pub returns-in-Some-back-clause-serves : goal.returns-in-Some-back-clause-serves
 returns-in-Some-back-clause-serves g c = λ h.
     subst (λ (job : JobId). Serves c.args.self.now (OfFlushFinish job) c.run_and_finish-reply.result.0 c.run_and_finish-reply.new.self)
-    (named_job c.args.job c.in-Some.kept c.in-Some.ensures.finds.0) (c.run_and_finish-reply.ensures.serves h)
+    (named_job c.args.job (flush_task c.in-Some.kept) c.in-Some.ensures.finds.0) (c.run_and_finish-reply.ensures.serves h)
 
 pub returns-in-Some-back-clause-owes : goal.returns-in-Some-back-clause-owes
 returns-in-Some-back-clause-owes g c =
     subst (λ (job : JobId). Owes c.args.self.now (OfFlushFinish job) c.run_and_finish-reply.result.0 c.run_and_finish-reply.new.self)
-    (named_job c.args.job c.in-Some.kept c.in-Some.ensures.finds.0) c.run_and_finish-reply.ensures.owes
+    (named_job c.args.job (flush_task c.in-Some.kept) c.in-Some.ensures.finds.0) c.run_and_finish-reply.ensures.owes
 
 pub returns-in-Some-back-clause-keeps : goal.returns-in-Some-back-clause-keeps
 returns-in-Some-back-clause-keeps g c =
@@ -52,12 +55,12 @@ returns-in-Some-back-clause-keeps g c =
 pub returns-in_default-back-clause-serves : goal.returns-in_default-back-clause-serves
 returns-in_default-back-clause-serves g c = λ h.
     subst (λ (job : JobId). Serves c.args.self.now (OfFlushFinish job) c.run_and_finish-reply.result.0 c.run_and_finish-reply.new.self)
-    (named_job c.args.job c.in-Some.kept c.in-Some.ensures.finds.0) (c.run_and_finish-reply.ensures.serves h)
+    (named_job c.args.job (flush_task c.in-Some.kept) c.in-Some.ensures.finds.0) (c.run_and_finish-reply.ensures.serves h)
 
 pub returns-in_default-back-clause-owes : goal.returns-in_default-back-clause-owes
 returns-in_default-back-clause-owes g c =
     subst (λ (job : JobId). Owes c.args.self.now (OfFlushFinish job) c.run_and_finish-reply.result.0 c.run_and_finish-reply.new.self)
-    (named_job c.args.job c.in-Some.kept c.in-Some.ensures.finds.0) c.run_and_finish-reply.ensures.owes
+    (named_job c.args.job (flush_task c.in-Some.kept) c.in-Some.ensures.finds.0) c.run_and_finish-reply.ensures.owes
 
 pub returns-in_default-back-clause-keeps : goal.returns-in_default-back-clause-keeps
 returns-in_default-back-clause-keeps g c =

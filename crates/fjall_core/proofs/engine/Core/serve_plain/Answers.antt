@@ -1,6 +1,6 @@
 use Rattle.std.proofs.Common.{ap}
 use Rattle.fjall_history.specs.declared.reply.Reply.TheVariants.{Flag, Number}
-use Rattle.fjall_state.specs.Shapes.{DiskSpace, Entries, Flushes, JournalSpace, Journals, Keyspaces, Next, OpenTickets, SealedMemtables, Tables, TablesL0, Visible, WantsRotation, WriteBuffer, shape_of}
+use Rattle.fjall_state.specs.Shapes.{DiskSpace, Entries, Flushes, JournalSpace, Journals, Keyspaces, MergesDone, MergesOut, Next, OpenTickets, SealedMemtables, Tables, TablesL0, Visible, WantsRotation, WriteBuffer, shape_of}
 use Rattle.fjall_core.proofs.CallsInMemory.{flag_owes, flag_serves, number_owes, number_serves}
 use Rattle.fjall_core.proofs.engine.Core.serve_plain.Goals as goal
 
@@ -87,3 +87,15 @@ returns-in-OutstandingFlushes-clause-serves g c = λ _. number_serves c.args.sel
 
 pub returns-in-OutstandingFlushes-clause-owes : goal.returns-in-OutstandingFlushes-clause-owes
 returns-in-OutstandingFlushes-clause-owes g c = number_owes c.args.self.now (shape_of c.args.call) Flushes c.outstanding_flushes.result (ap shape_of c.in-OutstandingFlushes.is) (ap Number c.outstanding_flushes.ensures.held)
+
+pub returns-in-ActiveCompactions-clause-serves : goal.returns-in-ActiveCompactions-clause-serves
+returns-in-ActiveCompactions-clause-serves g c = λ _. number_serves c.args.self.now (shape_of c.args.call) MergesOut c.active_compactions.result (ap shape_of c.in-ActiveCompactions.is) (ap Number c.active_compactions.ensures.held)
+
+pub returns-in-ActiveCompactions-clause-owes : goal.returns-in-ActiveCompactions-clause-owes
+returns-in-ActiveCompactions-clause-owes g c = number_owes c.args.self.now (shape_of c.args.call) MergesOut c.active_compactions.result (ap shape_of c.in-ActiveCompactions.is) (ap Number c.active_compactions.ensures.held)
+
+pub returns-in-CompactionsCompleted-clause-serves : goal.returns-in-CompactionsCompleted-clause-serves
+returns-in-CompactionsCompleted-clause-serves g c = λ _. number_serves c.args.self.now (shape_of c.args.call) MergesDone c.compactions_completed.result (ap shape_of c.in-CompactionsCompleted.is) (ap Number c.compactions_completed.ensures.held)
+
+pub returns-in-CompactionsCompleted-clause-owes : goal.returns-in-CompactionsCompleted-clause-owes
+returns-in-CompactionsCompleted-clause-owes g c = number_owes c.args.self.now (shape_of c.args.call) MergesDone c.compactions_completed.result (ap shape_of c.in-CompactionsCompleted.is) (ap Number c.compactions_completed.ensures.held)

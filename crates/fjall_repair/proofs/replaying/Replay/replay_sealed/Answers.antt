@@ -3,7 +3,7 @@ use Rattle.std.proofs.lemmas.List.{length-map, take_all}
 use Rattle.std.proofs.lemmas.Result.{err_from_is_err_and}
 use Rattle.std.specs.List.{flat_map}
 use Rattle.fjall_base.specs.Disk.{Image, standing, state_in}
-use Rattle.fjall_journal.specs.Batches.{Shown, Written, batch_text, shown}
+use Rattle.fjall_journal.specs.Batches.{Shown, batch_text, shown}
 use Rattle.fjall_journal.proofs.Writing.{took_none}
 use Rattle.fjall_recovery.specs.Journals.{Journal, batches_in, journal_text}
 use Rattle.fjall_repair.specs.declared.replaying.Replay.{Replay}

@@ -18,5 +18,6 @@ returns c =
       journals = journals_of c.self.inside.sealed c.self.inside.active c.self.inside.watermarks;
       records = c.self.inside.records;
       next_job = c.self.inside.next_job;
+      merges_done = c.self.inside.merges_done;
     })
     ∙ ap (λ (m : Remembered). record m { handles = one_less m.handles c.args.id }) c.self.view_is

@@ -56,6 +56,7 @@ returns-in-Err-clause-unchanged c =
       journals = journals_of a.sealed a.active a.watermarks;
       records = c.in-Err.ensures.err i;
       next_job = a.next_job;
+      merges_done = a.merges_done;
     })
     ∙ c.self.view_is
 
@@ -90,5 +91,6 @@ returns-in-Err-create_keyspace-clause-unchanged c =
       journals = journals_of a.sealed a.active a.watermarks;
       records = records i;
       next_job = a.next_job;
+      merges_done = a.merges_done;
     })
     ∙ c.self.view_is

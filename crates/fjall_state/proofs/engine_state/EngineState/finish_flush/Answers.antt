@@ -108,7 +108,7 @@ pub settle-requires-clause-room : goal.settle-requires-clause-room
 settle-requires-clause-room g c =
     let made = c.args.made.now in
     let tables : c.len.result ≡ length c.in_ok-planned.planned.readers.items = search rules in
-    let clears : c.len-2.result ≡ length made.clears.items = search rules in
+    let clears = ap (λ (l : List ℕ). length l) c.clears.ensures.value in
     subst (λ (x : ℕ × ℕ × ℕ). HasRoomAt x.0 c.reserve.new.self x.1 x.2) (λ i. (c.keyspace_id-id.ensures i, tables i, (clears ∙ ap (λ (l : List ℕ). length l) (made_clears made)) i)) c.in_ok-reserve.ensures.room
 
 pub invariant_of-self-2 : goal.invariant_of-self-2
@@ -154,6 +154,7 @@ returns-clause-ok g c = λ k out at was.
       journals = journals_of a.sealed a.active a.watermarks;
       records = c.settle.ensures.records i;
       next_job = a.next_job;
+      merges_done = a.merges_done;
     })
 
 pub returns-clause-within : goal.returns-clause-within

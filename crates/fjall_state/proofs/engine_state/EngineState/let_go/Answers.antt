@@ -31,5 +31,6 @@ returns c =
       journals = journals_of c.self.inside.sealed c.self.inside.active c.self.inside.watermarks;
       records = c.remove.ensures i;
       next_job = c.self.inside.next_job;
+      merges_done = c.self.inside.merges_done;
     })
     ∙ ap (let_go c.args.id) c.self.view_is

@@ -4,7 +4,7 @@ use Rattle.fjall_history.proofs.Values.{all_none}
 use Rattle.fjall_trees.specs.Views.{forest_of}
 use Rattle.fjall_trees.proofs.Places.{forest_is}
 use Rattle.fjall_state.specs.Remembered.{IsLawful, journals_of, remembered}
-use Rattle.fjall_state.proofs.Lawful.{alike, still_begun}
+use Rattle.fjall_state.proofs.Lawful.{alike, still_begun, still_merge_begun}
 use Rattle.fjall_state.proofs.engine_state.EngineState.new.Goals as goal
 
 pub invariant_of-result : goal.invariant_of-result
@@ -24,6 +24,7 @@ invariant_of-result c =
       recorded = c.requires.recorded;
       kept = c.requires.kept;
       begun = still_begun 0 0 (forest_of c.args.trees) c.requires.still;
+      merging = still_merge_begun 0 0 (forest_of c.args.trees) c.requires.still;
       jobs = omega arith;
     } in
     alike m _ is refl refl (ap (λ (t : Tracked). t.visible) c.new.ensures) (ap (λ (t : Tracked). t.tickets) c.new.ensures) refl refl

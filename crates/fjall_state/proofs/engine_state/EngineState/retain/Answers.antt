@@ -26,5 +26,6 @@ returns-clause-ok c =
       journals = journals_of c.self.inside.sealed c.self.inside.active c.self.inside.watermarks;
       records = c.self.inside.records;
       next_job = c.self.inside.next_job;
+      merges_done = c.self.inside.merges_done;
     })
     ∙ ap (retained id) c.self.view_is

@@ -42,4 +42,5 @@ returns c = λ name options m is made.
       journals = (same i).journals;
       records = records i;
       next_job = (same i).next_job;
+      merges_done = (same i).merges_done;
     }

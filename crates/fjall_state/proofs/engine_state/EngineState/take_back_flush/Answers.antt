@@ -38,4 +38,5 @@ returns c = λ m is begins made.
       journals = (same i).journals;
       records = (same i).records;
       next_job = job i;
+      merges_done = (same i).merges_done;
     }

@@ -42,6 +42,15 @@ returns-in-Some-clause-job g c honest entries r =
     (sym (shape_here ks c.in-Some.place c.args.id k t.lawful here.0 here.1))
     (c.begin_merge.ensures.job honest (entries c.args.id) (read_here (g.D.Disk.meaning c.args.disk.now) ks c.in-Some.place c.args.id k entries r here.0 here.1))
 
+pub returns-in-Some-clause-named : goal.returns-in-Some-clause-named
+returns-in-Some-clause-named g c =
+    let t = c.args.self.now in
+    let ks = t.trees.items in
+    let k = c.index_mut.result.now in
+    let here = found_tree ks c.as_slice.result.now c.in-Some.place c.args.id k c.as_slice.ensures.value c.in-Some.ensures c.index_mut.ensures.value in
+    subst (λ (s : Shape). IfOk c.begin_merge.result (λ made. IfSome made (λ made. merge_task made ≡ merge_of c.args.job c.args.id c.args.watermark (merge_task made).runs s.clears)))
+    (sym (shape_here ks c.in-Some.place c.args.id k t.lawful here.0 here.1)) c.begin_merge.ensures.named
+
 pub returns-in-Some-clause-begun : goal.returns-in-Some-clause-begun
 returns-in-Some-clause-begun g c =
     let t = c.args.self.now in

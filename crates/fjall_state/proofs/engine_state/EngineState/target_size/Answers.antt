@@ -1,0 +1,23 @@
+use Rattle.std.proofs.Common.{◌∙◌, ap, sym}
+use Rattle.std.specs.Option.{option_copied, option_map}
+use Rattle.fjall_meta.specs.declared.living.LivingKeyspace.{LivingKeyspace}
+use Rattle.fjall_meta.specs.Keyspaces.{keyspace_at}
+use Rattle.fjall_options.specs.declared.options.effective.EffectiveSettings.{EffectiveSettings}
+use Rattle.fjall_state.specs.Remembered.{Remembered}
+use Rattle.fjall_state.proofs.MergeSizes.{held_target, said}
+use Rattle.fjall_state.proofs.engine_state.EngineState.target_size.Goals as goal
+
+pub returns-in-Some : goal.returns-in-Some
+returns-in-Some c =
+    let s = c.args.self.now in
+    ap (λ (e : EffectiveSettings). e.target_size) c.effective.ensures.settings
+    ∙ ap (said (λ e. e.target_size))
+    (ap (λ o. option_copied o) (sym c.in-Some.is) ∙ c.options_of.ensures ∙ ap (λ (m : Remembered). option_map (λ (k : LivingKeyspace). k.options) (keyspace_at c.args.id m.keyspaces.living)) c.self.view_is)
+    ∙ sym (held_target s.keyspaces s.trees c.args.id)
+
+pub returns-in-None : goal.returns-in-None
+returns-in-None c =
+    let s = c.args.self.now in
+    ap (said (λ e. e.target_size))
+    (ap (λ o. option_copied o) (sym c.in-None.is) ∙ c.options_of.ensures ∙ ap (λ (m : Remembered). option_map (λ (k : LivingKeyspace). k.options) (keyspace_at c.args.id m.keyspaces.living)) c.self.view_is)
+    ∙ sym (held_target s.keyspaces s.trees c.args.id)
