@@ -1,10 +1,13 @@
 // The workloads of fjall-bench over other engines: keys of 16 bytes, values of 100. LevelDB has all of them, SQLite and LMDB
-// the fills and the synced writes. `other-engines FOLDER N` runs all; `other-engines FOLDER N fill` LevelDB's fill at random alone.
+// the fills and the synced writes. `other-engines FOLDER N` runs all; `other-engines FOLDER N fill` LevelDB's fill at random alone;
+// `other-engines FOLDER N long ENGINE` the long run over `leveldb`, `rocksdb` or `sqlite`: a fill at random, a merge of all tables,
+// reads, a scan, a reopening, and at last the size of the folder.
 // Prints a line a workload on standard error: engine, workload, count, wall seconds, processor seconds, operations a second,
 // processor seconds of the calling thread alone, parted by tabs.
 #include <leveldb/db.h>
 #include <leveldb/write_batch.h>
 #include <lmdb.h>
+#include <rocksdb/db.h>
 #include <sqlite3.h>
 
 #include <algorithm>
@@ -103,7 +106,14 @@ struct Engine {
     virtual void close() = 0;
 };
 
-struct LevelDb : Engine {
+// What the long run asks beside: merge all tables, look a pair up, and count all pairs in the order of their keys.
+struct LongEngine : Engine {
+    virtual void compact() = 0;
+    virtual bool has(uint64_t number) = 0;
+    virtual size_t pairs() = 0;
+};
+
+struct LevelDb : LongEngine {
     leveldb::DB* db = nullptr;
     size_t memtable_bytes = leveldb::Options().write_buffer_size;
     void open(const std::string& folder) override {
@@ -122,6 +132,12 @@ struct LevelDb : Engine {
         delete db;
         db = nullptr;
     }
+    void compact() override { db->CompactRange(nullptr, nullptr); }
+    bool has(uint64_t number) override {
+        std::string value;
+        return holds(number, &value);
+    }
+    size_t pairs() override { return scan(); }
     void remove(uint64_t number) { check(db->Delete(leveldb::WriteOptions(), Key(number).slice()).ok(), "leveldb delete"); }
     void put_all(const uint64_t* from, const uint64_t* to) {
         leveldb::WriteBatch batch;
@@ -156,10 +172,46 @@ struct LevelDb : Engine {
     }
 };
 
+// By its default options but for compression.
+struct RocksDb : LongEngine {
+    rocksdb::DB* db = nullptr;
+    void open(const std::string& folder) override {
+        rocksdb::Options options;
+        options.create_if_missing = true;
+        options.compression = rocksdb::kNoCompression;
+        check(rocksdb::DB::Open(options, folder, &db).ok(), "rocksdb open");
+    }
+    void put(uint64_t number, bool sync) override {
+        rocksdb::WriteOptions options;
+        options.sync = sync;
+        Key key(number);
+        Value value(number);
+        check(db->Put(options, rocksdb::Slice(key.bytes, sizeof key.bytes), rocksdb::Slice(value.bytes, sizeof value.bytes)).ok(), "rocksdb put");
+    }
+    void close() override {
+        check(db->Close().ok(), "rocksdb close");
+        delete db;
+        db = nullptr;
+    }
+    void compact() override { check(db->CompactRange(rocksdb::CompactRangeOptions(), nullptr, nullptr).ok(), "rocksdb compact"); }
+    bool has(uint64_t number) override {
+        Key key(number);
+        std::string value;
+        return db->Get(rocksdb::ReadOptions(), rocksdb::Slice(key.bytes, sizeof key.bytes), &value).ok() && is_value_of(value, number);
+    }
+    size_t pairs() override {
+        std::unique_ptr<rocksdb::Iterator> pairs(db->NewIterator(rocksdb::ReadOptions()));
+        size_t found = 0;
+        for (pairs->SeekToFirst(); pairs->Valid(); pairs->Next()) found += pairs->value().size() == 100;
+        return found;
+    }
+};
+
 // Each write is a transaction of its own, over a write-ahead log; unsynced ones leave the log to the system.
-struct Sqlite : Engine {
+struct Sqlite : LongEngine {
     sqlite3* db = nullptr;
     sqlite3_stmt* insert = nullptr;
+    sqlite3_stmt* select = nullptr;
     bool synced = false;
     void run(const char* statement) { check(sqlite3_exec(db, statement, nullptr, nullptr, nullptr) == SQLITE_OK, statement); }
     void open(const std::string& folder) override {
@@ -170,6 +222,7 @@ struct Sqlite : Engine {
         synced = false;
         run("create table if not exists items (k blob primary key, v blob) without rowid");
         check(sqlite3_prepare_v2(db, "insert into items values (?, ?)", -1, &insert, nullptr) == SQLITE_OK, "sqlite prepare");
+        check(sqlite3_prepare_v2(db, "select v from items where k = ?", -1, &select, nullptr) == SQLITE_OK, "sqlite prepare");
     }
     void put(uint64_t number, bool sync) override {
         if (sync && !synced) {
@@ -185,7 +238,27 @@ struct Sqlite : Engine {
     }
     void close() override {
         sqlite3_finalize(insert);
+        sqlite3_finalize(select);
         sqlite3_close(db);
+    }
+    // A B-tree in one file has no tables to merge: its log is brought into it.
+    void compact() override { run("pragma wal_checkpoint(truncate)"); }
+    bool has(uint64_t number) override {
+        Key key(number);
+        sqlite3_bind_blob(select, 1, key.bytes, sizeof key.bytes, SQLITE_STATIC);
+        bool found = sqlite3_step(select) == SQLITE_ROW;
+        std::string value;
+        if (found) value.assign(static_cast<const char*>(sqlite3_column_blob(select, 0)), sqlite3_column_bytes(select, 0));
+        sqlite3_reset(select);
+        return found && is_value_of(value, number);
+    }
+    size_t pairs() override {
+        sqlite3_stmt* all = nullptr;
+        check(sqlite3_prepare_v2(db, "select v from items order by k", -1, &all, nullptr) == SQLITE_OK, "sqlite prepare");
+        size_t found = 0;
+        while (sqlite3_step(all) == SQLITE_ROW) found += sqlite3_column_bytes(all, 0) == 100;
+        sqlite3_finalize(all);
+        return found;
     }
 };
 
@@ -298,14 +371,55 @@ static void use_batches(const std::string& folder, size_t count) {
     engine.close();
 }
 
+// How many bytes the files of a folder have.
+static uintmax_t folder_bytes(const std::string& folder) {
+    uintmax_t bytes = 0;
+    for (const auto& file : std::filesystem::recursive_directory_iterator(folder)) {
+        if (file.is_regular_file()) bytes += file.file_size();
+    }
+    return bytes;
+}
+
+// A fill at random, a merge of all tables, reads at random and a scan of all, and a reopening.
+static void run_long(LongEngine& engine, const char* name, const std::string& folder, size_t count) {
+    std::string place = folder + "/" + name + "_long";
+    engine.open(place);
+    fill(engine, name, "long: fill at random", at_random(count, 1));
+    measure(name, "long: major merge", count, [&] { engine.compact(); });
+    Numbers asked = at_random(count, 2);
+    asked.resize(std::max<size_t>(count / 5, 1));
+    measure(name, "long: read hit", asked.size(), [&] {
+        for (uint64_t number : asked) check(engine.has(number), "long read");
+    });
+    measure(name, "long: scan forward", count, [&] { check(engine.pairs() == count, "long scan"); });
+    measure(name, "long: close", count, [&] { engine.close(); });
+    measure(name, "long: reopen", count, [&] { engine.open(place); });
+    engine.close();
+    std::printf("%s: folder of %ju bytes, %.2f times its pairs\n", name, folder_bytes(place), static_cast<double>(folder_bytes(place)) / (116.0 * count));
+}
+
+// The engine of a name.
+static std::unique_ptr<LongEngine> engine_of(const std::string& name) {
+    if (name == "leveldb") return std::make_unique<LevelDb>();
+    if (name == "rocksdb") return std::make_unique<RocksDb>();
+    check(name == "sqlite", "no such engine");
+    return std::make_unique<Sqlite>();
+}
+
 int main(int argc, char** argv) {
-    check(argc == 3 || (argc == 4 && std::strcmp(argv[3], "fill") == 0), "usage: other-engines FOLDER N [fill]");
+    bool is_fill = argc == 4 && std::strcmp(argv[3], "fill") == 0;
+    bool is_long = argc == 5 && std::strcmp(argv[3], "long") == 0;
+    check(argc == 3 || is_fill || is_long, "usage: other-engines FOLDER N [fill | long ENGINE]");
     std::string folder = argv[1];
     size_t count = std::strtoull(argv[2], nullptr, 10);
     check(count > 0, "N is no count");
     std::filesystem::create_directories(folder);
+    if (is_long) {
+        run_long(*engine_of(argv[4]), argv[4], folder, count);
+        return 0;
+    }
     LevelDb leveldb;
-    if (argc == 4) {
+    if (is_fill) {
         fill_new(leveldb, "leveldb", "fill at random", folder + "/leveldb_fill", at_random(count, 1));
         return 0;
     }
