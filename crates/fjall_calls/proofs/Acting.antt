@@ -18,9 +18,9 @@ use Rattle.fjall_state.specs.declared.call.Call.{Call}
 use Rattle.fjall_core.specs.Holding.{Held}
 use Rattle.fjall_core.specs.Standing.{Owes, Serves, reply_of, value_reply}
 use Rattle.fjall_transactions.specs.Transactions.{Tx, having_read, replace_refusal, replacing, with_own}
-use Rattle.fjall_lists.specs.Acting.{Answers, AsksFor, AsksNothing, Gets, IsNotUpdated, IsUnread, IsUnwritable, MayRunOut, Persists, RunsOut, Updates, Writes, call_for, query_of, update_of, update_reply}
-use Rattle.fjall_lists.specs.declared.call.Within.{Within}
-use Rattle.fjall_lists.specs.declared.call.Within.TheVariants as within
+use Rattle.fjall_calls.specs.Acting.{Answers, AsksFor, AsksNothing, Gets, IsNotUpdated, IsUnread, IsUnwritable, MayRunOut, Persists, RunsOut, Updates, Writes, call_for, query_of, update_of, update_reply}
+use Rattle.fjall_calls.specs.declared.call.Within.{Within}
+use Rattle.fjall_calls.specs.declared.call.Within.TheVariants as within
 use Rattle.fjall_calls.specs.Serving.{ActsOn, Fetches, Found, IsReplyIn, Looks, Makes}
 use Rattle.fjall_calls.specs.Serving as serving
 use Rattle.fjall_calls.proofs.Jobs.{kept_still}

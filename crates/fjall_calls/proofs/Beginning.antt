@@ -20,17 +20,17 @@ use Rattle.fjall_transactions.specs.Commits.{begun_reply}
 use Rattle.fjall_transactions.specs.Standing.{StandFor, Told, gone_on}
 use Rattle.fjall_transactions.specs.Transactions.{Kept, Tx, begun}
 use Rattle.fjall_transactions.proofs.Standing.{served_stands, shape_stands}
-use Rattle.fjall_lists.specs.Acting.{Acts, Asks, AsksFor, AsksNothing, call_for}
-use Rattle.fjall_lists.specs.Names.{Takes, is_wanted}
-use Rattle.fjall_lists.specs.Steps.{IsBegun, IsHeldBack, IsNotBegun, IsUnknown, IsWithin, first_marks, gone_by, name_in, with_begun, writer_after}
-use Rattle.fjall_lists.specs.Worlds.{Going, along}
-use Rattle.fjall_lists.specs.declared.call.Kind.{Kind}
-use Rattle.fjall_lists.specs.declared.call.Kind.TheVariants.{Optimistic, Single}
-use Rattle.fjall_lists.specs.declared.call.TxCall.{TxCall}
-use Rattle.fjall_lists.specs.declared.call.TxCall.TheVariants as calls
-use Rattle.fjall_lists.specs.declared.call.Within.{Within}
-use Rattle.fjall_lists.specs.declared.call.Within.TheVariants as within
-use Rattle.fjall_lists.specs.declared.named.Named.{Named}
+use Rattle.fjall_calls.specs.Acting.{Acts, Asks, AsksFor, AsksNothing, call_for}
+use Rattle.fjall_calls.specs.Names.{Takes, is_wanted}
+use Rattle.fjall_calls.specs.Steps.{IsBegun, IsHeldBack, IsNotBegun, IsUnknown, IsWithin, first_marks, gone_by, name_in, with_begun, writer_after}
+use Rattle.fjall_calls.specs.Worlds.{Going, along}
+use Rattle.fjall_calls.specs.declared.call.Kind.{Kind}
+use Rattle.fjall_calls.specs.declared.call.Kind.TheVariants.{Optimistic, Single}
+use Rattle.fjall_calls.specs.declared.call.TxCall.{TxCall}
+use Rattle.fjall_calls.specs.declared.call.TxCall.TheVariants as calls
+use Rattle.fjall_calls.specs.declared.call.Within.{Within}
+use Rattle.fjall_calls.specs.declared.call.Within.TheVariants as within
+use Rattle.fjall_calls.specs.declared.named.Named.{Named}
 use Rattle.fjall_calls.specs.Serving.{ActsOn, IsReplyIn, IsReplyTo, KeepsOn, Others, ServesAll, ServesTx, may_begin}
 use Rattle.fjall_calls.proofs.Acting.{none_made, one_made}
 use Rattle.fjall_calls.proofs.Chains.{each_replied}

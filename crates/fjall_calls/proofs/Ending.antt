@@ -28,13 +28,13 @@ use Rattle.fjall_transactions.specs.Transactions.{Kept, Tx}
 use Rattle.fjall_transactions.proofs.Ending.{pruned_stands}
 use Rattle.fjall_transactions.proofs.Items.{some_items}
 use Rattle.fjall_transactions.proofs.Standing.{served_stands}
-use Rattle.fjall_lists.specs.Names.{Takes, is_wanted}
-use Rattle.fjall_lists.specs.Steps.{IsEnded, IsRolledBack, gone_with, reply_to}
-use Rattle.fjall_lists.specs.Steps as steps
-use Rattle.fjall_lists.specs.Worlds.{along}
-use Rattle.fjall_lists.specs.declared.call.Kind.{Kind}
-use Rattle.fjall_lists.specs.declared.call.TxCall.TheVariants as calls
-use Rattle.fjall_lists.specs.declared.named.Named.{Named}
+use Rattle.fjall_calls.specs.Names.{Takes, is_wanted}
+use Rattle.fjall_calls.specs.Steps.{IsEnded, IsRolledBack, gone_with, reply_to}
+use Rattle.fjall_calls.specs.Steps as steps
+use Rattle.fjall_calls.specs.Worlds.{along}
+use Rattle.fjall_calls.specs.declared.call.Kind.{Kind}
+use Rattle.fjall_calls.specs.declared.call.TxCall.TheVariants as calls
+use Rattle.fjall_calls.specs.declared.named.Named.{Named}
 use Rattle.fjall_calls.specs.Serving.{IsReplyTo, KeepsOn, Makes, Others, ServesTx}
 use Rattle.fjall_calls.proofs.Acting.{one_made}
 use Rattle.fjall_calls.proofs.Chains.{each_replied}

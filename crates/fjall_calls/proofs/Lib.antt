@@ -11,3 +11,11 @@ pub mod Beginning
 pub mod Quiet
 pub mod Listed
 pub mod Ending
+pub mod Lists
+pub mod Following
+pub mod Marking
+pub mod Answering
+pub mod Commits
+pub mod KeptWorlds
+pub mod Standing
+pub mod Writing

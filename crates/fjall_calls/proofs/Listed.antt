@@ -10,11 +10,11 @@ use Rattle.fjall_core.specs.Jobs.{KeepsMerges, KnowsMerges}
 use Rattle.fjall_core.specs.Standing.{Owes, ServesWhere}
 use Rattle.fjall_transactions.specs.Transactions.{Kept}
 use Rattle.fjall_transactions.proofs.Standing.{served_stands_where}
-use Rattle.fjall_lists.specs.Steps.{OfCore}
-use Rattle.fjall_lists.specs.Worlds.{along}
-use Rattle.fjall_lists.specs.declared.call.TxCall.{TxCall}
-use Rattle.fjall_lists.specs.declared.call.TxCall.TheVariants as calls
-use Rattle.fjall_lists.specs.declared.named.Named.{Named}
+use Rattle.fjall_calls.specs.Steps.{OfCore}
+use Rattle.fjall_calls.specs.Worlds.{along}
+use Rattle.fjall_calls.specs.declared.call.TxCall.{TxCall}
+use Rattle.fjall_calls.specs.declared.call.TxCall.TheVariants as calls
+use Rattle.fjall_calls.specs.declared.named.Named.{Named}
 use Rattle.fjall_calls.specs.Serving.{Itself, ServesListed, ServesTx}
 use Rattle.fjall_calls.proofs.Chains.{makes_kept}
 use Rattle.fjall_calls.proofs.Quiet.{is_of_core, quiet_step}

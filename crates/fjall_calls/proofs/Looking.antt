@@ -20,8 +20,8 @@ use Rattle.fjall_state.specs.declared.call.Call.TheVariants.{GetAt, PageAt}
 use Rattle.fjall_core.specs.Holding.{Held}
 use Rattle.fjall_core.specs.Standing.{Owes, Serves, pairs_reply, value_reply}
 use Rattle.fjall_transactions.specs.Transactions.{Tx, having_read}
-use Rattle.fjall_lists.specs.Acting.{Answers, AsksFor, AsksNothing, IsUnread, Pages, RunsOut}
-use Rattle.fjall_lists.specs.declared.call.Within.TheVariants as within
+use Rattle.fjall_calls.specs.Acting.{Answers, AsksFor, AsksNothing, IsUnread, Pages, RunsOut}
+use Rattle.fjall_calls.specs.declared.call.Within.TheVariants as within
 use Rattle.fjall_calls.specs.Serving.{ActsOn, Found, IsRefused, IsSeen, Looks}
 use Rattle.fjall_calls.specs.Serving as serving
 use Rattle.fjall_calls.proofs.Acting.{none_made, one_made}

@@ -5,7 +5,7 @@ use Rattle.std.proofs.lemmas.Grind.{common_steps}
 use Rattle.std.proofs.lemmas.List.Quantifiers.{position-Some}
 use Rattle.std.proofs.lemmas.List.Sums.{fails_before_first}
 use Rattle.std.proofs.lemmas.Option.{slice_get-get_or}
-use Rattle.fjall_lists.specs.Names.{Takes}
+use Rattle.fjall_calls.specs.Names.{Takes}
 
 -- none is there
 pub none_taken : {A : Type 0} (is : A → Bool) (xs : List A) → position is xs ≡ None → Takes is xs None xs

@@ -17,12 +17,12 @@ use Rattle.fjall_transactions.specs.Commits.{change_of}
 use Rattle.fjall_transactions.specs.Standing.{CommitStep, IsCommitted, IsGone, IsIdle, IsMet, IsRefused, Told}
 use Rattle.fjall_transactions.specs.Transactions.{Tx}
 use Rattle.fjall_tx.specs.declared.outcome.CommitOutcome.{CommitOutcome}
-use Rattle.fjall_lists.specs.Acting.{Asks, AsksFor, AsksNothing, call_for}
-use Rattle.fjall_lists.specs.Steps.{IsBegun, IsEnded, IsHeldBack, IsNotBegun, IsRolledBack, IsUnknown, IsWithin, OfCore, TxStep}
-use Rattle.fjall_lists.specs.Worlds.{World}
-use Rattle.fjall_lists.specs.declared.call.TxCall.{TxCall}
-use Rattle.fjall_lists.specs.declared.call.TxCall.TheVariants as calls
-use Rattle.fjall_lists.specs.declared.call.Within.{Within}
+use Rattle.fjall_calls.specs.Acting.{Asks, AsksFor, AsksNothing, call_for}
+use Rattle.fjall_calls.specs.Steps.{IsBegun, IsEnded, IsHeldBack, IsNotBegun, IsRolledBack, IsUnknown, IsWithin, OfCore, TxStep}
+use Rattle.fjall_calls.specs.Worlds.{World}
+use Rattle.fjall_calls.specs.declared.call.TxCall.{TxCall}
+use Rattle.fjall_calls.specs.declared.call.TxCall.TheVariants as calls
+use Rattle.fjall_calls.specs.declared.call.Within.{Within}
 
 -- whether a call of a list is the core's own
 abbrev pub is_of_core : TxCall → Bool

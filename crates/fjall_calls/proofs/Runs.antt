@@ -3,9 +3,9 @@ use Rattle.std.proofs.Common.{List, [], ◌∷◌, ◌++◌, sym, subst, append_
 use Rattle.std.proofs.lemmas.List.{append-nil}
 use Rattle.fjall_history.specs.declared.reply.Reply.{Reply}
 use Rattle.fjall_state.specs.declared.call.Call.{Call}
-use Rattle.fjall_lists.specs.declared.call.TxCall.{TxCall}
-use Rattle.fjall_lists.specs.Steps.{NoCall, OneCall, TxRun, TxStep}
-use Rattle.fjall_lists.specs.Worlds.{World}
+use Rattle.fjall_calls.specs.declared.call.TxCall.{TxCall}
+use Rattle.fjall_calls.specs.Steps.{NoCall, OneCall, TxRun, TxStep}
+use Rattle.fjall_calls.specs.Worlds.{World}
 use Rattle.fjall_calls.specs.Serving.{AllCome, ComesTo, NoneComes, OneComes}
 
 -- one step behind a run

@@ -12,10 +12,10 @@ use Rattle.fjall_core.proofs.KeptMerges.{none_known}
 use Rattle.fjall_core.proofs.RunsOverCrashes.{RunsKnown, SoFar, ends, none_yet, runs_end, runs_none}
 use Rattle.fjall_transactions.specs.Standing.{StandFor, Told}
 use Rattle.fjall_transactions.specs.Transactions.{Kept}
-use Rattle.fjall_lists.specs.Steps.{NoCall, TxRun}
-use Rattle.fjall_lists.specs.Worlds.{World, begins}
-use Rattle.fjall_lists.specs.declared.call.TxCall.{TxCall}
-use Rattle.fjall_lists.specs.declared.named.Named.{Named}
+use Rattle.fjall_calls.specs.Steps.{NoCall, TxRun}
+use Rattle.fjall_calls.specs.Worlds.{World, begins}
+use Rattle.fjall_calls.specs.declared.call.TxCall.{TxCall}
+use Rattle.fjall_calls.specs.declared.named.Named.{Named}
 use Rattle.fjall_calls.specs.Serving.{AllCome, NoneComes, RunsTx, ServesListed, Stands}
 use Rattle.fjall_calls.proofs.Chains.{owed_on, run_on, served_on}
 use Rattle.fjall_calls.proofs.Runs.{comes_more, run_more}

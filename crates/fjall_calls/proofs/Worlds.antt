@@ -12,13 +12,13 @@ use Rattle.fjall_core.specs.Holding.{Held}
 use Rattle.fjall_transactions.specs.Commits.{is_writing}
 use Rattle.fjall_transactions.specs.Standing.{StandFor, Told, gone_on}
 use Rattle.fjall_transactions.specs.Transactions.{Kept}
-use Rattle.fjall_lists.specs.Names.{Takes, is_wanted}
-use Rattle.fjall_lists.specs.Steps.{has_name, is_one_open, is_written}
-use Rattle.fjall_lists.specs.Steps as steps
-use Rattle.fjall_lists.specs.Worlds.{Going, World}
-use Rattle.fjall_lists.specs.declared.call.Kind.{Kind}
-use Rattle.fjall_lists.specs.declared.call.Kind.TheVariants.{Optimistic, Single}
-use Rattle.fjall_lists.specs.declared.named.Named.{Named}
+use Rattle.fjall_calls.specs.Names.{Takes, is_wanted}
+use Rattle.fjall_calls.specs.Steps.{has_name, is_one_open, is_written}
+use Rattle.fjall_calls.specs.Steps as steps
+use Rattle.fjall_calls.specs.Worlds.{Going, World}
+use Rattle.fjall_calls.specs.declared.call.Kind.{Kind}
+use Rattle.fjall_calls.specs.declared.call.Kind.TheVariants.{Optimistic, Single}
+use Rattle.fjall_calls.specs.declared.named.Named.{Named}
 use Rattle.fjall_calls.specs.Serving.{Stands, may_begin}
 
 -- ---- tickets

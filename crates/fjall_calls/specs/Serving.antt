@@ -18,16 +18,16 @@ use Rattle.fjall_core.specs.Standing.{OwesAll, ReadsOn, Runs, RunsSafely, Serves
 use Rattle.fjall_transactions.specs.Commits.{is_writing}
 use Rattle.fjall_transactions.specs.Transactions.{Kept, Tx}
 use Rattle.fjall_transactions.specs.Standing.{StandFor, Told}
-use Rattle.fjall_lists.specs.declared.call.Kind.{Kind}
-use Rattle.fjall_lists.specs.declared.call.Kind.TheVariants.{Optimistic, Single}
-use Rattle.fjall_lists.specs.declared.call.TxCall.{TxCall}
-use Rattle.fjall_lists.specs.declared.call.TxCall.TheVariants as calls
-use Rattle.fjall_lists.specs.declared.call.Within.{Within}
-use Rattle.fjall_lists.specs.declared.call.Within.TheVariants as within
-use Rattle.fjall_lists.specs.declared.named.Named.{Named}
-use Rattle.fjall_lists.specs.Acting.{Acts, AreFine, MayRunOut, call_for, query_of, seen_by, update_of, update_reply}
-use Rattle.fjall_lists.specs.Steps.{TxRun, TxStep}
-use Rattle.fjall_lists.specs.Worlds.{World, begins}
+use Rattle.fjall_calls.specs.declared.call.Kind.{Kind}
+use Rattle.fjall_calls.specs.declared.call.Kind.TheVariants.{Optimistic, Single}
+use Rattle.fjall_calls.specs.declared.call.TxCall.{TxCall}
+use Rattle.fjall_calls.specs.declared.call.TxCall.TheVariants as calls
+use Rattle.fjall_calls.specs.declared.call.Within.{Within}
+use Rattle.fjall_calls.specs.declared.call.Within.TheVariants as within
+use Rattle.fjall_calls.specs.declared.named.Named.{Named}
+use Rattle.fjall_calls.specs.Acting.{Acts, AreFine, MayRunOut, call_for, query_of, seen_by, update_of, update_reply}
+use Rattle.fjall_calls.specs.Steps.{TxRun, TxStep}
+use Rattle.fjall_calls.specs.Worlds.{World, begins}
 
 -- ---- calls of the core
 

@@ -14,12 +14,12 @@ ghost use Rattle.fjall_own.specs.Owns.{own_written, wanted};
 ghost use Rattle.fjall_core.specs.Standing.{pairs_reply, value_reply};
 ghost use Rattle.fjall_transactions.specs.Transactions.{having_read, replace_refusal, replacing, with_own};
 ghost use Rattle.fjall_calls.specs.Serving.{ActsOn, Fetches, Looks};
-ghost use Rattle.fjall_lists.specs.declared.call.Within.{Within as Call};
-ghost use Rattle.fjall_lists.specs.declared.call.Within.TheVariants as calls;
+ghost use Rattle.fjall_calls.specs.declared.call.Within.{Within as Call};
+ghost use Rattle.fjall_calls.specs.declared.call.Within.TheVariants as calls;
 
+use crate::call::Within;
 use fjall_base::{Disk, KvPair, Result, UserKey, UserValue};
 use fjall_core::{Core, Op, Reply, View, pairs_reply, reply_of, value_reply};
-use fjall_lists::Within;
 use fjall_reading::{KeyRange, bounds_of};
 use fjall_transactions::Transaction;
 

@@ -9,15 +9,16 @@ ghost use Rattle.fjall_core.specs.declared.jobs.Jobs.{Jobs};
 ghost use Rattle.fjall_state.specs.Shapes.{OfTickets, Open};
 ghost use Rattle.fjall_transactions.specs.Commits.{begun_reply};
 ghost use Rattle.fjall_transactions.specs.Transactions.{Kept, begun};
-ghost use Rattle.fjall_lists.specs.Steps.{first_marks, reply_to, writer_after};
+ghost use Rattle.fjall_calls.specs.Steps.{first_marks, reply_to, writer_after};
 ghost use Rattle.fjall_calls.specs.Serving.{ServesTx, may_begin};
-ghost use Rattle.fjall_lists.specs.declared.call.TxCall.TheVariants as calls;
+ghost use Rattle.fjall_calls.specs.declared.call.TxCall.TheVariants as calls;
 
 use crate::acts::act;
-use crate::named::take_named;
+use crate::call::{Kind, Within};
+use crate::lookup::take_named;
+use crate::named::Named;
 use fjall_base::{Disk, Error, Result};
 use fjall_core::{Core, Reply, reply_of};
-use fjall_lists::{Kind, Named, Within};
 use fjall_transactions::{CommitOutcome, Transaction, Transactions};
 
 // Begins a transaction of this kind.

@@ -4,10 +4,11 @@ ghost use Rattle.std.specs.Prelude.{◌≡◌, ◌+◌, ◌++◌, ◌∷◌, ◌
 ghost use Rattle.fjall_core.specs.Jobs.{KeepsJobs};
 ghost use Rattle.fjall_calls.specs.Serving.{RunsTx, ServesListed};
 
+use crate::call::TxCall;
 use crate::ends::{begin, commit, roll_back, within};
+use crate::named::Named;
 use fjall_base::{Disk, Error, Result};
 use fjall_core::{Core, Jobs, Reply};
-use fjall_lists::{Named, TxCall};
 use fjall_transactions::Transactions;
 use std::alloc::Global;
 

@@ -26,8 +26,12 @@ fn compression_named(b: u8) -> Result<CompressionType>
 fn start_of(bytes: &[u8]) -> Result<(Entry, &[u8])>
     ensures { Gives (λ x. (x.0, x.1.now)) result (start_at bytes.now) }
 {
-    let (item_count, rest) = u32_of(bytes).ok_or(SHORT)?;
-    let (seqno, rest) = u64_of(rest).ok_or(SHORT)?;
+    let Some((item_count, rest)) = u32_of(bytes) else {
+        return Err(SHORT);
+    };
+    let Some((seqno, rest)) = u64_of(rest) else {
+        return Err(SHORT);
+    };
     Ok((Entry::Start { item_count, seqno }, rest))
 }
 
@@ -35,22 +39,38 @@ fn start_of(bytes: &[u8]) -> Result<(Entry, &[u8])>
 fn item_of(alloc: Global, bytes: &[u8]) -> Result<(Entry, &[u8])>
     ensures { Gives (λ x. (x.0, x.1.now)) result (item_at bytes.now) }
 {
-    let (type_byte, rest) = u8_of(bytes).ok_or(SHORT)?;
+    let Some((type_byte, rest)) = u8_of(bytes) else {
+        return Err(SHORT);
+    };
     let value_type = ValueType::try_from(type_byte)?;
-    let (compression_byte, rest) = u8_of(rest).ok_or(SHORT)?;
+    let Some((compression_byte, rest)) = u8_of(rest) else {
+        return Err(SHORT);
+    };
     let compression = compression_named(compression_byte)?;
-    let (keyspace_id, rest) = u64_of(rest).ok_or(SHORT)?;
-    let (key_len, rest) = u16_of(rest).ok_or(SHORT)?;
-    let (value_len, rest) = u32_of(rest).ok_or(SHORT)?;
-    let (stored_len, rest) = u32_of(rest).ok_or(SHORT)?;
+    let Some((keyspace_id, rest)) = u64_of(rest) else {
+        return Err(SHORT);
+    };
+    let Some((key_len, rest)) = u16_of(rest) else {
+        return Err(SHORT);
+    };
+    let Some((value_len, rest)) = u32_of(rest) else {
+        return Err(SHORT);
+    };
+    let Some((stored_len, rest)) = u32_of(rest) else {
+        return Err(SHORT);
+    };
     if key_len == 0 {
         return Err(Error::InvalidTag(("KeyLength", 0)));
     }
     if stored_len != value_len {
         return Err(Error::InvalidTag(("ValueLength", 0)));
     }
-    let (key, rest) = bytes_of(rest, usize::from(key_len)).ok_or(SHORT)?;
-    let (value, rest) = bytes_of(rest, value_len as usize).ok_or(SHORT)?;
+    let Some((key, rest)) = bytes_of(rest, usize::from(key_len)) else {
+        return Err(SHORT);
+    };
+    let Some((value, rest)) = bytes_of(rest, value_len as usize) else {
+        return Err(SHORT);
+    };
     let item = Entry::Item {
         keyspace_id,
         key: Slice::new(alloc, key)?,
@@ -65,8 +85,12 @@ fn item_of(alloc: Global, bytes: &[u8]) -> Result<(Entry, &[u8])>
 fn end_of(bytes: &[u8]) -> Result<(Entry, &[u8])>
     ensures { Gives (λ x. (x.0, x.1.now)) result (end_at bytes.now) }
 {
-    let (check, rest) = bytes_of(bytes, 8).ok_or(SHORT)?;
-    let (mark, rest) = bytes_of(rest, 4).ok_or(SHORT)?;
+    let Some((check, rest)) = bytes_of(bytes, 8) else {
+        return Err(SHORT);
+    };
+    let Some((mark, rest)) = bytes_of(rest, 4) else {
+        return Err(SHORT);
+    };
     if !mark.starts_with(&MAGIC_BYTES) {
         return Err(Error::InvalidTrailer);
     }
@@ -79,7 +103,9 @@ fn end_of(bytes: &[u8]) -> Result<(Entry, &[u8])>
 fn clear_of(bytes: &[u8]) -> Result<(Entry, &[u8])>
     ensures { Gives (λ x. (x.0, x.1.now)) result (clear_at bytes.now) }
 {
-    let (keyspace_id, rest) = u64_of(bytes).ok_or(SHORT)?;
+    let Some((keyspace_id, rest)) = u64_of(bytes) else {
+        return Err(SHORT);
+    };
     Ok((Entry::Clear { keyspace_id }, rest))
 }
 
@@ -87,7 +113,9 @@ fn clear_of(bytes: &[u8]) -> Result<(Entry, &[u8])>
 pub(crate) fn entry_of(alloc: Global, bytes: &[u8]) -> Result<(Entry, &[u8])>
     ensures { Gives (λ x. (x.0, x.1.now)) result (entry_at bytes.now) }
 {
-    let (tag, rest) = u8_of(bytes).ok_or(SHORT)?;
+    let Some((tag, rest)) = u8_of(bytes) else {
+        return Err(SHORT);
+    };
     match Tag::try_from(tag)? {
         Tag::Start => start_of(rest),
         Tag::Item => item_of(alloc, rest),

@@ -79,10 +79,13 @@ pub(crate) fn put_end(out: &mut Vec<u8>, check: &[u8; 8]) -> Result<()>
     ensures err { OnErr result (out.new.items ≡ out.old.items) }
     ensures only { IsOkUnless result Error.OutOfMemory }
 {
-    out.reserve(13)?;
-    out.push(Tag::End.into())?;
-    out.extend_from_slice(check)?;
-    out.extend_from_slice(&MAGIC_BYTES)?;
+    if out.reserve(13).is_err()
+        || out.push(Tag::End.into()).is_err()
+        || out.extend_from_slice(check).is_err()
+        || out.extend_from_slice(&MAGIC_BYTES).is_err()
+    {
+        return Err(Error::OutOfMemory);
+    }
     Ok(())
 }
 

@@ -82,8 +82,11 @@ fn find<'a>(pairs: &'a [KvPair], key: &[u8]) -> Option<&'a Slice>
 fn stored_name(alloc: Global, id: u64, pairs: &[KvPair]) -> Result<Slice>
     ensures { Reads result (stored_name id pairs.now) }
 {
-    let key = encode_name_key(alloc, id)?;
-    let Some(name) = find(pairs, &key) else {
+    let found = {
+        let key = encode_name_key(alloc, id)?;
+        find(pairs, &key)
+    };
+    let Some(name) = found else {
         return Err(Error::Storage(StorageError::OptionMissing));
     };
     if !is_name(name) {

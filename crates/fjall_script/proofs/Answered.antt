@@ -32,10 +32,10 @@ use Rattle.fjall_lines.specs.declared.command.Request.TheVariants.{Keyspace, Del
 use Rattle.fjall_script.specs.Answers.{bad_line, done_text, flag_text, ended, number_text, ok_line, reply_text, reply_to}
 use Rattle.fjall_core.specs.Holding.{Held}
 use Rattle.fjall_transactions.specs.Transactions.{Kept}
-use Rattle.fjall_lists.specs.declared.call.Kind.TheVariants.{Optimistic}
-use Rattle.fjall_lists.specs.declared.call.TxCall.{TxCall}
-use Rattle.fjall_lists.specs.declared.call.TxCall.TheVariants as tx
-use Rattle.fjall_lists.specs.declared.call.Within.TheVariants as within
+use Rattle.fjall_calls.specs.declared.call.Kind.TheVariants.{Optimistic}
+use Rattle.fjall_calls.specs.declared.call.TxCall.{TxCall}
+use Rattle.fjall_calls.specs.declared.call.TxCall.TheVariants as tx
+use Rattle.fjall_calls.specs.declared.call.Within.TheVariants as within
 use Rattle.fjall_calls.specs.Serving as served
 use Rattle.fjall_calls.specs.Serving.{AllCome, ComesTo, Itself, OneComes, Others}
 use Rattle.fjall_core.specs.Standing.{Gives, GivesRead, IsOfKind, Owes, OwesAll, OwesBegin, OwesFinish, OwesMerge, OwesMergeBegin, tables_of}

@@ -1,8 +1,8 @@
 -- More calls are made.
 use Rattle.std.proofs.Common.{◌≡◌, ℕ, zero, suc, ◌+◌, ◌<◌, ◌≤◌, Bool, true, false, List, [], ◌∷◌, ◌++◌, length, length-append, drop, get_or, Option, Some, None, if◌then◌else◌, refl, sym, subst, ap, ◌∙◌, append_assoc, arith}
 use Rattle.std.proofs.lemmas.List.{append-nil}
-use Rattle.fjall_lists.specs.declared.call.TxCall.{TxCall}
-use Rattle.fjall_lists.specs.declared.call.TxCall.TheVariants.{Core}
+use Rattle.fjall_calls.specs.declared.call.TxCall.{TxCall}
+use Rattle.fjall_calls.specs.declared.call.TxCall.TheVariants.{Core}
 use Rattle.fjall_lines.specs.declared.command.Command.{Command}
 use Rattle.fjall_lines.specs.declared.command.Command.TheVariants.{Ask, Crash, Reopen}
 use Rattle.fjall_lines.specs.declared.command.Request.{Request}

@@ -10,7 +10,7 @@ use Rattle.fjall_lines.specs.declared.command.Command.{Command}
 use Rattle.fjall_script.specs.Answers.{text_of}
 use Rattle.fjall_core.specs.Holding.{Held}
 use Rattle.fjall_transactions.specs.Transactions.{Kept}
-use Rattle.fjall_lists.specs.declared.call.TxCall.{TxCall}
+use Rattle.fjall_calls.specs.declared.call.TxCall.{TxCall}
 use Rattle.fjall_calls.specs.Serving.{RunsTx}
 use Rattle.fjall_script.specs.Requests.{AreCalls, is_stop, numbers_in}
 use Rattle.fjall_script.specs.Sessions.{AnsweredFront, answers_to, IsAtStop}

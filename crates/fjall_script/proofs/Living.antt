@@ -31,9 +31,9 @@ use Rattle.fjall_core.proofs.RunsOverCrashes.{no_run}
 use Rattle.fjall_transactions.specs.Standing.{StandFor}
 use Rattle.fjall_transactions.specs.Transactions.{Kept}
 use Rattle.fjall_transactions.proofs.Standing.{opening_stands}
-use Rattle.fjall_lists.specs.declared.call.TxCall.{TxCall}
-use Rattle.fjall_lists.specs.Steps.{NoCall}
-use Rattle.fjall_lists.specs.Worlds.{begins}
+use Rattle.fjall_calls.specs.declared.call.TxCall.{TxCall}
+use Rattle.fjall_calls.specs.Steps.{NoCall}
+use Rattle.fjall_calls.specs.Worlds.{begins}
 use Rattle.fjall_calls.specs.Serving.{AllCome, NoneComes, OneComes, RunsTx}
 use Rattle.fjall_lines.specs.declared.command.Command.{Command}
 use Rattle.fjall_lines.specs.declared.command.Command.TheVariants.{Ask, Crash, Reopen}

@@ -15,9 +15,9 @@ use Rattle.fjall_core.specs.Openings.{OpensAmid, OpensAs}
 use Rattle.fjall_core.specs.Standing.{ReadsOn}
 use Rattle.fjall_transactions.specs.Standing.{StandFor, Told}
 use Rattle.fjall_transactions.specs.Transactions.{Kept}
-use Rattle.fjall_lists.specs.declared.call.TxCall.{TxCall}
-use Rattle.fjall_lists.specs.Steps.{TxRun}
-use Rattle.fjall_lists.specs.Worlds.{World, begins}
+use Rattle.fjall_calls.specs.declared.call.TxCall.{TxCall}
+use Rattle.fjall_calls.specs.Steps.{TxRun}
+use Rattle.fjall_calls.specs.Worlds.{World, begins}
 use Rattle.fjall_calls.specs.Serving.{AllCome}
 use Rattle.fjall_lines.specs.declared.command.Command.{Command}
 use Rattle.fjall_script.specs.Machine.{new_disk}

@@ -14,10 +14,10 @@ use Rattle.fjall_history.specs.declared.ticket.Ticket.{Ticket}
 use Rattle.fjall_history.specs.declared.ticket.View.TheVariants.{At, Present}
 use Rattle.fjall_state.specs.declared.call.Call.{Call}
 use Rattle.fjall_state.specs.declared.call.Call.TheVariants as calls
-use Rattle.fjall_lists.specs.declared.call.Kind.TheVariants.{Optimistic}
-use Rattle.fjall_lists.specs.declared.call.TxCall.{TxCall}
-use Rattle.fjall_lists.specs.declared.call.TxCall.TheVariants as tx
-use Rattle.fjall_lists.specs.declared.call.Within.TheVariants as within
+use Rattle.fjall_calls.specs.declared.call.Kind.TheVariants.{Optimistic}
+use Rattle.fjall_calls.specs.declared.call.TxCall.{TxCall}
+use Rattle.fjall_calls.specs.declared.call.TxCall.TheVariants as tx
+use Rattle.fjall_calls.specs.declared.call.Within.TheVariants as within
 use Rattle.fjall_lines.specs.declared.command.Command.{Command}
 use Rattle.fjall_lines.specs.declared.command.Command.TheVariants.{Ask, Crash, Reopen}
 use Rattle.fjall_lines.specs.declared.command.Request.{Request}

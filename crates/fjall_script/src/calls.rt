@@ -4,7 +4,7 @@ ghost use Rattle.std.specs.Prelude.{◌≡◌, ◌<◌, ◌+◌, ◌∷◌, ◌^
 ghost use Rattle.fjall_script.specs.Requests.{AddsCalls, all_pairs, AreCalls, asked_with, calls_in, finishes, has_job, IsBatch, IsCallOf, item_of, named, nowhere, numbers_in, op_of, openings_from, opens, place_by, request_of, requests_of};
 ghost use Rattle.fjall_options.specs.Options.{default_options};
 ghost use Rattle.fjall_state.specs.declared.call.Call.TheVariants as calls;
-ghost use Rattle.fjall_lists.specs.declared.call.TxCall.TheVariants as tx;
+ghost use Rattle.fjall_calls.specs.declared.call.TxCall.TheVariants as tx;
 
 use fjall_base::{Error, Result, Slice, UserValue};
 use fjall_calls::{Kind, TxCall, Within};

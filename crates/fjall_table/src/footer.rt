@@ -33,12 +33,25 @@ pub struct Footer {
 fn footer_of(bytes: &[u8]) -> Option<(Footer, &[u8])>
     ensures { Shows (λ x. (x.0, x.1.now)) result (footer_at bytes.now) }
 {
-    let (magic, rest) = bytes_of(bytes, 4)?;
-    let (index_offset, rest) = u64_of(rest)?;
-    let (index_len, rest) = u64_of(rest)?;
-    let (entry_count, rest) = u64_of(rest)?;
-    let (sum, rest) = bytes_of(rest, 8)?;
-    if magic != FOOTER_START.as_slice() || !is_check(sum, &bytes[..28]) {
+    let Some((magic, rest)) = bytes_of(bytes, 4) else {
+        return None;
+    };
+    let Some((index_offset, rest)) = u64_of(rest) else {
+        return None;
+    };
+    let Some((index_len, rest)) = u64_of(rest) else {
+        return None;
+    };
+    let Some((entry_count, rest)) = u64_of(rest) else {
+        return None;
+    };
+    let Some((sum, rest)) = bytes_of(rest, 8) else {
+        return None;
+    };
+    if magic != FOOTER_START.as_slice() {
+        return None;
+    }
+    if !is_check(sum, &bytes[..28]) {
         return None;
     }
     let footer = Footer {

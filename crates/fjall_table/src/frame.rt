@@ -14,10 +14,14 @@ fn len_of(bytes: &[u8], width: usize) -> Option<(usize, &[u8])>
     ensures { Shows (λ x. (x.0, x.1.now)) result (number_at width bytes.now) }
 {
     if width == 4 {
-        let (len, rest) = u32_of(bytes)?;
+        let Some((len, rest)) = u32_of(bytes) else {
+            return None;
+        };
         Some((len as usize, rest))
     } else {
-        let (len, rest) = u64_of(bytes)?;
+        let Some((len, rest)) = u64_of(bytes) else {
+            return None;
+        };
         Some((len as usize, rest))
     }
 }
@@ -28,9 +32,15 @@ pub fn frame_of(bytes: &[u8], width: usize) -> Option<(&[u8], &[u8])>
     requires { (width ≡ 4) ⊎ (width ≡ 8) }
     ensures { Shows (λ x. (x.0.now, x.1.now)) result (frame_at width bytes.now) }
 {
-    let (len, rest) = len_of(bytes, width)?;
-    let (payload, rest) = bytes_of(rest, len)?;
-    let (sum, rest) = bytes_of(rest, 8)?;
+    let Some((len, rest)) = len_of(bytes, width) else {
+        return None;
+    };
+    let Some((payload, rest)) = bytes_of(rest, len) else {
+        return None;
+    };
+    let Some((sum, rest)) = bytes_of(rest, 8) else {
+        return None;
+    };
     if !is_check(sum, &bytes[..width + len]) {
         return None;
     }
@@ -45,10 +55,16 @@ pub fn put_frame(out: &mut Vec<u8>, payload: &[u8]) -> Result<()>
     ensures only { IsOkUnless result Error.OutOfMemory }
 {
     let before = out.len();
-    out.reserve(16 + payload.len())?;
-    out.extend_from_slice(&(payload.len() as u64).to_le_bytes())?;
-    out.extend_from_slice(payload)?;
+    let len = (payload.len() as u64).to_le_bytes();
+    if out.reserve(16 + payload.len()).is_err()
+        || out.extend_from_slice(&len).is_err()
+        || out.extend_from_slice(payload).is_err()
+    {
+        return Err(Error::OutOfMemory);
+    }
     let sum = checksum(&out[before..]);
-    out.extend_from_slice(&sum)?;
+    if out.extend_from_slice(&sum).is_err() {
+        return Err(Error::OutOfMemory);
+    }
     Ok(())
 }

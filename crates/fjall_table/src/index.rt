@@ -36,10 +36,18 @@ impl<'a> BlockHandle<'a> {
     fn decode(bytes: &'a [u8]) -> Option<(BlockHandle<'a>, &'a [u8])>
         ensures { Shows (λ x. (handle_of x.0, x.1.now)) result (handle_at bytes.now) }
     {
-        let (offset, rest) = u64_of(bytes)?;
-        let (len, rest) = u64_of(rest)?;
-        let (key_len, rest) = u16_of(rest)?;
-        let (first_key, rest) = bytes_of(rest, usize::from(key_len))?;
+        let Some((offset, rest)) = u64_of(bytes) else {
+            return None;
+        };
+        let Some((len, rest)) = u64_of(rest) else {
+            return None;
+        };
+        let Some((key_len, rest)) = u16_of(rest) else {
+            return None;
+        };
+        let Some((first_key, rest)) = bytes_of(rest, usize::from(key_len)) else {
+            return None;
+        };
         let handle = BlockHandle {
             offset,
             len,

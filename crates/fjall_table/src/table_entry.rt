@@ -64,13 +64,27 @@ impl<'a> TableEntry<'a> {
     pub(crate) fn decode(bytes: &'a [u8]) -> Option<(TableEntry<'a>, &'a [u8])>
         ensures { Shows (λ x. (seen x.0, x.1.now)) result (entry_at bytes.now) }
     {
-        let (key_len, rest) = u16_of(bytes)?;
-        let (kind, rest) = u8_of(rest)?;
-        let (number, rest) = u64_of(rest)?;
-        let (value_len, rest) = u32_of(rest)?;
-        let (key, rest) = bytes_of(rest, usize::from(key_len))?;
-        let (stored, rest) = bytes_of(rest, value_len as usize)?;
-        let value = value_named(kind, stored)?;
+        let Some((key_len, rest)) = u16_of(bytes) else {
+            return None;
+        };
+        let Some((kind, rest)) = u8_of(rest) else {
+            return None;
+        };
+        let Some((number, rest)) = u64_of(rest) else {
+            return None;
+        };
+        let Some((value_len, rest)) = u32_of(rest) else {
+            return None;
+        };
+        let Some((key, rest)) = bytes_of(rest, usize::from(key_len)) else {
+            return None;
+        };
+        let Some((stored, rest)) = bytes_of(rest, value_len as usize) else {
+            return None;
+        };
+        let Some(value) = value_named(kind, stored) else {
+            return None;
+        };
         if key_len == 0 {
             return None;
         }

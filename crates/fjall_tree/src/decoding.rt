@@ -17,8 +17,12 @@ const DAMAGED: Error = Error::Storage(StorageError::RecordDamaged);
 fn optional_of(bytes: &[u8]) -> Option<(Option<u64>, &[u8])>
     ensures { Shows (λ x. (x.0, x.1.now)) result (optional_at bytes.now) }
 {
-    let (flag, rest) = u8_of(bytes)?;
-    let (number, rest) = u64_of(rest)?;
+    let Some((flag, rest)) = u8_of(bytes) else {
+        return None;
+    };
+    let Some((number, rest)) = u64_of(rest) else {
+        return None;
+    };
     match (flag, number) {
         (1, number) => Some((Some(number), rest)),
         (0, 0) => Some((None, rest)),
@@ -40,11 +44,21 @@ fn level_named(b: u8) -> Option<Level>
 fn table_of(bytes: &[u8]) -> Option<(TableInfo, &[u8])>
     ensures { Shows (λ x. (x.0, x.1.now)) result (table_at bytes.now) }
 {
-    let (id, rest) = u64_of(bytes)?;
-    let (level, rest) = u8_of(rest)?;
-    let level = level_named(level)?;
-    let (file_len, rest) = u64_of(rest)?;
-    let (entry_count, rest) = u64_of(rest)?;
+    let Some((id, rest)) = u64_of(bytes) else {
+        return None;
+    };
+    let Some((level, rest)) = u8_of(rest) else {
+        return None;
+    };
+    let Some(level) = level_named(level) else {
+        return None;
+    };
+    let Some((file_len, rest)) = u64_of(rest) else {
+        return None;
+    };
+    let Some((entry_count, rest)) = u64_of(rest) else {
+        return None;
+    };
     let table = TableInfo {
         id,
         level,
@@ -89,13 +103,21 @@ fn clears_of(alloc: Global, count: u32, bytes: &[u8]) -> Result<(Vec<u64>, &[u8]
 fn numbers_of(bytes: &[u8]) -> Option<(Numbers, &[u8])>
     ensures { Shows (λ x. (x.0, x.1.now)) result (numbers_at bytes.now) }
 {
-    let (1, rest) = u8_of(bytes)? else {
+    let Some((1, rest)) = u8_of(bytes) else {
         return None;
     };
-    let (persisted, rest) = optional_of(rest)?;
-    let (highest, rest) = optional_of(rest)?;
-    let (next_table_id, rest) = u64_of(rest)?;
-    let (next_keyspace_id, rest) = u64_of(rest)?;
+    let Some((persisted, rest)) = optional_of(rest) else {
+        return None;
+    };
+    let Some((highest, rest)) = optional_of(rest) else {
+        return None;
+    };
+    let Some((next_table_id, rest)) = u64_of(rest) else {
+        return None;
+    };
+    let Some((next_keyspace_id, rest)) = u64_of(rest) else {
+        return None;
+    };
     let numbers = Numbers {
         persisted,
         highest,
@@ -109,10 +131,16 @@ fn numbers_of(bytes: &[u8]) -> Option<(Numbers, &[u8])>
 fn parse_body(alloc: Global, bytes: &[u8]) -> Result<Record>
     ensures { Gives RecordDamaged view result (body_of bytes.now) }
 {
-    let (numbers, rest) = numbers_of(bytes).ok_or(DAMAGED)?;
-    let (table_count, rest) = u32_of(rest).ok_or(DAMAGED)?;
+    let Some((numbers, rest)) = numbers_of(bytes) else {
+        return Err(DAMAGED);
+    };
+    let Some((table_count, rest)) = u32_of(rest) else {
+        return Err(DAMAGED);
+    };
     let (tables, rest) = tables_of(alloc, table_count, rest)?;
-    let (clear_count, rest) = u32_of(rest).ok_or(DAMAGED)?;
+    let Some((clear_count, rest)) = u32_of(rest) else {
+        return Err(DAMAGED);
+    };
     let (clears, rest) = clears_of(alloc, clear_count, rest)?;
     if !rest.is_empty() {
         return Err(DAMAGED);

@@ -291,8 +291,11 @@ fn value_in(
 ) -> Result<Slice>
     ensures { Reads result (stored_value keyspace_id pairs.now option) }
 {
-    let key = encode_config_key(alloc, keyspace_id, option.name())?;
-    let Some(value) = find(pairs, &key) else {
+    let found = {
+        let key = encode_config_key(alloc, keyspace_id, option.name())?;
+        find(pairs, &key)
+    };
+    let Some(value) = found else {
         return Err(Error::Storage(StorageError::OptionMissing));
     };
     if !option.takes(alloc, value)? {

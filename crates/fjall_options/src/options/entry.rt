@@ -79,7 +79,9 @@ impl PolicyEntry for bool {
     }
 
     fn decode_from(bytes: &[u8]) -> Result<(bool, &[u8])> {
-        let (flag, rest) = u8_of(bytes).ok_or(SHORT)?;
+        let Some((flag, rest)) = u8_of(bytes) else {
+            return Err(SHORT);
+        };
         Ok((flag == 1, rest))
     }
 }
@@ -96,7 +98,9 @@ impl PolicyEntry for CompressionType {
     }
 
     fn decode_from(bytes: &[u8]) -> Result<(CompressionType, &[u8])> {
-        let (kind, rest) = u8_of(bytes).ok_or(SHORT)?;
+        let Some((kind, rest)) = u8_of(bytes) else {
+            return Err(SHORT);
+        };
         match kind {
             0 => Ok((CompressionType::None, rest)),
             _ => Err(Error::InvalidTag(("CompressionType", kind))),
@@ -126,7 +130,9 @@ impl PolicyEntry for FilterPolicyEntry {
     }
 
     fn decode_from(bytes: &[u8]) -> Result<(FilterPolicyEntry, &[u8])> {
-        let (tag, rest) = u8_of(bytes).ok_or(SHORT)?;
+        let Some((tag, rest)) = u8_of(bytes) else {
+            return Err(SHORT);
+        };
         match tag {
             0 => Ok((FilterPolicyEntry::None, rest)),
             1 => {
@@ -141,7 +147,9 @@ impl PolicyEntry for FilterPolicyEntry {
 fn bloom_of(bytes: &[u8]) -> Result<(BloomConstructionPolicy, &[u8])>
     ensures { Gives (λ x. (x.0, x.1.now)) result (bloom_at bytes.now) }
 {
-    let (kind, rest) = u8_of(bytes).ok_or(SHORT)?;
+    let Some((kind, rest)) = u8_of(bytes) else {
+        return Err(SHORT);
+    };
     match kind {
         0 => {
             let (bits, rest) = u32::decode_from(rest)?;

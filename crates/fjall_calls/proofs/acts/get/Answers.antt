@@ -6,7 +6,7 @@ use Rattle.fjall_base.specs.declared.error.Error.TheVariants.{OutOfMemory}
 use Rattle.fjall_tx.specs.Marks.{OfKey}
 use Rattle.fjall_history.specs.declared.reply.Reply.TheVariants.{Refused, Value}
 use Rattle.fjall_transactions.specs.Transactions.{Tx, having_read}
-use Rattle.fjall_lists.specs.declared.call.Within.TheVariants as within
+use Rattle.fjall_calls.specs.declared.call.Within.TheVariants as within
 use Rattle.fjall_calls.specs.Serving.{ActsOn, Looks}
 use Rattle.fjall_calls.proofs.Acting.{look_failed, look_got, look_ran_out}
 use Rattle.fjall_calls.proofs.acts.get.Goals as goal

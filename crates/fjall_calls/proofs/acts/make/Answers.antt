@@ -1,7 +1,7 @@
 use Rattle.std.proofs.Common.{sym, subst}
 use Rattle.fjall_history.specs.declared.reply.Reply.{Reply}
-use Rattle.fjall_lists.specs.declared.call.Within.{Within}
-use Rattle.fjall_lists.specs.declared.call.Within.TheVariants as within
+use Rattle.fjall_calls.specs.declared.call.Within.{Within}
+use Rattle.fjall_calls.specs.declared.call.Within.TheVariants as within
 use Rattle.fjall_calls.specs.Serving.{ActsOn}
 use Rattle.fjall_calls.proofs.Acting.{write_acts}
 use Rattle.fjall_calls.proofs.acts.make.Goals as goal

@@ -1,7 +1,7 @@
 use Rattle.std.proofs.Common.{Option, Result, refl, subst}
 use Rattle.fjall_base.specs.Pairs.{Bytes}
 use Rattle.fjall_base.specs.declared.error.Error.{Error}
-use Rattle.fjall_lists.specs.declared.call.Within.TheVariants as within
+use Rattle.fjall_calls.specs.declared.call.Within.TheVariants as within
 use Rattle.fjall_calls.specs.Serving.{Looks}
 use Rattle.fjall_calls.proofs.Acting.{look_failed, update_acts}
 use Rattle.fjall_calls.proofs.acts.update_fetch.Goals as goal

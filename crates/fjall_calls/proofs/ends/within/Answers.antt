@@ -1,9 +1,9 @@
 use Rattle.std.proofs.Common.{rules, ◌≡◌, ◌∷◌, ◌++◌, [], List, None, Option, refl, sym, subst}
 use Rattle.fjall_base.specs.declared.error.Error.TheVariants.{SnapshotClosed}
 use Rattle.fjall_history.specs.declared.reply.Reply.TheVariants.{Refused}
-use Rattle.fjall_lists.specs.Names.{Takes, is_wanted}
-use Rattle.fjall_lists.specs.declared.call.TxCall.TheVariants as calls
-use Rattle.fjall_lists.specs.declared.named.Named.{Named}
+use Rattle.fjall_calls.specs.Names.{Takes, is_wanted}
+use Rattle.fjall_calls.specs.declared.call.TxCall.TheVariants as calls
+use Rattle.fjall_calls.specs.declared.named.Named.{Named}
 use Rattle.fjall_calls.proofs.Jobs.{one_reply_more}
 use Rattle.fjall_calls.specs.Serving.{ServesTx}
 use Rattle.fjall_calls.proofs.Beginning.{acts_so, no_job_within, unknown}

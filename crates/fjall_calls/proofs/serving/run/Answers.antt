@@ -6,8 +6,8 @@ use Rattle.fjall_history.specs.declared.reply.Reply.{Reply}
 use Rattle.fjall_jobs.specs.declared.merge_job.MergeJob.{MergeJob}
 use Rattle.fjall_core.specs.Jobs.{KeepsJobs}
 use Rattle.fjall_core.proofs.KeptJobs.{none_kept}
-use Rattle.fjall_lists.specs.declared.call.TxCall.{TxCall}
-use Rattle.fjall_lists.specs.declared.named.Named.{Named}
+use Rattle.fjall_calls.specs.declared.call.TxCall.{TxCall}
+use Rattle.fjall_calls.specs.declared.named.Named.{Named}
 use Rattle.fjall_calls.specs.Serving.{ServesListed}
 use Rattle.fjall_calls.proofs.SoFar.{RunSoFar, all_served, none_served, one_served}
 use Rattle.fjall_calls.proofs.serving.run.Goals as goal

@@ -1,6 +1,6 @@
 use Rattle.std.proofs.Common.{refl, sym, subst}
-use Rattle.fjall_lists.specs.declared.call.TxCall.{TxCall}
-use Rattle.fjall_lists.specs.declared.call.TxCall.TheVariants as calls
+use Rattle.fjall_calls.specs.declared.call.TxCall.{TxCall}
+use Rattle.fjall_calls.specs.declared.call.TxCall.TheVariants as calls
 use Rattle.fjall_calls.specs.Serving.{ServesListed}
 use Rattle.fjall_calls.proofs.Listed.{core_serves, others_serve}
 use Rattle.fjall_calls.proofs.serving.serve.Goals as goal

@@ -1,5 +1,5 @@
 use Rattle.std.proofs.Common.{List, ◌++◌, drop, length}
-use Rattle.fjall_lists.specs.declared.call.TxCall.{TxCall}
+use Rattle.fjall_calls.specs.declared.call.TxCall.{TxCall}
 use Rattle.fjall_script.specs.Requests.{AreCalls, AreCallsFrom, place_of, requests_of}
 use Rattle.fjall_script.proofs.calls.calls_of.Given as goal
 

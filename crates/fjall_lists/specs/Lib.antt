@@ -1,4 +1,0 @@
-pub mod Names
-pub mod Worlds
-pub mod Acting
-pub mod Steps
