@@ -6,7 +6,7 @@ use Rattle.fjall_base.specs.Pairs.{Bytes}
 use Rattle.fjall_base.specs.Store.{Command, Create, Delete}
 use Rattle.fjall_base.specs.declared.error.Error.{Error}
 use Rattle.fjall_base.specs.declared.error.Error.TheVariants.{Io, NumbersUsedUp, OutOfMemory, Poisoned, Storage, TooManyItems, ValueTooLong}
-use Rattle.fjall_ingest.specs.Ingests.{ingestion}
+use Rattle.fjall_state.specs.Ingests.{ingestion}
 use Rattle.fjall_writes.specs.Ingestions.{KeyOp}
 use Rattle.fjall_versions.specs.Replays.{option_pairs}
 use Rattle.fjall_journal.specs.Changes.{Emptied, Items, command_of}

@@ -11,8 +11,8 @@ use Rattle.fjall_base.specs.declared.error.Error.{Error}
 use Rattle.fjall_base.specs.declared.error.Error.TheVariants.{Io, NumbersUsedUp, OutOfMemory, Poisoned, TooManyItems}
 use Rattle.fjall_files.specs.Tidy.{IsTidy, StaysTidy}
 use Rattle.fjall_files.proofs.Tidying.{stays_both, stays_start}
-use Rattle.fjall_flush.specs.Flushes.{record_after}
-use Rattle.fjall_flush.proofs.NewTables.{at_most_one}
+use Rattle.fjall_state.specs.Flushes.{record_after}
+use Rattle.fjall_state.proofs.NewTables.{at_most_one}
 use Rattle.fjall_history.specs.declared.job.JobId.{JobId}
 use Rattle.fjall_history.specs.declared.reply.Reply.{Reply}
 use Rattle.fjall_history.specs.declared.reply.Reply.TheVariants.{Flag, Refused}

@@ -22,7 +22,7 @@ use Rattle.fjall_loading.specs.Known.{last_known}
 use Rattle.fjall_lsm.specs.Jobs.{IsMerging, merge_dropped}
 use Rattle.fjall_lsm.specs.Trees.{Merging, ReadsAll}
 use Rattle.fjall_lsm.proofs.Staying.{input_sorted}
-use Rattle.fjall_merge.specs.Merges.{Merge, record_after}
+use Rattle.fjall_state.specs.Merges.{Merge, record_after}
 use Rattle.fjall_meta.specs.declared.living.LivingKeyspace.{LivingKeyspace}
 use Rattle.fjall_meta.specs.Keyspaces.{keyspace_at}
 use Rattle.fjall_state.specs.Machine.{FinishesMerge, LacksMergeIds, LacksMergeRoom, MayLack, Merged, Parts, State, StepOf, is_living, is_merging, options_in, present, target_size}

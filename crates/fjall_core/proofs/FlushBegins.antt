@@ -22,7 +22,7 @@ use Rattle.fjall_commit.specs.Journaling.{ForWriting, IsWriting, KeepsHomes, Kee
 use Rattle.fjall_commit.specs.Rotations.{ForRotating, KeepsSyncedKeyspaces, LeavesRotation, rotated}
 use Rattle.fjall_commit.proofs.KeepingKeyspaces.{journal_apart}
 use Rattle.fjall_commit.proofs.KeptHomes.{persisted_homes, rotated_homes, unpersisted_homes, unrotated_homes}
-use Rattle.fjall_flush.proofs.Finishing.{begun_with}
+use Rattle.fjall_state.proofs.FlushFinishing.{begun_with}
 use Rattle.fjall_recovery.specs.Halves.{is_of_keyspaces}
 use Rattle.fjall_recovery.specs.Places.{Journaling}
 use Rattle.fjall_state.specs.Machine.{begins_flush, first_due, rotation_refusals}

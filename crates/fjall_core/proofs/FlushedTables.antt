@@ -8,7 +8,7 @@ use Rattle.fjall_base.proofs.Codecs.{some_is}
 use Rattle.fjall_blocks.specs.Readers.{AreRead, HoldsAWrongBlock, Reader, Reads, SomeTableIsWrong}
 use Rattle.fjall_commit.proofs.KeptHomes.{within_others}
 use Rattle.fjall_files.specs.Names.{table_name}
-use Rattle.fjall_flush.specs.Flushes.{infos_from}
+use Rattle.fjall_state.specs.Flushes.{infos_from}
 use Rattle.fjall_jobs.specs.declared.flush_made.FlushMade.{FlushMade}
 use Rattle.fjall_jobs.specs.declared.made_table.MadeTable.{MadeTable}
 use Rattle.fjall_jobs.specs.Flushes.{flush_task}
@@ -17,7 +17,7 @@ use Rattle.fjall_loading.specs.Known.{AreListed, IsGiven, last_known}
 use Rattle.fjall_loading.proofs.Listed.{AreNext, listed_behind, listed_later}
 use Rattle.fjall_lsm.specs.Jobs.{flush_finished}
 use Rattle.fjall_lsm.proofs.Several.{read_both}
-use Rattle.fjall_flush.specs.Plans.{HaveFiles}
+use Rattle.fjall_state.specs.FlushPlans.{HaveFiles}
 use Rattle.fjall_meta.specs.declared.living.LivingKeyspace.{LivingKeyspace}
 use Rattle.fjall_state.specs.Finishing.{IsFinished, keyspace_of}
 use Rattle.fjall_state.proofs.Flushing.{known_record}

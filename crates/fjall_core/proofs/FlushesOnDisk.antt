@@ -8,13 +8,13 @@ use Rattle.fjall_base.proofs.Moments.{at_end}
 use Rattle.fjall_commit.specs.Journaling.{IsWriting}
 use Rattle.fjall_files.specs.Names.{Table, table_name}
 use Rattle.fjall_files.specs.Tidy.{IsTidy}
-use Rattle.fjall_flush.specs.Finishing.{CanFinish}
-use Rattle.fjall_flush.specs.Flushes.{Flush, Follows, HasAt, infos_from, record_after, tree_after}
-use Rattle.fjall_flush.specs.Covering.{MayCount}
-use Rattle.fjall_flush.proofs.Composed.{is_home}
-use Rattle.fjall_flush.proofs.Finishing.{above, are_after, end_inside, end_is_small, follows_last, may_count}
-use Rattle.fjall_flush.proofs.SameNumber.{between_numbers, run_stands}
-use Rattle.fjall_flush.proofs.SameStore.{same_pending, same_store}
+use Rattle.fjall_state.specs.FlushFinishing.{CanFinish}
+use Rattle.fjall_state.specs.Flushes.{Flush, Follows, HasAt, infos_from, record_after, tree_after}
+use Rattle.fjall_state.specs.Covering.{MayCount}
+use Rattle.fjall_state.proofs.Composed.{is_home}
+use Rattle.fjall_state.proofs.FlushFinishing.{above, are_after, end_inside, end_is_small, follows_last, may_count}
+use Rattle.fjall_state.proofs.SameNumber.{between_numbers, run_stands}
+use Rattle.fjall_state.proofs.FlushSameStore.{same_pending, same_store}
 use Rattle.fjall_home.specs.Homes.{Home}
 use Rattle.fjall_home.proofs.Outside.{within_keyspaces}
 use Rattle.fjall_home.proofs.Resting.{last_record}

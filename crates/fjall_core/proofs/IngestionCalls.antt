@@ -9,8 +9,8 @@ use Rattle.fjall_base.specs.declared.error.Error.TheVariants.{Io}
 use Rattle.fjall_files.specs.Tidy.{IsTidy, StaysTidy}
 use Rattle.fjall_files.proofs.Tidying.{stays_both, tidy_on}
 use Rattle.fjall_history.specs.declared.reply.Reply.TheVariants.{Done, Refused}
-use Rattle.fjall_ingest.specs.declared.whole.PlannedIngestion.{PlannedIngestion}
-use Rattle.fjall_ingest.specs.Ingests.{ingestion}
+use Rattle.fjall_state.specs.PlannedIngestion.{PlannedIngestion}
+use Rattle.fjall_state.specs.Ingests.{ingestion}
 use Rattle.fjall_journal.specs.Writer.{Journal}
 use Rattle.fjall_loading.specs.Known.{last_known}
 use Rattle.fjall_manager.specs.Journals.{Sealed}

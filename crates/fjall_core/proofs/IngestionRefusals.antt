@@ -6,8 +6,8 @@ use Rattle.std.proofs.lemmas.Bool.{eqb-true, true≢false}
 use Rattle.fjall_base.specs.declared.error.Error.{Error}
 use Rattle.fjall_base.specs.declared.error.Error.TheVariants.{NumbersUsedUp, OutOfMemory, TooManyItems}
 use Rattle.fjall_history.specs.declared.reply.Reply.TheVariants.{Done, Refused}
-use Rattle.fjall_ingest.specs.declared.whole.PlannedIngestion.{PlannedIngestion}
-use Rattle.fjall_ingest.specs.Planned.{IsIngestionRefusal}
+use Rattle.fjall_state.specs.PlannedIngestion.{PlannedIngestion}
+use Rattle.fjall_state.specs.Planned.{IsIngestionRefusal}
 use Rattle.fjall_loading.specs.Known.{last_known}
 use Rattle.fjall_meta.specs.declared.living.LivingKeyspace.{LivingKeyspace}
 use Rattle.fjall_meta.specs.Keyspaces.{keyspace_at}

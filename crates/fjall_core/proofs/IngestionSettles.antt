@@ -6,7 +6,7 @@ use Rattle.std.specs.Option.{is_some}
 use Rattle.fjall_base.specs.Disk.{Meaning}
 use Rattle.fjall_base.specs.declared.error.Error.{Error}
 use Rattle.fjall_base.specs.declared.error.Error.TheVariants.{Io}
-use Rattle.fjall_ingest.specs.declared.whole.PlannedIngestion.{PlannedIngestion}
+use Rattle.fjall_state.specs.PlannedIngestion.{PlannedIngestion}
 use Rattle.fjall_state.specs.Ingesting.{with_ingestion, with_record, with_tables}
 use Rattle.fjall_state.specs.Remembered.{Remembered, poisoned, with_sealed}
 use Rattle.fjall_tree.specs.Records.{Fields, view}

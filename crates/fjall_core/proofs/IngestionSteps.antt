@@ -9,8 +9,8 @@ use Rattle.fjall_catalog.specs.Catalog.{fields, first_of}
 use Rattle.fjall_files.specs.Tidy.{IsTidy, StaysTidy}
 use Rattle.fjall_history.specs.Histories.{grown, number, plain}
 use Rattle.fjall_history.specs.declared.reply.Reply.{Reply}
-use Rattle.fjall_ingest.specs.declared.whole.PlannedIngestion.{PlannedIngestion}
-use Rattle.fjall_ingest.specs.Ingests.{batch_items, ingestion}
+use Rattle.fjall_state.specs.PlannedIngestion.{PlannedIngestion}
+use Rattle.fjall_state.specs.Ingests.{batch_items, ingestion}
 use Rattle.fjall_journal.specs.Ops.{items_refusal}
 use Rattle.fjall_loading.specs.Known.{last_known}
 use Rattle.fjall_meta.specs.declared.living.LivingKeyspace.{LivingKeyspace}

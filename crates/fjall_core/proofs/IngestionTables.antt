@@ -6,10 +6,10 @@ use Rattle.fjall_base.specs.Disk.{Meaning}
 use Rattle.fjall_blocks.specs.Readers.{AreRead, Reader}
 use Rattle.fjall_commit.proofs.KeptHomes.{within_others}
 use Rattle.fjall_files.specs.Names.{table_name}
-use Rattle.fjall_flush.specs.Flushes.{record_after}
-use Rattle.fjall_flush.specs.Plans.{HaveFiles}
-use Rattle.fjall_ingest.specs.declared.whole.PlannedIngestion.{PlannedIngestion}
-use Rattle.fjall_ingest.specs.Whole.{last_flushed, last_ingested, memory_flush}
+use Rattle.fjall_state.specs.Flushes.{record_after}
+use Rattle.fjall_state.specs.FlushPlans.{HaveFiles}
+use Rattle.fjall_state.specs.PlannedIngestion.{PlannedIngestion}
+use Rattle.fjall_state.specs.Whole.{last_flushed, last_ingested, memory_flush}
 use Rattle.fjall_jobs.specs.declared.made_table.MadeTable.{MadeTable}
 use Rattle.fjall_jobs.specs.Sequences.{AreMadeTables}
 use Rattle.fjall_loading.specs.Known.{AreListed, IsGiven, last_known}

@@ -11,13 +11,13 @@ use Rattle.fjall_contents.specs.Contents.{is_beyond, journal_beyond}
 use Rattle.fjall_files.specs.Names.{Table, keyspace_folder, table_name}
 use Rattle.fjall_files.specs.Regions.{Within}
 use Rattle.fjall_files.specs.Tidy.{IsTidy}
-use Rattle.fjall_flush.specs.Flushes.{Flush, Follows, HasAt, infos_from}
+use Rattle.fjall_state.specs.Flushes.{Flush, Follows, HasAt, infos_from}
 use Rattle.fjall_home.specs.Homes.{Home}
 use Rattle.fjall_home.proofs.Outside.{within_keyspaces}
-use Rattle.fjall_ingest.specs.declared.whole.PlannedIngestion.{PlannedIngestion}
-use Rattle.fjall_ingest.specs.Ingests.{ingestion}
-use Rattle.fjall_ingest.specs.Whole.{CanIngest, last_flushed, last_ingested, memory_flush, tree_behind, tree_between, tree_flushed}
-use Rattle.fjall_ingest.proofs.WholeLaws.{whole_base, whole_beyond, whole_follows, whole_known, whole_last, whole_number, whole_run}
+use Rattle.fjall_state.specs.PlannedIngestion.{PlannedIngestion}
+use Rattle.fjall_state.specs.Ingests.{ingestion}
+use Rattle.fjall_state.specs.Whole.{CanIngest, last_flushed, last_ingested, memory_flush, tree_behind, tree_between, tree_flushed}
+use Rattle.fjall_state.proofs.WholeLaws.{whole_base, whole_beyond, whole_follows, whole_known, whole_last, whole_number, whole_run}
 use Rattle.fjall_jobs.specs.declared.made_table.MadeTable.{MadeTable}
 use Rattle.fjall_journal.specs.Batches.{Written, shown}
 use Rattle.fjall_loading.specs.Known.{IsKnown, last_known}

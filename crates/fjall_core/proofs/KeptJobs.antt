@@ -17,15 +17,15 @@ use Rattle.fjall_jobs.specs.declared.merge_job.MergeJob.{MergeJob}
 use Rattle.fjall_jobs.specs.Flushes.{flush_task}
 use Rattle.fjall_jobs.specs.Merges.{merge_task}
 use Rattle.fjall_jobs.specs.Tasks.{Task}
-use Rattle.fjall_flush.specs.Flushes.{record_after}
+use Rattle.fjall_state.specs.Flushes.{record_after}
 use Rattle.fjall_journal.specs.Changes.{Change, Emptied, Items}
 use Rattle.fjall_journal.specs.Writer.{written_out}
-use Rattle.fjall_ingest.specs.Whole.{last_ingested}
+use Rattle.fjall_state.specs.Whole.{last_ingested}
 use Rattle.fjall_loading.specs.Known.{last_known}
 use Rattle.fjall_writes.specs.Ingestions.{KeyOp}
 use Rattle.fjall_manager.specs.Journals.{staying}
-use Rattle.fjall_merge.specs.Finishing.{merge_out}
-use Rattle.fjall_merge.specs.Merges as merges
+use Rattle.fjall_state.specs.MergeFinishing.{merge_out}
+use Rattle.fjall_state.specs.Merges as merges
 use Rattle.fjall_lsm.specs.Jobs.{flush_dropped, flush_finished, is_flush_out, is_merge_out, merge_dropped, merge_finished}
 use Rattle.fjall_lsm.specs.Puts.{bare_tree}
 use Rattle.fjall_lsm.specs.Trees.{Shape as Tree}

@@ -11,7 +11,7 @@ use Rattle.fjall_lsm.specs.Trees.{Flushing, IsSameShape, Shape, emptied, first_f
 use Rattle.fjall_lsm.proofs.Changes.{first_same, first_sealed}
 use Rattle.fjall_maps.proofs.Pushed.{put_all_from, put_all_sealed}
 use Rattle.fjall_parts.specs.Parts.{Held, Memory, empty_from, with_clear}
-use Rattle.fjall_flush.proofs.Finishing.{end_inside}
+use Rattle.fjall_state.proofs.FlushFinishing.{end_inside}
 use Rattle.fjall_trees.specs.Forests.{AreBefore, Forest, IsForest, Planted, altered_at, without}
 use Rattle.fjall_trees.specs.Tables.{AreSameTrees}
 use Rattle.fjall_trees.specs.Writes.{entries_of, pushed, with_tree}

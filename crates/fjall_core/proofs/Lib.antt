@@ -72,3 +72,8 @@ mod MergesOnDisk
 mod MergedTables
 mod FinishedMerges
 mod RecordedTables
+-- lemmas of crates below, passed on to those above
+pub use Rattle.fjall_state.proofs.Moving
+pub use Rattle.fjall_state.proofs.Refusing
+pub use Rattle.fjall_state.proofs.SameTrees
+pub use Rattle.fjall_state.proofs.Standing

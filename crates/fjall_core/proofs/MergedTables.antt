@@ -10,8 +10,8 @@ use Rattle.fjall_blocks.specs.Readers.{AreRead, Reader, SomeTableIsWrong}
 use Rattle.fjall_commit.proofs.KeptHomes.{within_others}
 use Rattle.fjall_files.specs.Names.{keyspace_folder, table_name}
 use Rattle.fjall_files.specs.Regions.{Within}
-use Rattle.fjall_flush.specs.Flushes as flushes
-use Rattle.fjall_flush.specs.Plans.{HaveFiles}
+use Rattle.fjall_state.specs.Flushes as flushes
+use Rattle.fjall_state.specs.FlushPlans.{HaveFiles}
 use Rattle.fjall_jobs.specs.declared.made_table.MadeTable.{MadeTable}
 use Rattle.fjall_jobs.specs.declared.merge_made.MergeMade.{MergeMade}
 use Rattle.fjall_jobs.specs.Merges.{merge_task}
@@ -21,9 +21,9 @@ use Rattle.fjall_lsm.specs.Jobs.{merge_finished}
 use Rattle.fjall_lsm.specs.Trees.{Shape}
 use Rattle.fjall_lsm.proofs.Flushed.{front_of}
 use Rattle.fjall_lsm.proofs.Several.{read_both, read_dropped}
-use Rattle.fjall_merge.specs.Merges.{infos_from}
-use Rattle.fjall_merge.proofs.AfterRecords.{infos_count, new_from}
-use Rattle.fjall_merge.proofs.Taking.{named_ids, other_names}
+use Rattle.fjall_state.specs.Merges.{infos_from}
+use Rattle.fjall_state.proofs.AfterRecords.{infos_count, new_from}
+use Rattle.fjall_state.proofs.MergeTaking.{named_ids, other_names}
 use Rattle.fjall_state.specs.Machine.{State, is_among}
 use Rattle.fjall_state.specs.Merging.{AreTaken, keyspace_of}
 use Rattle.fjall_state.specs.Remembered.{IsLawful, Remembered}

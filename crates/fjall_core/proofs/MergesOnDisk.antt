@@ -12,8 +12,8 @@ use Rattle.fjall_files.specs.Names.{Table, keyspace_folder, table_name}
 use Rattle.fjall_files.specs.Regions.{Within}
 use Rattle.fjall_files.specs.Tidy.{IsTidy}
 use Rattle.fjall_files.proofs.Tidying.{tidy_on}
-use Rattle.fjall_flush.specs.Flushes.{HasAt}
-use Rattle.fjall_flush.proofs.Composed.{is_home}
+use Rattle.fjall_state.specs.Flushes.{HasAt}
+use Rattle.fjall_state.proofs.Composed.{is_home}
 use Rattle.fjall_home.specs.Homes.{Home}
 use Rattle.fjall_home.proofs.Outside.{within_keyspaces}
 use Rattle.fjall_home.proofs.Resting.{last_record}
@@ -27,13 +27,13 @@ use Rattle.fjall_loading.specs.Known.{IsKnown, last_known}
 use Rattle.fjall_lsm.specs.Jobs.{IsMerging, is_merge_out, merge_finished}
 use Rattle.fjall_lsm.specs.Trees.{Merging, Shape}
 use Rattle.fjall_maps.specs.Tables.{store_with}
-use Rattle.fjall_merge.specs.Finishing.{CanMerge}
-use Rattle.fjall_merge.specs.Merges.{Merge, Merges, home_after, infos_from, record_after, tree_after}
-use Rattle.fjall_merge.specs.Merges as merges
-use Rattle.fjall_merge.specs.Plans as merging
-use Rattle.fjall_merge.proofs.Finishing as Finishing
-use Rattle.fjall_merge.proofs.SameStore as SameStore
-use Rattle.fjall_merge.proofs.Taking.{named_ids}
+use Rattle.fjall_state.specs.MergeFinishing.{CanMerge}
+use Rattle.fjall_state.specs.Merges.{Merge, Merges, home_after, infos_from, record_after, tree_after}
+use Rattle.fjall_state.specs.Merges as merges
+use Rattle.fjall_state.specs.Plans as merging
+use Rattle.fjall_state.proofs.FinishingOfMerge as Finishing
+use Rattle.fjall_state.proofs.SameStore as SameStore
+use Rattle.fjall_state.proofs.MergeTaking.{named_ids}
 use Rattle.fjall_meta.specs.declared.living.LivingKeyspace.{LivingKeyspace}
 use Rattle.fjall_meta.specs.Keyspaces.{Keyspaces, keyspace_at}
 use Rattle.fjall_recovery.specs.Folders.{number_of}

@@ -17,8 +17,8 @@ use Rattle.fjall_jobs.specs.declared.made_table.MadeTable.{MadeTable}
 use Rattle.fjall_loading.specs.Known.{last_known}
 use Rattle.fjall_meta.specs.declared.living.LivingKeyspace.{LivingKeyspace}
 use Rattle.fjall_meta.specs.Keyspaces.{keyspace_at}
-use Rattle.fjall_ingest.specs.Plans.{AreOf}
-use Rattle.fjall_ingest.specs.Whole.{LacksIds, LacksRecordRoom, last_flushed, last_ingested}
+use Rattle.fjall_state.specs.IngestPlans.{AreOf}
+use Rattle.fjall_state.specs.Whole.{LacksIds, LacksRecordRoom, last_flushed, last_ingested}
 use Rattle.fjall_jobs.specs.Tasks.{IsFlushed}
 use Rattle.fjall_lsm.specs.Ingestions.{memory_task}
 use Rattle.fjall_lsm.specs.Jobs.{count_out}

@@ -2,7 +2,7 @@
 use Rattle.std.proofs.Common.{◌≡◌, inr, ℕ, ◌+◌, ◌<◌, ◌≤◌, ◌^◌, true, List, [], length, vec_capacity, Result, Ok, Err, sym, ◌∙◌, ap, subst}
 use Rattle.std.specs.FinMap.{contains_key}
 use Rattle.fjall_base.specs.declared.error.Error.{Error}
-use Rattle.fjall_ingest.specs.declared.whole.PlannedIngestion.{PlannedIngestion}
+use Rattle.fjall_state.specs.PlannedIngestion.{PlannedIngestion}
 use Rattle.fjall_lsm.specs.Trees.{clears_of}
 use Rattle.fjall_state.specs.Ingesting.{IsPlanned}
 use Rattle.fjall_state.specs.Remembered.{Remembered}

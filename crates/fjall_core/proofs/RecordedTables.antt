@@ -7,15 +7,15 @@ use Rattle.fjall_base.specs.declared.error.Error.{Error}
 use Rattle.fjall_base.specs.declared.error.Error.TheVariants.{Io, NumbersUsedUp, OutOfMemory, Poisoned, Storage, TooManyItems, ValueTooLong}
 use Rattle.fjall_blocks.specs.Readers.{Reader}
 use Rattle.fjall_catalog.specs.Catalog.{fields, first_of}
-use Rattle.fjall_flush.specs.Flushes.{infos_from}
-use Rattle.fjall_flush.specs.Flushes as flushes
-use Rattle.fjall_flush.proofs.Reading.{infos_both}
+use Rattle.fjall_state.specs.Flushes.{infos_from}
+use Rattle.fjall_state.specs.Flushes as flushes
+use Rattle.fjall_state.proofs.FlushReading.{infos_both}
 use Rattle.fjall_history.specs.Histories.{number}
 use Rattle.fjall_history.specs.declared.reply.Reply.{Reply}
 use Rattle.fjall_history.specs.declared.reply.Reply.TheVariants.{Refused}
-use Rattle.fjall_ingest.specs.Whole.{last_ingested, memory_flush}
-use Rattle.fjall_ingest.proofs.Preparing.{nothing_there}
-use Rattle.fjall_ingest.proofs.WholeMemory.{none_listed, none_made, nothing_made}
+use Rattle.fjall_state.specs.Whole.{last_ingested, memory_flush}
+use Rattle.fjall_state.proofs.Preparing.{nothing_there}
+use Rattle.fjall_state.proofs.WholeMemory.{none_listed, none_made, nothing_made}
 use Rattle.fjall_jobs.specs.declared.made_table.MadeTable.{MadeTable}
 use Rattle.fjall_jobs.specs.Tasks.{IsFlushed}
 use Rattle.fjall_journal.specs.Changes.{Emptied, Items}
@@ -23,8 +23,8 @@ use Rattle.fjall_lsm.specs.Ingestions.{has_memory, ingested, memory_task}
 use Rattle.fjall_lsm.specs.Jobs.{flush_begun, flush_dropped, flush_finished, merge_begun, merge_dropped, merge_finished}
 use Rattle.fjall_lsm.specs.Puts.{bare_tree}
 use Rattle.fjall_lsm.specs.Trees.{Flushing, Merging, Shape as Tree, sealed_off}
-use Rattle.fjall_merge.specs.Finishing as counting
-use Rattle.fjall_merge.specs.Merges as merges
+use Rattle.fjall_state.specs.MergeFinishing as counting
+use Rattle.fjall_state.specs.Merges as merges
 use Rattle.fjall_parts.specs.Parts.{clears_in, parts_of}
 use Rattle.fjall_sorted.specs.Sorted.{flat}
 use Rattle.fjall_state.specs.Machine.{Answers, BeginsFlush, BeginsMerge, CreatesOrFinds, EvictsSome, FinishesFlush, FinishesMerge, FlushesIn, IngestionFails, Ingests, IngestsInto, IsPoisoned, MayFail, MergesIn, Parts, Refuses, State, StepOf, WorkFails, at_fault}

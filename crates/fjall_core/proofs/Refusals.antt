@@ -12,7 +12,7 @@ use Rattle.fjall_versions.specs.Replays.{option_pairs}
 use Rattle.fjall_history.specs.declared.ticket.View.TheVariants.{At, Present}
 use Rattle.fjall_history.specs.declared.reply.Reply.TheVariants.{Refused}
 use Rattle.fjall_history.specs.Tickets.{Tickets, ids_used_up, is_open}
-use Rattle.fjall_ingest.specs.Ingests.{ingestion}
+use Rattle.fjall_state.specs.Ingests.{ingestion}
 use Rattle.fjall_writes.specs.Ingestions.{KeyOp}
 use Rattle.fjall_state.proofs.Ascending.{may_ingest}
 use Rattle.fjall_state.proofs.Dues.{may_change}

@@ -14,7 +14,7 @@ use Rattle.fjall_commit.specs.Evictions.{ForEvicting, LeavesEviction, evicted}
 use Rattle.fjall_files.specs.Calls.{AllServed}
 use Rattle.fjall_commit.specs.SyncedChanges as on_disk
 use Rattle.fjall_files.specs.Names.{journal_name, keyspace_folder, table_name}
-use Rattle.fjall_flush.specs.Plans.{HaveFiles, IsPlanRefusal, KeepsTables}
+use Rattle.fjall_state.specs.FlushPlans.{HaveFiles, IsPlanRefusal, KeepsTables}
 use Rattle.fjall_jobs.specs.declared.flush_job.FlushJob.{FlushJob}
 use Rattle.fjall_jobs.specs.declared.flush_made.FlushMade.{FlushMade}
 use Rattle.fjall_jobs.specs.declared.merge_made.MergeMade.{MergeMade}
@@ -38,13 +38,13 @@ use Rattle.fjall_commit.specs.Changes.{IsCreation}
 use Rattle.fjall_commit.specs.Removals.{IsUnused, RemovesOwn}
 use Rattle.fjall_state.specs.Evicting.{going_in}
 use Rattle.fjall_home.specs.Changes.{AreGone}
-use Rattle.fjall_merge.specs.Plans as merging
+use Rattle.fjall_state.specs.Plans as merging
 use Rattle.fjall_state.specs.Finishing.{ForFinishing, ForFlush, IsFinished, keyspace_of}
 use Rattle.fjall_state.specs.Merging as merged
 use Rattle.fjall_state.specs.Remembered.{KnowsTask, Remembered, poisoned, with_change, with_merge_done, with_sealed}
 use Rattle.fjall_state.specs.Machine.{flush_with}
-use Rattle.fjall_ingest.specs.declared.whole.PlannedIngestion.{PlannedIngestion}
-use Rattle.fjall_ingest.specs.Planned.{ForIngestion, ForIngestionOn, HasNoTableFolder, KeepsGiven}
+use Rattle.fjall_state.specs.PlannedIngestion.{PlannedIngestion}
+use Rattle.fjall_state.specs.Planned.{ForIngestion, ForIngestionOn, HasNoTableFolder, KeepsGiven}
 use Rattle.fjall_state.specs.Ingesting.{with_record, with_tables}
 use Rattle.fjall_core.specs.Crashes.{is_io}
 use Rattle.fjall_core.specs.Holding.{Held}

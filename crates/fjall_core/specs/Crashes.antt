@@ -14,7 +14,7 @@ use Rattle.fjall_files.specs.Tidy.{IsTidy, StaysTidy}
 use Rattle.fjall_versions.specs.Replays.{option_pairs}
 use Rattle.fjall_recovery.specs.Folders.{StandsFor}
 use Rattle.fjall_journal.specs.Changes.{Emptied, Items, command_of}
-use Rattle.fjall_ingest.specs.Ingests.{ingestion}
+use Rattle.fjall_state.specs.Ingests.{ingestion}
 use Rattle.fjall_history.specs.Histories.{Accepted, commands_of, extended}
 use Rattle.fjall_state.specs.Shapes.{OfChange, OfCount, OfCreation, OfDeletion, OfFlushBegin, OfFlushFinish, OfHandle, OfIngestion, OfJournalRotation, OfMaintenance, OfMergeBegin, OfMergeFinish, OfPersist, OfRead, OfRotation, OfTickets, Shape, shape_of}
 use Rattle.fjall_state.specs.Machine.{State, Step, begins_flush, has_name, is_living, mode_in, present}

@@ -32,11 +32,11 @@ use Rattle.fjall_jobs.specs.Merges.{merge_task}
 use Rattle.fjall_jobs.specs.Tasks.{IsFlushed, Task}
 use Rattle.fjall_lsm.specs.Jobs.{IsFlushing, count_out}
 use Rattle.fjall_lsm.specs.Trees.{Merging, is_l0}
-use Rattle.fjall_flush.specs.Flushes.{infos_from, record_after}
+use Rattle.fjall_state.specs.Flushes.{infos_from, record_after}
 use Rattle.fjall_home.specs.Changes.{AreGone}
-use Rattle.fjall_merge.specs.Merges.{Merge}
-use Rattle.fjall_merge.specs.Merges as merges
-use Rattle.fjall_merge.specs.Finishing as merging
+use Rattle.fjall_state.specs.Merges.{Merge}
+use Rattle.fjall_state.specs.Merges as merges
+use Rattle.fjall_state.specs.MergeFinishing as merging
 use Rattle.fjall_loading.specs.Known.{AreListed, last_known}
 use Rattle.fjall_meta.specs.declared.living.LivingKeyspace.{LivingKeyspace}
 use Rattle.fjall_meta.specs.Keyspaces.{id_of, keyspace_at}
@@ -68,7 +68,7 @@ use Rattle.fjall_state.specs.Remembered.{IsLawful, Remembered, facts_of, flushed
 use Rattle.fjall_state.specs.Remembered as memory
 use Rattle.fjall_state.specs.Evicting.{going_in}
 use Rattle.fjall_state.specs.Ingesting as ingesting
-use Rattle.fjall_ingest.specs.Whole.{LacksIds, LacksRecordRoom}
+use Rattle.fjall_state.specs.Whole.{LacksIds, LacksRecordRoom}
 use Rattle.fjall_writes.specs.Ingestions.{KeyOp}
 use Rattle.fjall_core.specs.Durables.{Durable, Knows, StandsAmid, Passes, Rests, Lies, MakesPresent, StaysFinished}
 use Rattle.fjall_core.specs.Crashes.{BlamesDevice, CallPasses, RunOn, Tried, IsSyncAt, SafeAt}

@@ -16,8 +16,8 @@ ghost use Rattle.fjall_core.specs.Standing.{Owes, Serves, is_long, reply_of};
 use crate::engine::Core;
 use crate::flushes::LONG_JOURNAL;
 use fjall_base::{Disk, Error, Result, UserKey};
-use fjall_ingest::{PlannedIngestion, write_ingestion};
 use fjall_journal::Op;
+use fjall_state::{PlannedIngestion, write_ingestion};
 
 impl<D: Disk> Core<D> {
     // Writes an ingestion that was planned.

@@ -15,8 +15,7 @@ use crate::engine::Core;
 use fjall_base::{Disk, Error, Refused, Result};
 use fjall_history::JobId;
 use fjall_jobs::{MergeJob, MergeMade};
-use fjall_merge::remove_taken;
-use fjall_state::MergeKind;
+use fjall_state::{MergeKind, remove_taken};
 
 impl<D: Disk> Core<D> {
     // Begins a merge of a keyspace, where one begins.

@@ -16,8 +16,8 @@ use Rattle.fjall_jobs.specs.declared.made_table.MadeTable.{MadeTable}
 use Rattle.fjall_jobs.specs.Tasks.{IsFlushed, Task}
 use Rattle.fjall_journal.specs.Batches.{Shown, Written, shown}
 use Rattle.fjall_loading.specs.Known.{GoesOnFrom, IsKnown, LastFields, last_known}
-use Rattle.fjall_lsm.specs.Jobs.{IsFlushing, count_out, flush_end, flush_finished}
-use Rattle.fjall_lsm.specs.Trees.{Flushing, Shape, first_from, floor_of}
+use Rattle.fjall_loading.specs.Jobs.{IsFlushing, count_out, flush_end, flush_finished}
+use Rattle.fjall_loading.specs.Trees.{Flushing, Shape, first_from, floor_of}
 use Rattle.fjall_meta.specs.declared.living.LivingKeyspace.{LivingKeyspace}
 use Rattle.fjall_parts.specs.Parts.{AreApart, Ascends, Held, IsHeld, clears_in, holds_nothing, parts_of, versions_in}
 use Rattle.fjall_recovery.specs.Halves.{Tree}
@@ -25,17 +25,17 @@ use Rattle.fjall_recovery.specs.Homes.{ClearsAreWithin, stored_at, stored_in, st
 use Rattle.fjall_recovery.specs.Journals.{batches_in}
 use Rattle.fjall_recovery.specs.Places.{Journaling, journals_with}
 use Rattle.fjall_recovery.proofs.Storing.{stored_inserted}
-use Rattle.fjall_replay.specs.Beside.{AreReplayedWith, ShowsWith}
-use Rattle.fjall_replay.specs.Replayed.{past}
+use Rattle.fjall_loading.specs.Beside.{AreReplayedWith, ShowsWith}
+use Rattle.fjall_loading.specs.Replayed.{past}
 use Rattle.fjall_sorted.specs.Sorted.{flat}
 use Rattle.fjall_table.specs.Blocks.{Entry}
 use Rattle.fjall_tree.specs.Records.{Fields}
-use Rattle.fjall_trees.specs.Forests.{Forest, IsForest, IsTree, altered_at, tree_at}
-use Rattle.fjall_trees.specs.Tables.{entries_with, shape_in}
-use Rattle.fjall_trees.proofs.Others.{altered_here, altered_other}
-use Rattle.fjall_trees.proofs.Outstanding.{flushing_tree}
-use Rattle.fjall_trees.proofs.Places.{tree_has}
-use Rattle.fjall_trees.proofs.Reading.{entries_here}
+use Rattle.fjall_loading.specs.Forests.{Forest, IsForest, IsTree, altered_at, tree_at}
+use Rattle.fjall_loading.specs.TreesTables.{entries_with, shape_in}
+use Rattle.fjall_loading.proofs.Others.{altered_here, altered_other}
+use Rattle.fjall_loading.proofs.Outstanding.{flushing_tree}
+use Rattle.fjall_loading.proofs.Places.{tree_has}
+use Rattle.fjall_loading.proofs.Reading.{entries_here}
 use Rattle.fjall_versions.proofs.Found.{found_has}
 use Rattle.fjall_versions.proofs.Slots.{get_put, same_id}
 use Rattle.fjall_views.specs.Views.{value_at}

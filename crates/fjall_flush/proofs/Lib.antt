@@ -13,3 +13,5 @@ pub mod SameStore
 pub mod SameNumber
 pub mod Taken
 pub mod Finishing
+-- lemmas of crates below, passed on to those above
+pub use Rattle.fjall_loading.proofs.Turns

@@ -8,7 +8,7 @@ use Rattle.fjall_blocks.specs.Readers.{AreRead, Reader, Reads}
 use Rattle.fjall_files.specs.Names.{table_name}
 use Rattle.fjall_jobs.specs.declared.made_table.MadeTable.{MadeTable}
 use Rattle.fjall_jobs.specs.Sequences.{AreMadeTables, IsMadeTable}
-use Rattle.fjall_lsm.proofs.Several.{read_both}
+use Rattle.fjall_loading.proofs.Several.{read_both}
 use Rattle.fjall_table.specs.declared.level.Level.TheVariants.{L0}
 use Rattle.fjall_table.specs.declared.table_info.TableInfo.{TableInfo}
 use Rattle.fjall_table.specs.Blocks.{Entry}

@@ -14,8 +14,8 @@ use Rattle.fjall_jobs.specs.declared.made_table.MadeTable.{MadeTable}
 use Rattle.fjall_jobs.specs.Tasks.{IsFlushed, Task}
 use Rattle.fjall_jobs.proofs.Flushing.{flat_runs}
 use Rattle.fjall_journal.specs.Batches.{Shown, shown}
-use Rattle.fjall_lsm.specs.Jobs.{IsFlushing}
-use Rattle.fjall_lsm.specs.Trees.{Shape, first_from}
+use Rattle.fjall_loading.specs.Jobs.{IsFlushing}
+use Rattle.fjall_loading.specs.Trees.{Shape, first_from}
 use Rattle.fjall_meta.specs.Keyspaces.{Keyspaces}
 use Rattle.fjall_parts.specs.Parts.{AreApart, Ascends, Held, IsHeld, Memory, clears_in, parts_of, versions_in}
 use Rattle.fjall_parts.proofs.Apart.{apart_front, apart_tail}

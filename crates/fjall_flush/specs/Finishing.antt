@@ -4,17 +4,17 @@ use Rattle.fjall_journal.specs.Batches.{shown}
 use Rattle.fjall_jobs.specs.declared.made_table.MadeTable.{MadeTable}
 use Rattle.fjall_jobs.specs.Tasks.{Task}
 use Rattle.fjall_loading.specs.Known.{IsKnown, LastFields}
-use Rattle.fjall_lsm.specs.Jobs.{IsFlushing, flush_end}
+use Rattle.fjall_loading.specs.Jobs.{IsFlushing, flush_end}
 use Rattle.fjall_meta.specs.declared.living.LivingKeyspace.{LivingKeyspace}
 use Rattle.fjall_meta.specs.Keyspaces.{keyspace_at}
 use Rattle.fjall_recovery.specs.Halves.{Tree}
 use Rattle.fjall_recovery.specs.Homes.{HaveVersions, stored_in}
 use Rattle.fjall_recovery.specs.Journals.{batches_in}
 use Rattle.fjall_recovery.specs.Places.{Journaling, journals_with}
-use Rattle.fjall_replay.specs.Beside.{AreReplayedWith}
+use Rattle.fjall_loading.specs.Beside.{AreReplayedWith}
 use Rattle.fjall_table.specs.Blocks.{Entry}
-use Rattle.fjall_trees.specs.Forests.{Forest, IsForest}
-use Rattle.fjall_trees.specs.Tables.{shape_in}
+use Rattle.fjall_loading.specs.Forests.{Forest, IsForest}
+use Rattle.fjall_loading.specs.TreesTables.{shape_in}
 use Rattle.fjall_flush.specs.Flushes.{Flush}
 
 -- the flush that is out of a keyspace, where it made these tables and these are its clears: it covers all up to where the memtables

@@ -17,7 +17,7 @@ use Rattle.fjall_home.specs.Homes.{Home}
 use Rattle.fjall_home.specs.Reading.{AreRight}
 use Rattle.fjall_jobs.specs.declared.made_table.MadeTable.{MadeTable}
 use Rattle.fjall_journal.specs.Batches.{Shown, shown}
-use Rattle.fjall_loading.specs.Known.{GoesOnFrom, IsKnown, LastFields}
+use Rattle.fjall_flush.specs.Known.{GoesOnFrom, IsKnown, LastFields}
 use Rattle.fjall_lsm.specs.Ingestions.{ingested}
 use Rattle.fjall_lsm.specs.Trees.{Shape, clears_of}
 use Rattle.fjall_lsm.proofs.Several.{flat_both}
@@ -29,7 +29,7 @@ use Rattle.fjall_recovery.specs.Homes.{stored_at, stored_in, stored_of}
 use Rattle.fjall_recovery.specs.Journals.{batches_in}
 use Rattle.fjall_recovery.specs.Places.{Journaling, journals_with}
 use Rattle.fjall_recovery.proofs.Storing.{stored_inserted}
-use Rattle.fjall_replay.specs.Beside.{AreReplayedWith, ShowsWith}
+use Rattle.fjall_flush.specs.Beside.{AreReplayedWith, ShowsWith}
 use Rattle.fjall_sorted.specs.Sorted.{flat}
 use Rattle.fjall_table.specs.Blocks.{Entry}
 use Rattle.fjall_tree.specs.Records.{Fields}

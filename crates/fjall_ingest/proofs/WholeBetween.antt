@@ -23,7 +23,7 @@ use Rattle.fjall_jobs.specs.declared.made_table.MadeTable.{MadeTable}
 use Rattle.fjall_jobs.specs.Tasks.{IsFlushed, Task}
 use Rattle.fjall_jobs.proofs.Flushing.{flat_runs}
 use Rattle.fjall_journal.specs.Batches.{Shown, Written, shown}
-use Rattle.fjall_loading.specs.Known.{GoesOnFrom, IsKnown, LastFields, last_known}
+use Rattle.fjall_flush.specs.Known.{GoesOnFrom, IsKnown, LastFields, last_known}
 use Rattle.fjall_lsm.specs.Ingestions.{has_memory, memory_task}
 use Rattle.fjall_lsm.specs.Puts.{bare_tree}
 use Rattle.fjall_lsm.specs.Trees.{Shape, clears_of, floor_of}
@@ -34,7 +34,7 @@ use Rattle.fjall_recovery.specs.Halves.{Tree}
 use Rattle.fjall_recovery.specs.Homes.{ClearsAreWithin, stored_at, stored_in, stored_of}
 use Rattle.fjall_recovery.specs.Journals.{batches_in}
 use Rattle.fjall_recovery.specs.Places.{Journaling, contents_with, journals_with}
-use Rattle.fjall_replay.specs.Beside.{ShowsWith}
+use Rattle.fjall_flush.specs.Beside.{ShowsWith}
 use Rattle.fjall_sorted.specs.Sorted.{flat}
 use Rattle.fjall_table.specs.declared.table_info.TableInfo.{TableInfo}
 use Rattle.fjall_table.specs.Blocks.{Entry}

@@ -17,7 +17,7 @@ use Rattle.fjall_home.proofs.Outside.{within_keyspaces}
 use Rattle.fjall_jobs.specs.declared.made_table.MadeTable.{MadeTable}
 use Rattle.fjall_jobs.specs.Tasks.{IsFlushed}
 use Rattle.fjall_journal.specs.Batches.{Written}
-use Rattle.fjall_loading.specs.Known.{LastFields, last_known}
+use Rattle.fjall_flush.specs.Known.{LastFields, last_known}
 use Rattle.fjall_lsm.specs.Ingestions.{has_memory, ingested, memory_task}
 use Rattle.fjall_lsm.specs.Trees.{Shape, clears_of}
 use Rattle.fjall_meta.specs.declared.living.LivingKeyspace.{LivingKeyspace}

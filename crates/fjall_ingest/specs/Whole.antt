@@ -7,7 +7,7 @@ use Rattle.fjall_home.specs.Homes.{Home}
 use Rattle.fjall_jobs.specs.declared.made_table.MadeTable.{MadeTable}
 use Rattle.fjall_jobs.specs.Tasks.{IsFlushed}
 use Rattle.fjall_journal.specs.Batches.{shown}
-use Rattle.fjall_loading.specs.Known.{LastFields}
+use Rattle.fjall_flush.specs.Known.{LastFields}
 use Rattle.fjall_lsm.specs.Ingestions.{has_memory, memory_task}
 use Rattle.fjall_lsm.specs.Trees.{Shape}
 use Rattle.fjall_meta.specs.declared.living.LivingKeyspace.{LivingKeyspace}

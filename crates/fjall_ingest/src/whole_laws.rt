@@ -13,7 +13,7 @@ ghost use Rattle.fjall_flush.specs.Flushes.{Follows, infos_from};
 ghost use Rattle.fjall_home.specs.Homes.{Home};
 ghost use Rattle.fjall_jobs.specs.declared.made_table.MadeTable.{MadeTable};
 ghost use Rattle.fjall_jobs.specs.Tasks.{IsFlushed};
-ghost use Rattle.fjall_loading.specs.Known.{LastFields, last_known};
+ghost use Rattle.fjall_flush.specs.Known.{LastFields, last_known};
 ghost use Rattle.fjall_lsm.specs.Ingestions.{has_memory, ingested, memory_task};
 ghost use Rattle.fjall_meta.specs.declared.living.LivingKeyspace.{LivingKeyspace};
 ghost use Rattle.fjall_parts.specs.Parts.{clears_in, parts_of};

@@ -3,15 +3,15 @@ use Rattle.std.proofs.Common.{◌≡◌, ◌==◌, ℕ, Bool, true, false, cond,
 use Rattle.std.specs.Option.{option_map}
 use Rattle.fjall_base.proofs.Codecs.{some_is}
 use Rattle.fjall_blocks.specs.Readers.{Reader}
-use Rattle.fjall_lsm.specs.Trees.{Shape, floor_of}
+use Rattle.fjall_replay.specs.Trees.{Shape, floor_of}
 use Rattle.fjall_meta.specs.declared.living.LivingKeyspace.{LivingKeyspace}
 use Rattle.fjall_parts.specs.Parts.{holds_nothing}
 use Rattle.fjall_recovery.specs.Homes.{Homes, Versions}
 use Rattle.fjall_replay.specs.Parted.{all_unwritten, unwritten}
 use Rattle.fjall_table.specs.Blocks.{Entry}
 use Rattle.fjall_tree.specs.Records.{Fields}
-use Rattle.fjall_trees.specs.Forests.{Forest, tree_at}
-use Rattle.fjall_trees.proofs.Places.{tree_has}
+use Rattle.fjall_replay.specs.Forests.{Forest, tree_at}
+use Rattle.fjall_replay.proofs.Places.{tree_has}
 use Rattle.fjall_loading.specs.Known.{GoesOnFrom, IsKnown, LastFields}
 
 -- ---- one tree

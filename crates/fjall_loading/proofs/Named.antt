@@ -13,7 +13,7 @@ use Rattle.fjall_meta.specs.declared.living.LivingKeyspace.{LivingKeyspace}
 use Rattle.fjall_recovery.specs.Homes.{AreHomesRead, IsRead, no_fields}
 use Rattle.fjall_table.specs.declared.table_info.TableInfo.{TableInfo}
 use Rattle.fjall_tree.specs.Records.{Fields, view}
-use Rattle.fjall_trees.specs.Forests.{Planted}
+use Rattle.fjall_replay.specs.Forests.{Planted}
 use Rattle.fjall_loading.specs.Known.{AreAtHome, AreListed, IsAtHome, IsGiven, LastFields}
 use Rattle.fjall_loading.specs.Opening.{AreReadersOf, opened, reader_of, record_read}
 use Rattle.fjall_loading.proofs.Opening.{its_readers, last_is_record, other_id, read_first, readers_infos}

@@ -15,7 +15,7 @@ use Rattle.fjall_home.specs.declared.reading.LoadedHome.{LoadedHome}
 use Rattle.fjall_home.specs.Homes.{HoldTables, Home}
 use Rattle.fjall_files.specs.Names.{table_name}
 use Rattle.fjall_home.specs.Reading.{AreRight}
-use Rattle.fjall_lsm.specs.Trees.{Shape, floor_of}
+use Rattle.fjall_replay.specs.Trees.{Shape, floor_of}
 use Rattle.fjall_meta.specs.declared.living.LivingKeyspace.{LivingKeyspace}
 use Rattle.fjall_meta.specs.Keyspaces.{Keyspaces, keyspace_at}
 use Rattle.fjall_recovery.specs.Folders.{Contents, IsOpenable}
@@ -29,7 +29,7 @@ use Rattle.fjall_table.specs.Files.{HoldsNoBlock, IsTableOf, bytes_in}
 use Rattle.fjall_table.specs.Tables.{Handle}
 use Rattle.fjall_table.proofs.FileScans.{wrong_block}
 use Rattle.fjall_tree.specs.Records.{Fields, view}
-use Rattle.fjall_trees.specs.Forests.{Forest, tree_at}
+use Rattle.fjall_replay.specs.Forests.{Forest, tree_at}
 use Rattle.fjall_versions.proofs.Ids.{each_lives}
 use Rattle.fjall_views.specs.Jobs.{AreBelow, OnceEach}
 use Rattle.fjall_views.specs.Views.{value_at}

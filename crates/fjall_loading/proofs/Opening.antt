@@ -34,7 +34,7 @@ use Rattle.fjall_table.specs.Files.{HoldsTable, IsIndexed, IsTableOf, bytes_in}
 use Rattle.fjall_table.specs.Tables.{Handle, handles_of}
 use Rattle.fjall_table.proofs.TableBlocks.{one_index}
 use Rattle.fjall_tree.specs.Records.{Fields, IsRecord, view}
-use Rattle.fjall_trees.specs.Forests.{AreBefore, Forest, Planted}
+use Rattle.fjall_replay.specs.Forests.{AreBefore, Forest, Planted}
 use Rattle.fjall_versions.specs.Replays.{persisted_at}
 use Rattle.fjall_versions.specs.declared.recovery.Persisted.{Persisted}
 use Rattle.fjall_loading.specs.Known.{LastFields}

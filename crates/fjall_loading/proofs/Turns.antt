@@ -18,7 +18,7 @@ use Rattle.fjall_recovery.specs.Homes.{HaveHomes, Homes, IsRead}
 use Rattle.fjall_recovery.proofs.Housing.{is_housed}
 use Rattle.fjall_replay.specs.Replayed.{ids_of}
 use Rattle.fjall_table.specs.Files.{bytes_in}
-use Rattle.fjall_trees.specs.Forests.{Forest, Planted}
+use Rattle.fjall_replay.specs.Forests.{Forest, Planted}
 
 -- ---- the bytes of a file
 

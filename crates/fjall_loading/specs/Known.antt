@@ -8,7 +8,7 @@ use Rattle.fjall_blocks.specs.Readers.{Reader}
 use Rattle.fjall_files.specs.Names.{table_name}
 use Rattle.fjall_home.specs.Homes.{Home}
 use Rattle.fjall_home.specs.Reading.{AreRight}
-use Rattle.fjall_lsm.specs.Trees.{Shape, floor_of}
+use Rattle.fjall_replay.specs.Trees.{Shape, floor_of}
 use Rattle.fjall_meta.specs.declared.living.LivingKeyspace.{LivingKeyspace}
 use Rattle.fjall_parts.specs.Parts.{holds_nothing}
 use Rattle.fjall_recovery.specs.Homes.{Homes, Versions, no_fields}
@@ -16,7 +16,7 @@ use Rattle.fjall_replay.specs.Replayed.{past}
 use Rattle.fjall_sorted.specs.Sorted.{flat}
 use Rattle.fjall_table.specs.Blocks.{Entry}
 use Rattle.fjall_tree.specs.Records.{Fields}
-use Rattle.fjall_trees.specs.Forests.{Forest, tree_at}
+use Rattle.fjall_replay.specs.Forests.{Forest, tree_at}
 
 -- the last records of keyspaces, by the keyspaces' ids
 abbrev pub LastFields : Type 0

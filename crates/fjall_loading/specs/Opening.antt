@@ -10,7 +10,7 @@ use Rattle.fjall_files.specs.Calls.{seen}
 use Rattle.fjall_files.specs.Names.{table_name}
 use Rattle.fjall_home.specs.declared.reading.LoadedHome.{LoadedHome}
 use Rattle.fjall_home.specs.Homes.{Home}
-use Rattle.fjall_lsm.specs.Trees.{Shape}
+use Rattle.fjall_replay.specs.Trees.{Shape}
 use Rattle.fjall_parts.specs.Parts.{empty_from}
 use Rattle.fjall_recovery.specs.Folders.{Contents}
 use Rattle.fjall_recovery.specs.Homes.{ClearsAreWithin, Homes, Versions, stored_in, stored_of}
@@ -23,8 +23,8 @@ use Rattle.fjall_table.specs.Blocks.{Entry}
 use Rattle.fjall_table.specs.Files.{HoldsTable, handles_in, name_of}
 use Rattle.fjall_table.specs.Tables.{Handle, entries_of}
 use Rattle.fjall_tree.specs.Records.{Fields, view}
-use Rattle.fjall_trees.specs.Forests.{Forest, Planted}
-use Rattle.fjall_trees.specs.Tables.{AreReadOn}
+use Rattle.fjall_replay.specs.Forests.{Forest, Planted}
+use Rattle.fjall_replay.specs.TreesTables.{AreReadOn}
 use Rattle.fjall_views.specs.Jobs.{OnceEach}
 use Rattle.fjall_versions.specs.declared.recovery.Persisted.{Persisted}
 use Rattle.fjall_loading.specs.Known.{IsKnown, LastFields}

@@ -4,12 +4,12 @@ ghost use Rattle.std.specs.Prelude.{◌≡◌, map};
 ghost use Rattle.fjall_base.specs.Disk.{Meaning};
 ghost use Rattle.fjall_journal.specs.Batches.{shown};
 ghost use Rattle.fjall_loading.specs.Opening.{ShowsStored};
-ghost use Rattle.fjall_maps.specs.Tables.{store_with};
+ghost use Rattle.fjall_replay.specs.Tables.{store_with};
 ghost use Rattle.fjall_recovery.specs.Folders.{Contents, store_of};
 ghost use Rattle.fjall_recovery.specs.Homes.{stored_in};
 ghost use Rattle.fjall_recovery.specs.Journals.{batches_in};
 ghost use Rattle.fjall_replay.specs.Beside.{AreReplayedWith};
-ghost use Rattle.fjall_trees.specs.Forests.{Forest};
+ghost use Rattle.fjall_replay.specs.Forests.{Forest};
 
 /// Where a folder's trees were opened over tables that stay on the disk, and the batches of all its journals were replayed into
 /// them, the trees and their tables stand for the store that the folder stands for.

@@ -15,19 +15,18 @@ ghost use Rattle.fjall_replay.specs.Beside.{AreEndedBy};
 ghost use Rattle.fjall_replay.specs.Replayed.{ids_of, past};
 ghost use Rattle.fjall_table.specs.Blocks.{Entry};
 ghost use Rattle.fjall_tree.specs.Records.{view};
-ghost use Rattle.fjall_trees.specs.Forests.{AreBefore};
-ghost use Rattle.fjall_trees.specs.Views.{forest_of};
+ghost use Rattle.fjall_replay.specs.Forests.{AreBefore};
+ghost use Rattle.fjall_replay.specs.Views.{forest_of};
 
 use crate::records::LastRecords;
 use fjall_base::{Error, Result, StorageError};
 use fjall_blocks::TableReader;
 use fjall_home::LoadedHome;
-use fjall_lsm::Tree;
 use fjall_meta::MetaKeyspace;
 use fjall_recovery::is_beyond;
+use fjall_replay::{Tree, Trees};
 use fjall_table::TableFile;
 use fjall_tree::Record;
-use fjall_trees::Trees;
 use std::alloc::Global;
 
 /// What is answered for a home that tells of no tree.

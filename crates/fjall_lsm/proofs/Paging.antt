@@ -18,7 +18,7 @@ use Rattle.fjall_sorted.proofs.Orders.{filter_chain}
 use Rattle.fjall_sorted.proofs.Ranges.{bounds_first}
 use Rattle.fjall_sorted.proofs.Sorting.{chain_of, ordered_of}
 use Rattle.fjall_sorted.proofs.Viewing as Viewing
-use Rattle.fjall_runs.proofs.Heads.{taken_run}
+use Rattle.fjall_pages.proofs.Heads.{taken_run}
 use Rattle.fjall_parts.specs.declared.part.Part.{Part}
 use Rattle.fjall_parts.specs.Held.{held_of}
 use Rattle.fjall_parts.specs.Parts.{AreApart, Held, IsHeld, parts_of, versions_in}

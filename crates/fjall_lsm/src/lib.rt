@@ -12,6 +12,7 @@ mod pages;
 mod search;
 mod tree;
 
+pub use fjall_jobs::{FlushJob, FlushMade, MergeJob, MergeMade};
 pub use laws::{
     a_flushed_tree_keeps_views, a_merge_reads_what_is_sorted, a_merged_tree_keeps_views,
     a_rotated_tree_holds_the_same, a_written_tree_has_one_version_more,

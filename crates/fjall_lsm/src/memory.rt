@@ -15,7 +15,7 @@ use crate::pages::memory_runs;
 use crate::search::value_of;
 use crate::tree::Tree;
 use fjall_base::{Error, KeyBounds, KvPair, UserValue};
-use fjall_runs::page;
+use fjall_pages::runs::page;
 use std::alloc::AllocError;
 
 // Whether one of ascending numbers is this one or above it.

@@ -14,9 +14,9 @@ ghost use Rattle.fjall_lsm.specs.Trees.{IsSameShape, ReadsAll, clears_of, versio
 
 use crate::tree::Tree;
 use fjall_base::{Disk, KeyBounds, KvPair, Result};
+use fjall_pages::runs::MemtableRun;
 use fjall_pages::{PageQuery, page};
 use fjall_parts::{Part, Parts};
-use fjall_runs::MemtableRun;
 use std::alloc::{AllocError, Global};
 use std::result;
 

@@ -9,8 +9,8 @@ use Rattle.fjall_views.specs.Jobs.{AreBelow}
 use Rattle.fjall_views.specs.Views.{view_of}
 use Rattle.fjall_sorted.specs.Sorted.{flat}
 use Rattle.fjall_parts.specs.Parts.{AreApart, Ascends, IsHeld, Memory, clears_in, parts_of, versions_in}
-use Rattle.fjall_lsm.specs.Jobs.{flush_begun, merge_begun}
-use Rattle.fjall_lsm.specs.Trees.{IsShape, Shape, floor_of}
+use Rattle.fjall_trees.specs.Jobs.{flush_begun, merge_begun}
+use Rattle.fjall_trees.specs.Trees.{IsShape, Shape, floor_of}
 use Rattle.fjall_trees.specs.Forests.{AreBefore, Forest, IsForest, IsTree, Planted, altered_at, tree_at}
 use Rattle.fjall_trees.specs.Tables.{AreSameTrees}
 use Rattle.fjall_trees.proofs.Changing.{one_keeps}

@@ -2,7 +2,7 @@
 use Rattle.std.proofs.Common.{◌≡◌, ℕ, ◌^◌, [], Option, Some, None, refl, ap}
 use Rattle.fjall_base.specs.Pairs.{Pairs}
 use Rattle.fjall_meta.specs.Keyspaces.{Keyspaces}
-use Rattle.fjall_lsm.specs.Trees.{Shape}
+use Rattle.fjall_trees.specs.Trees.{Shape}
 use Rattle.fjall_trees.specs.Forests.{Forest, tree_at}
 use Rattle.fjall_maps.specs.Maps.{map_of, pairs_in, store_of}
 use Rattle.fjall_maps.specs.Tables.{map_with, no_entries, pairs_with, store_by, store_with}

@@ -5,7 +5,7 @@ use Rattle.std.proofs.lemmas.Bool.{eqb-true}
 use Rattle.std.proofs.lemmas.List.Elements.{All-head, All-map, All-nil, All-push, All-tail, All-weaker}
 use Rattle.std.proofs.lemmas.List.Kept.{AllPairs-cons}
 use Rattle.fjall_parts.specs.Parts.{Ascends}
-use Rattle.fjall_lsm.specs.Trees.{Shape}
+use Rattle.fjall_trees.specs.Trees.{Shape}
 use Rattle.fjall_trees.specs.Forests.{Forest, IsForest, IsTree, Planted, altered_at, tree_at}
 use Rattle.fjall_trees.proofs.Places.{ascends_of, each_by, ids_each, pairs_of, tree_each}
 

@@ -13,8 +13,8 @@ use Rattle.fjall_views.proofs.Writing.{clear_empties, clear_keeps}
 use Rattle.fjall_versions.proofs.Slots.{get_put}
 use Rattle.fjall_parts.specs.Parts.{with_clear}
 use Rattle.fjall_parts.proofs.Changes.{clear_held}
-use Rattle.fjall_lsm.specs.Trees.{Shape, clears_of, emptied, versions_of}
-use Rattle.fjall_lsm.proofs.Changes.{emptied_clears, emptied_versions}
+use Rattle.fjall_trees.specs.Trees.{Shape, clears_of, emptied, versions_of}
+use Rattle.fjall_trees.proofs.Changes.{emptied_clears, emptied_versions}
 use Rattle.fjall_trees.specs.Forests.{AreBefore, Forest, IsForest, IsTree, altered_at, tree_at}
 use Rattle.fjall_trees.specs.Writes.{AreBare}
 use Rattle.fjall_trees.proofs.Changing.{tree_under}

@@ -11,13 +11,13 @@ use Rattle.fjall_views.proofs.Shown as Shown
 use Rattle.fjall_blocks.specs.Readers.{Reader}
 use Rattle.fjall_parts.specs.Parts.{IsHeld}
 use Rattle.fjall_parts.proofs.Apart.{apart_drop, held_behind}
-use Rattle.fjall_jobs.specs.declared.made_table.MadeTable.{MadeTable}
-use Rattle.fjall_jobs.specs.Merges.{IsMerged}
-use Rattle.fjall_jobs.specs.Tasks.{IsFlushed, Task}
-use Rattle.fjall_lsm.specs.Jobs.{IsFlushing, IsMerging, flush_finished, merge_finished}
-use Rattle.fjall_lsm.specs.Trees.{Flushing, Merging, Shape, clears_of, versions_of}
-use Rattle.fjall_lsm.proofs.Flushed.{flushed_view, shape_flushed}
-use Rattle.fjall_lsm.proofs.Merged.{merged_view, shape_merged}
+use Rattle.fjall_trees.specs.MadeTable.{MadeTable}
+use Rattle.fjall_trees.specs.Merges.{IsMerged}
+use Rattle.fjall_trees.specs.Tasks.{IsFlushed, Task}
+use Rattle.fjall_trees.specs.Jobs.{IsFlushing, IsMerging, flush_finished, merge_finished}
+use Rattle.fjall_trees.specs.Trees.{Flushing, Merging, Shape, clears_of, versions_of}
+use Rattle.fjall_trees.proofs.Flushed.{flushed_view, shape_flushed}
+use Rattle.fjall_trees.proofs.Merged.{merged_view, shape_merged}
 use Rattle.fjall_trees.specs.Forests.{AreBefore, Forest, IsForest, IsTree, altered_at, tree_at}
 use Rattle.fjall_trees.specs.Tables.{entries_with, shape_in}
 use Rattle.fjall_trees.proofs.Changing.{tree_under}

@@ -14,12 +14,12 @@ use Rattle.fjall_views.proofs.Shown as Shown
 use Rattle.fjall_blocks.specs.Readers.{Reader}
 use Rattle.fjall_sorted.specs.Sorted.{flat}
 use Rattle.fjall_parts.specs.Parts.{IsHeld, empty_from}
-use Rattle.fjall_jobs.specs.declared.made_table.MadeTable.{MadeTable}
-use Rattle.fjall_jobs.specs.Tasks.{IsFlushed}
-use Rattle.fjall_lsm.specs.Ingestions.{ingested, memory_task}
-use Rattle.fjall_lsm.specs.Puts.{put_all}
-use Rattle.fjall_lsm.specs.Trees.{Shape, clears_of, versions_of}
-use Rattle.fjall_lsm.proofs.Ingested.{empty_held, ingested_below, ingested_once, ingested_shape, ingested_view}
+use Rattle.fjall_trees.specs.MadeTable.{MadeTable}
+use Rattle.fjall_trees.specs.Tasks.{IsFlushed}
+use Rattle.fjall_trees.specs.Ingestions.{ingested, memory_task}
+use Rattle.fjall_trees.specs.Puts.{put_all}
+use Rattle.fjall_trees.specs.Trees.{Shape, clears_of, versions_of}
+use Rattle.fjall_trees.proofs.LsmIngested.{empty_held, ingested_below, ingested_once, ingested_shape, ingested_view}
 use Rattle.fjall_trees.specs.Forests.{AreBefore, Forest, IsForest, IsTree, Planted, altered_at, tree_at}
 use Rattle.fjall_trees.specs.Tables.{entries_with}
 use Rattle.fjall_trees.specs.Writes.{MayPush, entries_of, entry_of, pushed}

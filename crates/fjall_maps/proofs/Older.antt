@@ -8,9 +8,9 @@ use Rattle.fjall_views.specs.Jobs.{AreBelow}
 use Rattle.fjall_views.proofs.Tests.{all_of}
 use Rattle.fjall_sorted.specs.Sorted.{flat}
 use Rattle.fjall_parts.specs.Parts.{empty_from, with_clear, with_version}
-use Rattle.fjall_lsm.specs.Puts.{bare_tree}
-use Rattle.fjall_lsm.specs.Trees.{ReadsAll, Shape, emptied, floor_of, sealed_off, written}
-use Rattle.fjall_lsm.proofs.Changes.{first_same, first_sealed}
+use Rattle.fjall_trees.specs.Puts.{bare_tree}
+use Rattle.fjall_trees.specs.Trees.{ReadsAll, Shape, emptied, floor_of, sealed_off, written}
+use Rattle.fjall_trees.proofs.Changes.{first_same, first_sealed}
 use Rattle.fjall_trees.specs.Forests.{Forest, altered_at, without}
 use Rattle.fjall_trees.specs.Tables.{AreReadOn}
 use Rattle.fjall_trees.specs.Writes.{pushed, with_tree}

@@ -8,8 +8,8 @@ use Rattle.fjall_views.specs.Jobs.{AreBelow}
 use Rattle.fjall_sorted.specs.Sorted.{flat}
 use Rattle.fjall_parts.specs.Parts.{AreApart, Held, IsHeld, clears_in, parts_of, versions_in, with_active}
 use Rattle.fjall_parts.proofs.Apart.{IsNumbered, apart_with, clears_numbered, numbers_below, versions_numbered}
-use Rattle.fjall_lsm.specs.Trees.{Shape, clears_of, first_from, floor_of, versions_of, with_memory}
-use Rattle.fjall_lsm.proofs.Changes.{first_same}
+use Rattle.fjall_trees.specs.Trees.{Shape, clears_of, first_from, floor_of, versions_of, with_memory}
+use Rattle.fjall_trees.proofs.Changes.{first_same}
 use Rattle.fjall_trees.specs.Forests.{IsTree}
 use Rattle.fjall_maps.specs.Tables.{IsOlder}
 

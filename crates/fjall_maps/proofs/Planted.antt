@@ -10,8 +10,8 @@ use Rattle.fjall_meta.specs.Keyspaces.{AreKeyspaces, Keyspaces, with_keyspace, w
 use Rattle.fjall_table.specs.Blocks.{Entry, IsEntry}
 use Rattle.fjall_versions.specs.Replays.{option_pairs}
 use Rattle.fjall_parts.specs.Parts.{IsHeld, empty_from}
-use Rattle.fjall_lsm.specs.Trees.{Shape}
-use Rattle.fjall_lsm.specs.Puts.{bare_tree}
+use Rattle.fjall_trees.specs.Trees.{Shape}
+use Rattle.fjall_trees.specs.Puts.{bare_tree}
 use Rattle.fjall_trees.specs.Forests.{AreBefore, Forest, IsForest, IsTree, Planted, tree_at, without}
 use Rattle.fjall_trees.specs.Writes.{AreBare, with_tree}
 use Rattle.fjall_trees.proofs.Places.{id_differs}

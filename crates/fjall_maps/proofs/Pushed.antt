@@ -18,8 +18,8 @@ use Rattle.fjall_versions.specs.Versions.{pairs_after}
 use Rattle.fjall_versions.proofs.Ids.{living_has}
 use Rattle.fjall_parts.specs.Parts.{IsHeld, with_version}
 use Rattle.fjall_parts.proofs.Changes.{version_held}
-use Rattle.fjall_lsm.specs.Trees.{Shape, clears_of, versions_of}
-use Rattle.fjall_lsm.specs.Puts.{put_all}
+use Rattle.fjall_trees.specs.Trees.{Shape, clears_of, versions_of}
+use Rattle.fjall_trees.specs.Puts.{put_all}
 use Rattle.fjall_trees.specs.Forests.{AreBefore, Forest, IsForest, IsTree, tree_at}
 use Rattle.fjall_trees.specs.Writes.{AreBare, MayPush, entries_of, pushed}
 use Rattle.fjall_trees.proofs.Changing.{put_all_keeps, tree_under}

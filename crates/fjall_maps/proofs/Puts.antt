@@ -18,9 +18,9 @@ use Rattle.fjall_sorted.proofs.Sorting.{chain_of, inserted_chain, inserted_same,
 use Rattle.fjall_parts.specs.Parts.{parts_of, versions_in}
 use Rattle.fjall_parts.proofs.Finds.{last_versions}
 use Rattle.fjall_parts.proofs.Onces.{chain_once}
-use Rattle.fjall_lsm.specs.Trees.{Shape, clears_of, versions_of, written}
-use Rattle.fjall_lsm.specs.Puts.{put_all}
-use Rattle.fjall_lsm.proofs.Changes.{written_clears}
+use Rattle.fjall_trees.specs.Trees.{Shape, clears_of, versions_of, written}
+use Rattle.fjall_trees.specs.Puts.{put_all}
+use Rattle.fjall_trees.proofs.Changes.{written_clears}
 use Rattle.fjall_trees.proofs.Changing.{put_all_keeps, put_has}
 
 -- ---- what stays

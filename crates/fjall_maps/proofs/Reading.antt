@@ -8,7 +8,7 @@ use Rattle.fjall_meta.specs.Keyspaces.{Keyspaces, keyspace_at}
 use Rattle.fjall_table.specs.Blocks.{Entry}
 use Rattle.fjall_views.specs.Views.{IsView, value_at}
 use Rattle.fjall_views.proofs.Shown as Shown
-use Rattle.fjall_lsm.specs.Trees.{Shape, clears_of, versions_of}
+use Rattle.fjall_trees.specs.Trees.{Shape, clears_of, versions_of}
 use Rattle.fjall_trees.specs.Forests.{AreBefore, Forest, IsForest, IsTree, tree_at}
 use Rattle.fjall_trees.proofs.Changing.{tree_under}
 use Rattle.fjall_trees.proofs.Places.{tree_has}

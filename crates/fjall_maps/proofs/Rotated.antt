@@ -8,9 +8,9 @@ use Rattle.fjall_table.specs.Blocks.{Entry}
 use Rattle.fjall_views.specs.Views.{view_of}
 use Rattle.fjall_parts.specs.Parts.{IsHeld, empty_from, parts_of}
 use Rattle.fjall_parts.proofs.Apart.{apart_more}
-use Rattle.fjall_lsm.specs.Trees.{Shape, sealed_off}
-use Rattle.fjall_lsm.proofs.Changes.{first_sealed, sealed_clears, sealed_versions}
-use Rattle.fjall_lsm.proofs.Outstanding.{shape_stays}
+use Rattle.fjall_trees.specs.Trees.{Shape, sealed_off}
+use Rattle.fjall_trees.proofs.Changes.{first_sealed, sealed_clears, sealed_versions}
+use Rattle.fjall_trees.proofs.LsmOutstanding.{shape_stays}
 use Rattle.fjall_trees.specs.Forests.{AreBefore, Forest, IsForest, IsTree, altered_at, tree_at}
 use Rattle.fjall_trees.specs.Writes.{AreBare}
 use Rattle.fjall_maps.specs.Maps.{pairs_in, store_of}

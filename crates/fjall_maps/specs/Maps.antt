@@ -6,7 +6,7 @@ use Rattle.fjall_base.specs.Store.{Store}
 use Rattle.fjall_meta.specs.Keyspaces.{Keyspaces}
 use Rattle.fjall_views.specs.Views.{view_of}
 use Rattle.fjall_versions.specs.Replays.{bare, by_id}
-use Rattle.fjall_lsm.specs.Trees.{Shape, clears_of, versions_of}
+use Rattle.fjall_trees.specs.Trees.{Shape, clears_of, versions_of}
 use Rattle.fjall_trees.specs.Forests.{Forest, tree_at}
 
 -- the map of a tree without tables at an instant; where no tree is, it is empty

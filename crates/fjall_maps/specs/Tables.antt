@@ -9,7 +9,7 @@ use Rattle.fjall_views.specs.Jobs.{AreBelow, OnceEach}
 use Rattle.fjall_views.specs.Views.{view_of}
 use Rattle.fjall_versions.specs.Replays.{bare, by_id}
 use Rattle.fjall_sorted.specs.Sorted.{flat}
-use Rattle.fjall_lsm.specs.Trees.{Shape, clears_of, floor_of, versions_of}
+use Rattle.fjall_trees.specs.Trees.{Shape, clears_of, floor_of, versions_of}
 use Rattle.fjall_trees.specs.Forests.{Forest, tree_at}
 
 -- the map of a tree at an instant, where its tables have these entries; where no tree is, it is empty

@@ -7,7 +7,7 @@ use Rattle.std.proofs.lemmas.List.Elements.{All-append, All-cons, All-drop, All-
 use Rattle.std.proofs.lemmas.List.Kept.{AllPairs-cons}
 use Rattle.fjall_flush.proofs.Taken.{rises}
 use Rattle.fjall_jobs.specs.declared.made_table.MadeTable.{MadeTable}
-use Rattle.fjall_loading.proofs.Turns.{ascends}
+use Rattle.fjall_flush.proofs.Turns.{ascends}
 use Rattle.fjall_lsm.specs.Trees.{IsShape}
 use Rattle.fjall_lsm.proofs.Merged.{shape_merged}
 use Rattle.fjall_parts.specs.Parts.{empty_from}

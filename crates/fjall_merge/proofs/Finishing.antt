@@ -20,7 +20,7 @@ use Rattle.fjall_jobs.specs.declared.made_table.MadeTable.{MadeTable}
 use Rattle.fjall_jobs.specs.Merges.{IsMerged}
 use Rattle.fjall_jobs.specs.Tasks.{Task}
 use Rattle.fjall_journal.specs.Batches.{Shown, shown}
-use Rattle.fjall_loading.specs.Known.{GoesOnFrom, IsKnown, LastFields, last_known}
+use Rattle.fjall_flush.specs.Known.{GoesOnFrom, IsKnown, LastFields, last_known}
 use Rattle.fjall_lsm.specs.Jobs.{flush_dropped, merge_finished}
 use Rattle.fjall_lsm.specs.Trees.{Merging, Shape, first_from, floor_of}
 use Rattle.fjall_lsm.proofs.Flushed.{from_floor}
@@ -32,8 +32,8 @@ use Rattle.fjall_recovery.specs.Homes.{HasVersions, stored_at, stored_in, stored
 use Rattle.fjall_recovery.specs.Journals.{batches_in}
 use Rattle.fjall_recovery.specs.Places.{Journaling, journals_with}
 use Rattle.fjall_recovery.proofs.Storing.{stored_inserted}
-use Rattle.fjall_replay.specs.Beside.{AreReplayedWith, ShowsWith}
-use Rattle.fjall_replay.specs.Replayed.{past}
+use Rattle.fjall_flush.specs.Beside.{AreReplayedWith, ShowsWith}
+use Rattle.fjall_flush.specs.Replayed.{past}
 use Rattle.fjall_sorted.specs.Sorted.{flat}
 use Rattle.fjall_table.specs.Blocks.{Entry}
 use Rattle.fjall_tree.specs.Records.{Fields}

@@ -3,7 +3,7 @@ use Rattle.std.specs.Prelude.{◌≡◌, ℕ, List, Some}
 use Rattle.fjall_flush.specs.Finishing.{AreKnown}
 use Rattle.fjall_jobs.specs.declared.made_table.MadeTable.{MadeTable}
 use Rattle.fjall_jobs.specs.Tasks.{Task}
-use Rattle.fjall_loading.specs.Known.{LastFields}
+use Rattle.fjall_flush.specs.Known.{LastFields}
 use Rattle.fjall_lsm.specs.Jobs.{IsMerging}
 use Rattle.fjall_lsm.specs.Trees.{Merging}
 use Rattle.fjall_meta.specs.declared.living.LivingKeyspace.{LivingKeyspace}

@@ -10,7 +10,7 @@ ghost use Rattle.fjall_home.specs.Reading.{AreRight};
 ghost use Rattle.fjall_jobs.specs.declared.made_table.MadeTable.{MadeTable};
 ghost use Rattle.fjall_jobs.specs.Merges.{IsMerged};
 ghost use Rattle.fjall_jobs.specs.Tasks.{Task};
-ghost use Rattle.fjall_loading.specs.Known.{LastFields, last_known};
+ghost use Rattle.fjall_flush.specs.Known.{LastFields, last_known};
 ghost use Rattle.fjall_lsm.specs.Jobs.{merge_finished};
 ghost use Rattle.fjall_meta.specs.declared.living.LivingKeyspace.{LivingKeyspace};
 ghost use Rattle.fjall_recovery.specs.Halves.{Tree};

@@ -7,6 +7,7 @@ mod pages;
 mod starts;
 mod table_run;
 
+pub use fjall_runs as runs;
 pub use page_run::PageRun;
 pub use pages::{PageQuery, page};
 pub use table_run::TableRun;

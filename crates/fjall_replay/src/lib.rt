@@ -6,6 +6,8 @@ mod journals;
 mod laws;
 mod replaying;
 
+pub use fjall_lsm::Tree;
+pub use fjall_trees::Trees;
 pub use fjall_versions::Persisted;
 pub use journals::{replay_journal, seal_all};
 pub use laws::{

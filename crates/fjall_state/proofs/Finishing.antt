@@ -10,9 +10,9 @@ use Rattle.fjall_base.specs.declared.error.Error.{Error}
 use Rattle.fjall_base.specs.declared.error.Error.TheVariants.{Io}
 use Rattle.fjall_blocks.specs.Readers.{Reader}
 use Rattle.fjall_catalog.specs.Catalog.{fields, first_of}
-use Rattle.fjall_flush.specs.declared.plan.FlushPlan.{FlushPlan}
-use Rattle.fjall_flush.specs.Flushes.{Flush, Follows, flush_of, record_after, tree_after}
-use Rattle.fjall_flush.specs.Plans.{ForFlushOn, IsPlan, IsPlanRefusal}
+use Rattle.fjall_merge.specs.FlushPlan.{FlushPlan}
+use Rattle.fjall_merge.specs.Flushes.{Flush, Follows, flush_of, record_after, tree_after}
+use Rattle.fjall_merge.specs.FlushPlans.{ForFlushOn, IsPlan, IsPlanRefusal}
 use Rattle.fjall_home.specs.Homes.{Home}
 use Rattle.fjall_jobs.specs.declared.flush_made.FlushMade.{FlushMade}
 use Rattle.fjall_jobs.specs.Flushes.{flush_task}

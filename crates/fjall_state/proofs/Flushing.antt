@@ -11,7 +11,7 @@ use Rattle.fjall_base.specs.Store.{kept}
 use Rattle.fjall_blocks.specs.Readers.{AreSameTables, Reader}
 use Rattle.fjall_catalog.specs.Catalog.{fields, first_of}
 use Rattle.fjall_contents.specs.Contents.{is_beyond}
-use Rattle.fjall_flush.specs.Flushes.{infos_from, record_after}
+use Rattle.fjall_merge.specs.Flushes.{infos_from, record_after}
 use Rattle.fjall_jobs.specs.declared.made_table.MadeTable.{MadeTable}
 use Rattle.fjall_jobs.specs.Tasks.{IsFlushed, Task}
 use Rattle.fjall_loading.specs.Known.{last_known}

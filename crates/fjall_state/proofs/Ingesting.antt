@@ -7,7 +7,7 @@ use Rattle.std.specs.Option.{is_some}
 use Rattle.fjall_base.specs.Store.{kept}
 use Rattle.fjall_blocks.specs.Readers.{Reader}
 use Rattle.fjall_catalog.specs.Catalog.{fields, first_of}
-use Rattle.fjall_flush.specs.Flushes.{infos_from}
+use Rattle.fjall_merge.specs.Flushes.{infos_from}
 use Rattle.fjall_history.specs.Histories.{grown, number, plain}
 use Rattle.fjall_ingest.specs.Ingests.{batch_items, ingestion, version_of, versions_made}
 use Rattle.fjall_ingest.proofs.Right.{once_made}

@@ -36,3 +36,17 @@ pub mod StoreSteps
 pub mod KeptMerges
 pub mod KnownMerges
 pub mod QuietSteps
+-- lemmas of crates below, passed on to those above
+pub use Rattle.fjall_merge.proofs.Composed
+pub use Rattle.fjall_merge.proofs.FlushFinishing
+pub use Rattle.fjall_merge.proofs.FlushReading
+pub use Rattle.fjall_merge.proofs.FlushSameStore
+pub use Rattle.fjall_merge.proofs.NewTables
+pub use Rattle.fjall_merge.proofs.SameNumber
+pub use Rattle.fjall_ingest.proofs.Preparing
+pub use Rattle.fjall_ingest.proofs.WholeLaws
+pub use Rattle.fjall_ingest.proofs.WholeMemory
+pub use Rattle.fjall_merge.proofs.AfterRecords
+pub use Rattle.fjall_merge.proofs.Finishing as FinishingOfMerge
+pub use Rattle.fjall_merge.proofs.Taking as MergeTaking
+pub use Rattle.fjall_merge.proofs.SameStore

@@ -24,7 +24,7 @@ use Rattle.fjall_trees.specs.Tables.{entries_with, shape_in}
 use Rattle.fjall_trees.proofs.Changing.{altered_keeps, tree_under}
 use Rattle.fjall_trees.proofs.Outstanding.{flushing_tree}
 use Rattle.fjall_trees.proofs.Places.{tree_has}
-use Rattle.fjall_flush.specs.Flushes.{infos_from}
+use Rattle.fjall_merge.specs.Flushes.{infos_from}
 use Rattle.fjall_maps.specs.Tables.{AreOlder, IsOlder}
 
 -- ---- memory

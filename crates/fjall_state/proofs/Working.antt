@@ -4,9 +4,9 @@ use Rattle.std.proofs.lemmas.Bool.Decides.{nat_tests}
 use Rattle.std.specs.Option.{is_some}
 use Rattle.fjall_base.specs.declared.error.Error.{Error}
 use Rattle.fjall_base.specs.declared.error.Error.TheVariants.{NumbersUsedUp, OutOfMemory, TooManyItems}
-use Rattle.fjall_flush.specs.Flushes.{record_after}
-use Rattle.fjall_flush.specs.Plans.{IsPlanRefusal}
-use Rattle.fjall_flush.proofs.NewTables.{at_most_one}
+use Rattle.fjall_merge.specs.Flushes.{record_after}
+use Rattle.fjall_merge.specs.FlushPlans.{IsPlanRefusal}
+use Rattle.fjall_merge.proofs.NewTables.{at_most_one}
 use Rattle.fjall_history.specs.declared.job.JobId.{JobId}
 use Rattle.fjall_history.specs.declared.reply.Reply.TheVariants.{Refused}
 use Rattle.fjall_jobs.specs.declared.flush_made.FlushMade.{FlushMade}

@@ -5,9 +5,9 @@ use Rattle.fjall_base.specs.declared.error.Error.{Error}
 use Rattle.fjall_base.specs.declared.error.Error.TheVariants.{Io}
 use Rattle.fjall_base.specs.Errors.{IsFault}
 use Rattle.fjall_blocks.specs.Readers.{Reader}
-use Rattle.fjall_flush.specs.Flushes.{Flush, Follows, HasAt, record_after, tree_after}
-pub use Rattle.fjall_flush.specs.Plans.{AreReadersOf}
-use Rattle.fjall_flush.specs.Plans.{IsPlanRefusal}
+use Rattle.fjall_merge.specs.Flushes.{Flush, Follows, HasAt, record_after, tree_after}
+pub use Rattle.fjall_merge.specs.FlushPlans.{AreReadersOf}
+use Rattle.fjall_merge.specs.FlushPlans.{IsPlanRefusal}
 use Rattle.fjall_home.specs.Homes.{Home}
 use Rattle.fjall_jobs.specs.declared.flush_made.FlushMade.{FlushMade}
 use Rattle.fjall_jobs.specs.declared.made_table.MadeTable.{MadeTable}

@@ -34,8 +34,8 @@ use Rattle.fjall_trees.specs.Writes.{pushed, with_tree}
 use Rattle.fjall_blocks.specs.Readers.{Reader}
 use Rattle.fjall_catalog.specs.Catalog.{fields, first_of}
 use Rattle.fjall_contents.specs.Contents.{is_beyond}
-use Rattle.fjall_flush.specs.Flushes.{infos_from, record_after}
-use Rattle.fjall_flush.specs.Flushes as flushes
+use Rattle.fjall_merge.specs.Flushes.{infos_from, record_after}
+use Rattle.fjall_merge.specs.Flushes as flushes
 use Rattle.fjall_ingest.specs.Ingests.{batch_items, ingestion}
 use Rattle.fjall_ingest.specs.Whole.{LacksIds, LacksRecordRoom, Makes, last_ingested}
 use Rattle.fjall_jobs.specs.declared.made_table.MadeTable.{MadeTable}

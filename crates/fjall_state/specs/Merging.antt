@@ -8,7 +8,7 @@ use Rattle.fjall_base.specs.declared.error.Error.{Error}
 use Rattle.fjall_base.specs.declared.error.Error.TheVariants.{Io}
 use Rattle.fjall_blocks.specs.Readers.{Reader}
 use Rattle.fjall_files.specs.Names.{table_name}
-use Rattle.fjall_flush.specs.Flushes.{HasAt}
+use Rattle.fjall_merge.specs.Flushes.{HasAt}
 use Rattle.fjall_home.specs.Homes.{Home}
 use Rattle.fjall_home.specs.Reading.{AreRight}
 use Rattle.fjall_jobs.specs.declared.merge_made.MergeMade.{MergeMade}

@@ -23,6 +23,8 @@ pub use call::Call;
 pub use engine_state::EngineState;
 pub use evictions::FlushedBy;
 pub use fjall_history::{JobId, Reply, Ticket, View};
+pub use fjall_ingest::{PlannedIngestion, write_ingestion};
+pub use fjall_merge::remove_taken;
 pub use ingestion_laws::{an_ingestion_may_go_on, an_ingestion_stands};
 pub use laws::{
     a_begun_flush_stands, a_change_stands, a_creation_stands, a_deletion_stands,

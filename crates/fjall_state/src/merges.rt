@@ -8,7 +8,7 @@ ghost use Rattle.fjall_files.specs.Calls.{AllServed};
 ghost use Rattle.fjall_files.specs.Names.{keyspace_folder};
 ghost use Rattle.fjall_files.specs.Regions.{Within};
 ghost use Rattle.fjall_files.specs.Tidy.{StaysTidy};
-ghost use Rattle.fjall_flush.specs.Plans.{HaveFiles};
+ghost use Rattle.fjall_merge.specs.FlushPlans.{HaveFiles};
 ghost use Rattle.fjall_jobs.specs.Merges.{merge_task};
 ghost use Rattle.fjall_journal.specs.Writer.{IsIo};
 ghost use Rattle.fjall_loading.specs.Known.{last_known};

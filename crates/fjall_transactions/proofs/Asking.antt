@@ -18,8 +18,8 @@ use Rattle.fjall_history.specs.declared.reply.Reply.{Reply}
 use Rattle.fjall_history.specs.declared.reply.Reply.TheVariants.{Done, Refused}
 use Rattle.fjall_history.specs.Tickets.{IsDueOrMemory}
 use Rattle.fjall_history.proofs.Tracking.{closing_due}
-use Rattle.fjall_state.specs.Shapes.{ByMode, Close, OfChange, OfTickets, Persistence, Shape}
-use Rattle.fjall_state.specs.Remembered.{Remembered}
+use Rattle.fjall_core.specs.Shapes.{ByMode, Close, OfChange, OfTickets, Persistence, Shape}
+use Rattle.fjall_core.specs.Remembered.{Remembered}
 use Rattle.fjall_core.specs.Holding.{Held}
 use Rattle.fjall_core.specs.Standing.{Owes, OwesFailure, OwesRefusal, held_due, reply_of}
 use Rattle.fjall_transactions.specs.Commits.{AsksFor, Comes, Commits, Ends, Fails, Lets}

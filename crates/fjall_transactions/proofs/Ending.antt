@@ -22,10 +22,10 @@ use Rattle.fjall_history.proofs.Moving.{never_lower, sound_move}
 use Rattle.fjall_history.proofs.Views.{commands_append}
 use Rattle.fjall_serial.specs.Checked.{IsChecked, MayCommit}
 use Rattle.fjall_serial.proofs.Growing.{checked_commit, still_pruned}
-use Rattle.fjall_state.specs.Shapes.{ByMode, Close, OfChange, OfTickets, Persistence}
-use Rattle.fjall_state.specs.Machine.{MayFail, Refuses, State, StepOf, TakesMemory, accepted, due, times}
-use Rattle.fjall_state.proofs.Moving.{shape_moves}
-use Rattle.fjall_state.proofs.Refusing.{memory_steps}
+use Rattle.fjall_core.specs.Shapes.{ByMode, Close, OfChange, OfTickets, Persistence}
+use Rattle.fjall_core.specs.Machine.{MayFail, Refuses, State, StepOf, TakesMemory, accepted, due, times}
+use Rattle.fjall_core.proofs.Moving.{shape_moves}
+use Rattle.fjall_core.proofs.Refusing.{memory_steps}
 use Rattle.fjall_core.specs.Holding.{Held}
 use Rattle.fjall_core.specs.Standing.{ReadsOn, Serves, StandsFor}
 use Rattle.fjall_transactions.specs.Commits.{Comes, Commits, Ends, Fails, Gone, Idle, Lets, Meets, change_of}

@@ -18,9 +18,9 @@ use Rattle.fjall_history.proofs.Values.{of_value}
 use Rattle.fjall_history.proofs.Views.{commands_append}
 use Rattle.fjall_serial.specs.Checked.{IsChecked}
 use Rattle.fjall_serial.proofs.Growing.{checked_many, checked_opening, commits_many, numbered}
-use Rattle.fjall_state.specs.Shapes.{Shape}
-use Rattle.fjall_state.specs.Machine.{State, StepOf, times}
-use Rattle.fjall_state.proofs.Moving.{shape_moves}
+use Rattle.fjall_core.specs.Shapes.{Shape}
+use Rattle.fjall_core.specs.Machine.{State, StepOf, times}
+use Rattle.fjall_core.proofs.Moving.{shape_moves}
 use Rattle.fjall_core.specs.Holding.{Held}
 use Rattle.fjall_core.specs.Standing.{ReadsOn, Serves, ServesWhere, StandsFor}
 use Rattle.fjall_transactions.specs.Standing.{StandFor, Told, gone_on, history_of}

@@ -13,7 +13,7 @@ use Rattle.fjall_history.specs.declared.ticket.Ticket.{Ticket}
 use Rattle.fjall_history.specs.declared.reply.Reply.{Reply}
 use Rattle.fjall_history.specs.declared.reply.Reply.TheVariants.{Done, Opened, Refused}
 use Rattle.fjall_history.specs.Tickets.{IsDueOrMemory, is_open}
-use Rattle.fjall_state.specs.Shapes.{ByMode, Close, OfChange, OfTickets, Shape}
+use Rattle.fjall_core.specs.Shapes.{ByMode, Close, OfChange, OfTickets, Shape}
 use Rattle.fjall_core.specs.Holding.{Held}
 use Rattle.fjall_core.specs.Standing.{held_due}
 use Rattle.fjall_transactions.specs.Transactions.{AreOf, Kept, MeetsSome, Tx, committed}

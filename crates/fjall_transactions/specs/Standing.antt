@@ -14,8 +14,8 @@ use Rattle.fjall_history.specs.declared.reply.Reply.TheVariants.{Done, Refused}
 use Rattle.fjall_history.specs.Histories.{Accepted, History, commands_of, commits, plain}
 use Rattle.fjall_history.specs.Moves.{AreSound}
 use Rattle.fjall_serial.specs.Checked.{IsChecked}
-use Rattle.fjall_state.specs.Shapes.{Close, OfTickets}
-use Rattle.fjall_state.specs.Machine.{State, StepOf, times}
+use Rattle.fjall_core.specs.Shapes.{Close, OfTickets}
+use Rattle.fjall_core.specs.Machine.{State, StepOf, times}
 use Rattle.fjall_core.specs.Holding.{Held}
 use Rattle.fjall_core.specs.Standing.{StandsFor}
 use Rattle.fjall_transactions.specs.Transactions.{Kept, MeetsSome, Tx, with_items}

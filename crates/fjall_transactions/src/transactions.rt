@@ -5,7 +5,7 @@ ghost use Rattle.std.specs.FinMap.{empty};
 ghost use Rattle.fjall_base.specs.declared.error.Error.TheVariants.{OutOfMemory, TransactionOpen};
 ghost use Rattle.fjall_journal.specs.Changes.{Items};
 ghost use Rattle.fjall_history.specs.declared.ticket.Ticket.{Ticket as Named};
-ghost use Rattle.fjall_state.specs.Shapes.{ByMode, Close, OfChange, OfTickets, Open};
+ghost use Rattle.fjall_core.specs.Shapes.{ByMode, Close, OfChange, OfTickets, Open};
 ghost use Rattle.fjall_core.specs.Standing.{Owes, ReadsOn, Serves, held_due, reply_of};
 ghost use Rattle.fjall_tx.specs.Oracles.{pruned};
 ghost use Rattle.fjall_transactions.specs.Transactions.{AreOf, MeetsSome, begun, committed, no_marks, with_items};

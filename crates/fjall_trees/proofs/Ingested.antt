@@ -5,8 +5,8 @@ use Rattle.fjall_table.specs.Blocks.{Entry}
 use Rattle.fjall_blocks.specs.Readers.{AreRead, Reader}
 use Rattle.fjall_views.specs.Jobs.{OnceEach}
 use Rattle.fjall_sorted.specs.Sorted.{flat}
-use Rattle.fjall_jobs.specs.declared.made_table.MadeTable.{MadeTable}
-use Rattle.fjall_jobs.specs.Tasks.{IsFlushed}
+use Rattle.fjall_lsm.specs.MadeTable.{MadeTable}
+use Rattle.fjall_lsm.specs.Tasks.{IsFlushed}
 use Rattle.fjall_lsm.specs.Ingestions.{ingested, memory_task}
 use Rattle.fjall_lsm.specs.Trees.{ReadsAll, Shape}
 use Rattle.fjall_lsm.proofs.Ingested.{ingested_read}

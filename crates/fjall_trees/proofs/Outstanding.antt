@@ -5,8 +5,8 @@ use Rattle.fjall_journal.specs.Ops.{BatchItem}
 use Rattle.fjall_sorted.specs.Sorted.{flat}
 use Rattle.fjall_table.specs.Blocks.{Entry}
 use Rattle.fjall_blocks.specs.Readers.{Reader}
-use Rattle.fjall_jobs.specs.declared.made_table.MadeTable.{MadeTable}
-use Rattle.fjall_jobs.specs.Tasks.{IsFlushed, Task}
+use Rattle.fjall_lsm.specs.MadeTable.{MadeTable}
+use Rattle.fjall_lsm.specs.Tasks.{IsFlushed, Task}
 use Rattle.fjall_parts.specs.Parts.{Memory}
 use Rattle.fjall_lsm.specs.Ingestions.{ingested, memory_task}
 use Rattle.fjall_lsm.specs.Jobs.{IsFlushing, IsMerging, flush_begun, flush_dropped, flush_finished, merge_begun, merge_dropped, merge_finished}

@@ -9,9 +9,9 @@ use Rattle.fjall_table.specs.Blocks.{Entry}
 use Rattle.fjall_table.specs.Files.{entry_at}
 use Rattle.fjall_blocks.specs.Readers.{AreRead, IsTableBut, LooksOn, Reader}
 use Rattle.fjall_blocks.proofs.Several.{all_read_on}
-use Rattle.fjall_jobs.specs.declared.made_table.MadeTable.{MadeTable}
-use Rattle.fjall_jobs.specs.Merges.{IsMerged}
-use Rattle.fjall_jobs.specs.Tasks.{IsFlushed, Task}
+use Rattle.fjall_lsm.specs.MadeTable.{MadeTable}
+use Rattle.fjall_lsm.specs.Merges.{IsMerged}
+use Rattle.fjall_lsm.specs.Tasks.{IsFlushed, Task}
 use Rattle.fjall_lsm.specs.declared.tree.Tree.{Tree}
 use Rattle.fjall_lsm.specs.Jobs.{IsFlushing, IsMerging, flush_begun, flush_dropped, flush_finished, merge_begun, merge_dropped, merge_finished}
 use Rattle.fjall_lsm.specs.Puts.{bare_tree}

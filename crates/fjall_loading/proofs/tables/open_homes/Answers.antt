@@ -16,8 +16,8 @@ use Rattle.fjall_meta.specs.Keyspaces.{AreKeyspaces, Keyspaces}
 use Rattle.fjall_recovery.specs.Homes.{AreHomesRead}
 use Rattle.fjall_replay.specs.Beside.{AreEndedBy}
 use Rattle.fjall_replay.specs.Replayed.{ids_of}
-use Rattle.fjall_trees.specs.Forests.{AreBefore, Forest}
-use Rattle.fjall_trees.specs.Views.{forest_of}
+use Rattle.fjall_replay.specs.Forests.{AreBefore, Forest}
+use Rattle.fjall_replay.specs.Views.{forest_of}
 use Rattle.fjall_loading.specs.Opening.{IsOpenedOn, KnowsStored, MayOpen, MayOpenAll, ShowsEntries, opened, told_by}
 use Rattle.fjall_loading.specs.Known.{AreAtHome, LastFields}
 use Rattle.fjall_loading.proofs.Turns.{front_more, lower_ids, trees_below}

@@ -1,5 +1,5 @@
 use Rattle.std.proofs.Common.{◌≡◌, length, map, take}
-use Rattle.fjall_trees.specs.Views.{forest_of}
+use Rattle.fjall_replay.specs.Views.{forest_of}
 use Rattle.fjall_loading.specs.Opening.{MayOpenAll, opened}
 use Rattle.fjall_loading.proofs.Opening.{AreRecordsOf}
 use Rattle.fjall_loading.proofs.tables.open_homes.Given as goal

@@ -1,6 +1,6 @@
 use Rattle.std.proofs.Common.{◌≡◌, ℕ, List, rules, subst, sym}
 use Rattle.fjall_base.specs.declared.error.Error.TheVariants.{OutOfMemory}
-use Rattle.fjall_flush.specs.Plans.{AreReadersOf, IsNamed}
+use Rattle.fjall_merge.specs.FlushPlans.{AreReadersOf, IsNamed}
 use Rattle.fjall_jobs.specs.declared.made_table.MadeTable.{MadeTable}
 use Rattle.fjall_jobs.specs.Sequences.{AreMadeTables}
 use Rattle.fjall_state.specs.Finishing.{keyspace_of}

@@ -1,4 +1,4 @@
-use Rattle.fjall_state.specs.Shapes.{shape_of}
+use Rattle.fjall_core.specs.Shapes.{shape_of}
 use Rattle.fjall_transactions.proofs.Standing.{served_stands, shape_stands}
 use Rattle.fjall_transactions.proofs.laws.a_call_of_the_core_stands.Goals as goal
 

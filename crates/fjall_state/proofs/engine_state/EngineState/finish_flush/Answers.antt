@@ -3,8 +3,8 @@ use Rattle.std.specs.FinMap.{get}
 use Rattle.fjall_base.specs.Disk.{IsNoFolder, LeavesOnly, state_in}
 use Rattle.fjall_files.specs.Calls.{AllServed}
 use Rattle.fjall_files.specs.Names.{table_name}
-use Rattle.fjall_flush.specs.Plans.{HaveFiles, KeepsTables}
-use Rattle.fjall_flush.proofs.Beside.{tables_stay}
+use Rattle.fjall_merge.specs.FlushPlans.{HaveFiles, KeepsTables}
+use Rattle.fjall_merge.proofs.Beside.{tables_stay}
 use Rattle.fjall_ingest.proofs.Behind.{nothing_written}
 use Rattle.fjall_recovery.specs.Halves.{HasTree}
 use Rattle.fjall_recovery.specs.Places.{LiesInTree}

@@ -2,7 +2,7 @@ use Rattle.std.proofs.Common.{◌⊎◌, ◌+◌, ◌<◌, ◌^◌, ◌∙◌, L
 use Rattle.std.specs.FinMap.{get}
 use Rattle.fjall_base.specs.Disk.{LeavesOnly, state_in}
 use Rattle.fjall_files.specs.Calls.{AllServed}
-use Rattle.fjall_flush.specs.Plans.{HaveFiles}
+use Rattle.fjall_merge.specs.FlushPlans.{HaveFiles}
 use Rattle.fjall_ingest.proofs.Behind.{nothing_written}
 use Rattle.fjall_jobs.specs.declared.made_table.MadeTable.{MadeTable}
 use Rattle.fjall_jobs.specs.Merges.{merge_task}

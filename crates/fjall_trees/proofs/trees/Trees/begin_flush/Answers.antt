@@ -1,7 +1,7 @@
 use Rattle.std.proofs.Common.{◌≡◌, ◌≢◌, ◌⊎◌, List, [], None, inl, refl, sym, subst}
 use Rattle.std.specs.Prelude.{◌↔◌, IfSome}
 use Rattle.std.specs.Result.{IfOk}
-use Rattle.fjall_jobs.specs.Flushes.{flush_task}
+use Rattle.fjall_lsm.specs.Flushes.{flush_task}
 use Rattle.fjall_lsm.specs.Jobs.{IsFlushing, flush_begun, flush_of}
 use Rattle.fjall_lsm.specs.Trees.{Shape}
 use Rattle.fjall_trees.specs.declared.trees.KeyspaceTree.{KeyspaceTree}

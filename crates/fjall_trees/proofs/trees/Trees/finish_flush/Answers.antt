@@ -1,7 +1,7 @@
 use Rattle.std.proofs.Common.{◌≡◌, ℕ, false, List, length, set, None, refl, sym, subst, ◌∙◌}
 use Rattle.std.specs.Prelude.{IfSome}
 use Rattle.std.specs.Result.{IfOk}
-use Rattle.fjall_jobs.specs.Flushes.{flush_task}
+use Rattle.fjall_lsm.specs.Flushes.{flush_task}
 use Rattle.fjall_lsm.specs.Jobs.{IsFlushing, flush_finished, is_flush_out}
 use Rattle.fjall_lsm.specs.Shapes.{shape_of}
 use Rattle.fjall_lsm.specs.Trees.{Shape}

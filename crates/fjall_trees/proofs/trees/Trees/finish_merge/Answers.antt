@@ -1,7 +1,7 @@
 use Rattle.std.proofs.Common.{◌≡◌, ℕ, ◌+◌, ◌-◌, ◌≤◌, false, List, length, set, None, refl, sym, subst, ◌∙◌}
 use Rattle.std.specs.Prelude.{IfSome, vec_capacity, vec_len}
 use Rattle.std.specs.Result.{IfOk}
-use Rattle.fjall_jobs.specs.Merges.{merge_task}
+use Rattle.fjall_lsm.specs.Merges.{merge_task}
 use Rattle.fjall_lsm.specs.Jobs.{merge_finished, is_merge_out}
 use Rattle.fjall_lsm.specs.Shapes.{shape_of}
 use Rattle.fjall_lsm.specs.Trees.{Shape}
