@@ -55,10 +55,10 @@ def above(place):
 
 
 class Program:
-    """The program, and a folder for what its runs need."""
+    """The program, with the words that stand before a place, and a folder for what its runs need."""
 
-    def __init__(self, program, work):
-        self.program = os.path.abspath(program)
+    def __init__(self, program, work, *words):
+        self.command = [os.path.abspath(program), *words]
         self.work = work
         self.library = os.path.join(work, "recorded_calls.so")
         source = os.path.join(os.path.dirname(os.path.abspath(__file__)), "recorded_calls.c")
@@ -72,7 +72,7 @@ class Program:
             log = tempfile.mktemp(dir=self.work)
             environment.update(LD_PRELOAD=self.library, RECORD_BELOW=above(place), RECORD_LOG=log, **settings)
         text = "".join(line + "\n" for line in lines)
-        done = subprocess.run([self.program, place], input=text, capture_output=True, text=True, env=environment, timeout=60)
+        done = subprocess.run([*self.command, place], input=text, capture_output=True, text=True, env=environment, timeout=60)
         told = []
         if log and os.path.exists(log):
             with open(log, encoding="utf8") as lines_told:

@@ -1,8 +1,11 @@
-//! A line of the input as a call of the disk, and its answer as a line.
+//! The command `calls`: each line of an input is a call of the disk, and is answered by a line.
 
+use crate::usage;
 use fjall_base::{DirEntry, Disk, Error, Result};
 use fjall_folder::FolderDisk;
+use fjall_script::Status;
 use std::alloc::{AllocError, Global};
+use std::io::{Read, Write};
 
 // Changes what the call of this name changes.
 fn change(disk: &mut FolderDisk, call: &str, name: &str) -> Option<Result<()>> {
@@ -82,8 +85,8 @@ fn make(alloc: Global, disk: &mut FolderDisk, words: &[&str]) -> Result<String> 
     }
 }
 
-/// What a line is answered: `ok`, `none`, `bytes` or `names` with what was found, or the refusal.
-pub fn answer(
+// What a line is answered: `ok`, `none`, `bytes` or `names` with what was found, or the refusal.
+fn answer(
     alloc: Global,
     disk: &mut FolderDisk,
     line: &str,
@@ -92,5 +95,43 @@ pub fn answer(
     match make(alloc, disk, &words) {
         Ok(answer) => Ok(answer),
         Err(error) => format!(in alloc; "{error}"),
+    }
+}
+
+// Makes the calls of an input over a folder, and prints the answer to each.
+fn serve<R: Read, W: Write>(
+    rt: &HostRuntime,
+    folder: &str,
+    input: &mut R,
+    output: &mut W,
+) -> Result<()> {
+    let alloc = rt.alloc();
+    let mut disk = FolderDisk::open(rt, alloc, folder)?;
+    let mut text = String::new(alloc);
+    input.read_to_string(&mut text)?;
+    for line in text.lines() {
+        let answer = answer(alloc, &mut disk, line)?;
+        writeln!(output, "{}", answer.as_str())?;
+    }
+    Ok(output.flush()?)
+}
+
+/// Runs the command on its arguments: a folder's path. A refused opening, and an input or an output that fails, end it.
+pub fn run<R: Read, W: Write, E: Write>(
+    rt: &HostRuntime,
+    arguments: &[String],
+    input: &mut R,
+    output: &mut W,
+    errors: &mut E,
+) -> Status {
+    let [folder] = arguments else {
+        return usage(errors);
+    };
+    match serve(rt, folder.as_str(), input, output) {
+        Ok(()) => Status::Success,
+        Err(error) => {
+            let _ = writeln!(errors, "Error: {error}");
+            Status::Failure
+        }
     }
 }

@@ -3,7 +3,7 @@
 ghost use Rattle.std.specs.Prelude.{◌≡◌, true, false, IfOk, IfSome, None, Ok, OnErr, Some};
 ghost use Rattle.fjall_lines.specs.declared.command.Command.TheVariants.{Ask};
 ghost use Rattle.fjall_lines.specs.declared.command.Request.TheVariants.{Batch};
-ghost use Rattle.fjall_load.specs.Pairs.{AddsPair, HasNoPair, IsNoPair, SpellItems, SpellsPair, only_pair, writes_of};
+ghost use Rattle.fjall_tool.specs.Pairs.{AddsPair, HasNoPair, IsNoPair, SpellItems, SpellsPair, only_pair, writes_of};
 
 use fjall_base::{Result, UserKey, UserValue};
 use fjall_lines::{Command, Request, Write, Writes, parse};

@@ -1,8 +1,8 @@
 use Rattle.std.proofs.Common.{Ok, subst, ap, ◌∙◌}
 use Rattle.std.specs.Io.Iter.{split_byte, split_known_bytes}
-use Rattle.fjall_load.specs.Pairs.{IsNoPair}
-use Rattle.fjall_load.proofs.Cuts.{all_read, bad_read, begun, line_read, piece_of}
-use Rattle.fjall_load.proofs.pairs.read_pairs.Goals as goal
+use Rattle.fjall_tool.specs.Pairs.{IsNoPair}
+use Rattle.fjall_tool.proofs.Cuts.{all_read, bad_read, begun, line_read, piece_of}
+use Rattle.fjall_tool.proofs.pairs.read_pairs.Goals as goal
 
 pub loop-line-init : goal.loop-line-init
 loop-line-init g c =

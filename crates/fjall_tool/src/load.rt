@@ -1,32 +1,22 @@
-//! The program: all of an input is read, and then brought into a database.
+//! The command `load`: all of an input is read, and then brought into a database.
 
 ghost use Rattle.std.specs.Prelude.{◌≡◌, ◌≢◌, ◌↔◌, ◌∷◌, [], true, false, Ok, OnOk, length};
 ghost use Rattle.std.specs.Io.KnownBytes.{Appends};
 ghost use Rattle.fjall_script.specs.Answers.{bad_line, text_of};
 ghost use Rattle.fjall_script.specs.Statuses.{status_code};
-ghost use Rattle.fjall_load.specs.Answers.{PrintsLoaded, loaded_line};
-ghost use Rattle.fjall_load.specs.Pairs.{HasNoPair};
+ghost use Rattle.fjall_tool.specs.Answers.{PrintsLoaded, loaded_line};
+ghost use Rattle.fjall_tool.specs.Pairs.{HasNoPair};
 
-use crate::load::load;
+use crate::ingest::ingest;
 use crate::pairs::read_pairs;
+use crate::usage;
 use fjall_base::Result;
 use fjall_script::{Status, fail};
 use std::io;
 use std::io::{BufReader, Read, Write};
 
-/// What wrong arguments are answered.
-const USAGE: &str = "usage: fjall-load FOLDER NAME";
-
 /// What a line that is no pair is answered.
 const BAD_LINE: &str = "error 0 BadLine";
-
-/// Tells how the program is called.
-pub fn usage<E: Write>(errors: &mut E) -> Status
-    ensures { result ≡ Status.Usage }
-{
-    let _ = writeln!(errors, "{USAGE}");
-    Status::Usage
-}
 
 // Writes that a line is no pair.
 fn report_bad_line<E: Write>(errors: &mut E) -> io::Result<()>
@@ -73,12 +63,12 @@ fn serve<R: Read, W: Write>(
         return Ok(false);
     };
     let count = ingestion.len();
-    load(rt, alloc, folder, name, ingestion)?;
+    ingest(rt, alloc, folder, name, ingestion)?;
     print_count(count, output)?;
     Ok(true)
 }
 
-/// Runs the program on its arguments, the program's own name left out: a folder's path and a keyspace's name.
+/// Runs the command on its arguments: a folder's path and a keyspace's name.
 pub fn run<R: Read, W: Write, E: Write>(
     rt: &HostRuntime,
     arguments: &[String],

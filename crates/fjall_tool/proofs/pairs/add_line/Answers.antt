@@ -1,7 +1,7 @@
 use Rattle.std.proofs.Common.{◌∙◌}
-use Rattle.fjall_load.proofs.Spellings.{removal_added, value_added}
-use Rattle.fjall_load.proofs.pairs.add_line.Goals.{in-Some-value+in_ok-write-in-Some-value, in-None+in_ok-write_tombstone-in-None}
-use Rattle.fjall_load.proofs.pairs.add_line.Goals as goal
+use Rattle.fjall_tool.proofs.Spellings.{removal_added, value_added}
+use Rattle.fjall_tool.proofs.pairs.add_line.Goals.{in-Some-value+in_ok-write-in-Some-value, in-None+in_ok-write_tombstone-in-None}
+use Rattle.fjall_tool.proofs.pairs.add_line.Goals as goal
 
 pub returns-clause-added : goal.returns-clause-added
 returns-clause-added c done = elim c.match-value.branch [

@@ -2,8 +2,8 @@ use Rattle.std.proofs.Common.{rules, ◌≡◌, Some, List, sym, ap, ◌∙◌}
 use Rattle.fjall_lines.specs.declared.command.Command.TheVariants.{Ask}
 use Rattle.fjall_lines.specs.declared.command.Request.TheVariants.{Batch}
 use Rattle.fjall_lines.specs.Lines.{Write}
-use Rattle.fjall_load.proofs.Spellings.{batch_line, none_found, pair_found}
-use Rattle.fjall_load.proofs.pairs.pair.Goals as goal
+use Rattle.fjall_tool.proofs.Spellings.{batch_line, none_found, pair_found}
+use Rattle.fjall_tool.proofs.pairs.pair.Goals as goal
 
 pub returns-in-Some : goal.returns-in-Some
 returns-in-Some c =

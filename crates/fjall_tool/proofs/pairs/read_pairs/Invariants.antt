@@ -1,7 +1,7 @@
 use Rattle.std.proofs.Common.{◌≡◌}
 use Rattle.std.specs.Io.Iter.{split_byte, split_known_bytes}
-use Rattle.fjall_load.proofs.Cuts.{IsReading}
-use Rattle.fjall_load.proofs.pairs.read_pairs.Given as goal
+use Rattle.fjall_tool.proofs.Cuts.{IsReading}
+use Rattle.fjall_tool.proofs.pairs.read_pairs.Given as goal
 
 abbrev pub invariant-loop-line : goal.invariant-loop-line
 invariant-loop-line g l =
