@@ -1,7 +1,6 @@
 //! How long a piece of work took.
 
 use std::io;
-use std::rt::Clock;
 use std::time::{CpuClock, Duration, Instant};
 
 /// The time that a piece of work took, by the wall's clock and of the processor.
@@ -20,7 +19,7 @@ pub struct Stopwatch {
 
 impl Stopwatch {
     /// Starts now.
-    pub fn start<R: Clock + CpuClock>(rt: &R) -> io::Result<Stopwatch> {
+    pub fn start(rt: &HostRuntime) -> io::Result<Stopwatch> {
         Ok(Stopwatch {
             wall: Instant::now(rt)?,
             processor: rt.process_cpu_time()?,
@@ -28,7 +27,7 @@ impl Stopwatch {
     }
 
     /// The time since the start. Processor time that went back counts as none.
-    pub fn spent<R: Clock + CpuClock>(&self, rt: &R) -> io::Result<Spent> {
+    pub fn spent(&self, rt: &HostRuntime) -> io::Result<Spent> {
         Ok(Spent {
             wall: self.wall.elapsed(rt)?,
             processor: rt.process_cpu_time()?.saturating_sub(self.processor),

@@ -5,6 +5,7 @@ ghost use Rattle.std.specs.List.{range_with_len};
 
 use rand::seq::SliceRandom;
 use rand_pcg::Pcg64Mcg;
+use sha2::{Digest, Sha256};
 use std::alloc::{AllocError, Global};
 
 /// A key has 16 bytes.
@@ -13,11 +14,8 @@ pub const KEY_LEN: usize = 16;
 /// A value has 100 bytes.
 pub const VALUE_LEN: usize = 100;
 
-/// A pair has as many as both.
-pub const PAIR_LEN: u64 = (KEY_LEN + VALUE_LEN) as u64;
-
-/// The records of the machine's own limits have 150 bytes, as many as the digest of one insert's batch is taken of; the batch has 163.
-pub const RECORD_LEN: usize = 150;
+/// A record has 150 bytes, as many as the digest of one insert's batch is taken of; the batch has 163.
+const RECORD_LEN: usize = 150;
 
 /// The key of a number, which is twice the number. Keys are in the order of their numbers.
 pub fn key_of(number: u64) -> [u8; KEY_LEN] {
@@ -55,4 +53,21 @@ pub fn at_random(alloc: Global, count: u64, seed: u128) -> Result<Vec<u64>, Allo
     let mut numbers = in_order(alloc, count)?;
     numbers.as_mut_slice().shuffle(&mut Pcg64Mcg::new(seed));
     Ok(numbers)
+}
+
+// The record of a number, which begins with it.
+fn record_of(number: u64) -> [u8; RECORD_LEN] {
+    let mut record = [0x76; RECORD_LEN];
+    record[..8].copy_from_slice(&number.to_be_bytes());
+    record
+}
+
+/// Takes the SHA-256 of each number's record, and says how many aren't all zeros.
+pub fn count_digests(numbers: &[u64]) -> u64 {
+    let mut digests = 0u64;
+    for number in numbers {
+        let digest = Sha256::digest(&record_of(*number));
+        digests = digests.saturating_add(u64::from(digest.iter().any(|byte| *byte != 0)));
+    }
+    digests
 }

@@ -1,62 +1,50 @@
 //! `fjall-bench FOLDER N [GROUP]` fills, reads and opens databases in a folder again, with keys of 16 bytes and values of 100,
-//! and says how long that took; beside it stand the machine's own limits. `fjall-bench memory N [GROUP]` does so in memory.
+//! and says how long that took. `fjall-bench memory N [GROUP]` does so in memory.
 #![tactic(auto)]
 
 mod clock;
 mod data;
 mod database;
-mod limits;
-mod places;
 mod reads;
 mod report;
 mod rows;
 mod suite;
 mod writes;
 
-use anyhow::{Context, Result, bail};
-use places::{InFolder, InMemory};
+use anyhow::Result;
+use rows::is_group;
 use std::env;
-use std::rt::Env;
-use suite::run;
+use std::process::ExitCode;
+use suite::{Measuring, run};
 
-// What the arguments say.
-struct Arguments {
-    place: String,
-    count: u64,
-    group: Option<String>,
-}
+/// What wrong arguments are answered.
+const USAGE: &str = "usage: fjall-bench memory|FOLDER N [GROUP]
+N is above 0; GROUP is order, random, batches, synced or limits, and without it all of these, or fill or long";
 
-fn read_arguments<R: Env + AllocGlobal>(rt: &R) -> Result<Arguments> {
-    let words: Vec<String> = env::args(rt)?.skip(1).collect(rt.alloc())?;
-    let (place, count, group) = match words.as_slice() {
+// What the arguments ask for, or none where they are wrong.
+fn asked(words: &[String]) -> Option<Measuring<'_>> {
+    let (place, count, group) = match words {
         [place, count] => (place, count, None),
-        [place, count, group] => (place, count, Some(group.clone()?)),
-        _ => bail!("usage: fjall-bench memory|FOLDER N [GROUP]"),
+        [place, count, group] => (place, count, Some(group.as_str())),
+        _ => return None,
     };
-    let count = count.parse().context("N is no count")?;
-    let place = place.clone()?;
-    Ok(Arguments {
-        place,
+    let count: u64 = count.parse().unwrap_or(0);
+    if count == 0 || group.is_some_and(|name| !is_group(name)) {
+        return None;
+    }
+    Some(Measuring {
+        place: place.as_str(),
         count,
         group,
     })
 }
 
-fn main(rt: HostRuntime) -> Result<()> {
-    let Arguments {
-        place,
-        count,
-        group,
-    } = read_arguments(&rt)?;
-    let alloc = rt.alloc();
-    let name = group.as_ref().map(|group| group.as_str());
-    if place.as_str() == "memory" {
-        return run(&rt, alloc, &InMemory { alloc }, count, name);
-    }
-    let places = InFolder {
-        rt: &rt,
-        alloc,
-        folder: place.as_str(),
+fn main(rt: HostRuntime) -> Result<ExitCode> {
+    let words: Vec<String> = env::args(&rt)?.skip(1).collect(rt.alloc())?;
+    let Some(measuring) = asked(words.as_slice()) else {
+        eprintln!(&rt; "{USAGE}")?;
+        return Ok(ExitCode::from(2));
     };
-    run(&rt, alloc, &places, count, name)
+    run(&rt, measuring)?;
+    Ok(ExitCode::SUCCESS)
 }

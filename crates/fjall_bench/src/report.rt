@@ -1,10 +1,13 @@
-//! The rows of the table of times.
+//! The table of times.
 
-ghost use Rattle.std.specs.Prelude.{◌≡◌, ◌*◌, ◌/◌, ◌-◌, ◌^◌, max, min};
+ghost use Rattle.std.specs.Prelude.{◌≡◌, ◌*◌, ◌/◌, ◌^◌, ◌-◌, max, min};
 
 use crate::clock::Spent;
 use std::fmt;
 use std::time::Duration;
+
+/// The line above the rows.
+pub const HEAD: &str = "engine\tworkload\tcount\twall s\tprocessor s\toperations/s";
 
 /// The time that one workload took.
 #[derive(Clone, Copy)]
@@ -46,36 +49,6 @@ impl fmt::Display for Row {
             f,
             "{}\t{}\t{}\t{wall}\t{processor}\t{rate}",
             self.engine, self.workload, self.count
-        )
-    }
-}
-
-/// How many hundredths so many bytes are of others: at most the greatest `u64`. No bytes count as one.
-pub fn hundredths(bytes: u64, others: u64) -> u64
-    ensures { result ≡ min (bytes * 100 / max others 1) (2 ^ 64 - 1) }
-{
-    let ratio = u128::from(bytes) * 100 / u128::from(others.max(1));
-    ratio.min(u128::from(u64::MAX)) as u64
-}
-
-/// How many bytes a database takes, and how many its pairs have.
-#[derive(Clone, Copy)]
-pub struct Space {
-    pub engine: &'static str,
-    pub bytes: u64,
-    pub pair_bytes: u64,
-}
-
-impl fmt::Display for Space {
-    /// Engine, bytes, and how many times those of the pairs that is, with two digits behind the point.
-    fn fmt<W: fmt::Write>(&self, f: &mut fmt::Formatter<W>) -> fmt::Result {
-        let ratio = hundredths(self.bytes, self.pair_bytes);
-        let whole = ratio / 100;
-        let rest = ratio % 100;
-        write!(
-            f,
-            "{}: tables and journals of {} bytes, {whole}.{rest:02} times the pairs",
-            self.engine, self.bytes
         )
     }
 }

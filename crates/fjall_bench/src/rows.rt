@@ -1,25 +1,18 @@
 //! The table of workloads.
 
-ghost use Rattle.std.specs.Prelude.{◌<◌};
-
 use crate::data::{at_random, in_order};
 use std::alloc::{AllocError, Global};
 
 /// So many pairs stand in a batch, and at most so many in a range.
 pub const PAIRS_TOGETHER: usize = 100;
 
+// So many writes are synced one by one at most.
+const SYNCED_WRITES: usize = 500;
+
 // The order of a random fill is drawn from this seed, and that of all other workloads from the second one.
 const FILL_SEED: u128 = 0x0466_6a61_6c6c;
 
 const OTHER_SEED: u128 = 0x0466_6a61_6c6d;
-
-// So many writes are synced one by one at most.
-const SYNCED_WRITES: u64 = 500;
-
-// So many keyspaces are made at most, and each gets so many pairs.
-const KEYSPACES: u64 = 1_000;
-
-const PAIRS_PER_KEYSPACE: u64 = 100;
 
 /// What is done to a keyspace.
 #[derive(Clone, Copy)]
@@ -46,10 +39,12 @@ pub enum Action {
     ScanBack,
     /// From each number's key on the next pairs are read.
     ReadRanges,
-    /// The database is closed.
+    /// The database is closed, which is measured, and opened again.
     Close,
-    /// The database is opened again.
+    /// The database is closed, and opened again, which is measured.
     Reopen,
+    /// The digest of a record of each number is taken, beside the database.
+    Digest,
 }
 
 /// Which numbers a workload has, and in which order.
@@ -59,8 +54,6 @@ pub enum Choice {
     Ordered,
     /// The first few, whose writes are synced.
     Synced,
-    /// Those of each of many keyspaces.
-    OfKeyspace,
     /// All in the order of the random fills.
     Shuffled,
     /// All in another order.
@@ -74,33 +67,27 @@ pub enum Choice {
 impl Choice {
     /// The numbers, where there are so many in all.
     pub fn numbers(self, alloc: Global, count: u64) -> Result<Vec<u64>, AllocError> {
-        match self {
-            Choice::Ordered => in_order(alloc, count),
-            Choice::Synced => in_order(alloc, count.min(SYNCED_WRITES)),
-            Choice::OfKeyspace => in_order(alloc, PAIRS_PER_KEYSPACE),
-            Choice::Shuffled => at_random(alloc, count, FILL_SEED),
-            Choice::Others => at_random(alloc, count, OTHER_SEED),
-            Choice::Fifth => first_of_others(alloc, count, 5),
-            Choice::Starts => first_of_others(alloc, count, PAIRS_TOGETHER),
-        }
+        let mut numbers = match self {
+            Choice::Ordered | Choice::Synced => in_order(alloc, count)?,
+            Choice::Shuffled => at_random(alloc, count, FILL_SEED)?,
+            Choice::Others | Choice::Fifth | Choice::Starts => at_random(alloc, count, OTHER_SEED)?,
+        };
+        let all = numbers.len();
+        numbers.truncate(match self {
+            Choice::Synced => SYNCED_WRITES,
+            Choice::Fifth => (all / 5).max(1),
+            Choice::Starts => (all / PAIRS_TOGETHER).max(1),
+            Choice::Ordered | Choice::Shuffled | Choice::Others => all,
+        });
+        Ok(numbers)
     }
-}
-
-// Of the numbers in the other order the first ones: one for each so many, and one at least.
-fn first_of_others(alloc: Global, count: u64, each: usize) -> Result<Vec<u64>, AllocError>
-    requires { 0 < each }
-{
-    let mut numbers = at_random(alloc, count, OTHER_SEED)?;
-    let first = numbers.len() / each;
-    numbers.truncate(first.max(1));
-    Ok(numbers)
 }
 
 /// A row of the table: its name, what is done, and with which numbers.
 #[derive(Clone, Copy)]
 pub struct Workload(pub &'static str, pub Action, pub Choice);
 
-/// The workloads over a database in which the pairs are inserted in order.
+// Over a database in which the pairs are inserted in order.
 const ORDER: [Workload; 2] = [
     Workload("fill in order", Action::Insert, Choice::Ordered),
     Workload(
@@ -110,7 +97,7 @@ const ORDER: [Workload; 2] = [
     ),
 ];
 
-/// Those over a database in which they are inserted at random.
+// Over one in which they are inserted at random.
 const RANDOM: [Workload; 12] = [
     Workload("fill at random", Action::Insert, Choice::Shuffled),
     Workload("read hit from memtables", Action::ReadHit, Choice::Others),
@@ -134,26 +121,20 @@ const RANDOM: [Workload; 12] = [
     Workload("delete at random", Action::Remove, Choice::Others),
 ];
 
-/// Those that write batches.
 const BATCHES: [Workload; 1] = [Workload(
     "batches of 100 writes",
     Action::InsertBatches,
     Choice::Shuffled,
 )];
 
-/// Those whose writes are synced one by one.
 const SYNCED: [Workload; 1] = [Workload("one sync a write", Action::InsertSynced, Choice::Synced)];
 
-/// Those over many keyspaces.
-const KEYSPACES_FILLED: [Workload; 2] = [
-    Workload("fill keyspaces", Action::Insert, Choice::OfKeyspace),
-    Workload("reopen keyspaces", Action::Reopen, Choice::OfKeyspace),
-];
+// What the machine can do at best.
+const LIMITS: [Workload; 1] = [Workload("digest 150 bytes", Action::Digest, Choice::Ordered)];
 
-/// A random fill alone.
 const FILL: [Workload; 1] = [Workload("fill at random", Action::Insert, Choice::Shuffled)];
 
-/// A random fill with its flushes and merges, and what is done behind it.
+// A random fill with its flushes and merges, and what is done behind it.
 const LONG: [Workload; 6] = [
     Workload("long: fill at random", Action::Insert, Choice::Shuffled),
     Workload("long: major merge", Action::Merge, Choice::Ordered),
@@ -163,76 +144,55 @@ const LONG: [Workload; 6] = [
     Workload("long: reopen", Action::Reopen, Choice::Ordered),
 ];
 
-/// Workloads over one place, one after another.
+/// Workloads over one database, one after another, and the name by which they are asked for.
 #[derive(Clone, Copy)]
-pub enum Group {
-    Order,
-    Random,
-    Batches,
-    Synced,
-    Keyspaces,
-    /// What the machine can do at best.
-    Limits,
-    /// A random fill, which is run only where it is asked for: how much memory the process takes at most is that of the fill.
-    Fill,
-    /// A long run, which is run only where it is asked for.
-    Long,
+pub struct Group {
+    pub name: &'static str,
+    pub workloads: &'static [Workload],
+    /// Whether they are run where no name is asked for.
+    pub is_usual: bool,
 }
 
 /// All groups, in the order in which they are run.
-pub const GROUPS: [Group; 8] = [
-    Group::Order,
-    Group::Random,
-    Group::Batches,
-    Group::Synced,
-    Group::Keyspaces,
-    Group::Limits,
-    Group::Fill,
-    Group::Long,
+pub const GROUPS: [Group; 7] = [
+    Group {
+        name: "order",
+        workloads: &ORDER,
+        is_usual: true,
+    },
+    Group {
+        name: "random",
+        workloads: &RANDOM,
+        is_usual: true,
+    },
+    Group {
+        name: "batches",
+        workloads: &BATCHES,
+        is_usual: true,
+    },
+    Group {
+        name: "synced",
+        workloads: &SYNCED,
+        is_usual: true,
+    },
+    Group {
+        name: "limits",
+        workloads: &LIMITS,
+        is_usual: true,
+    },
+    Group {
+        name: "fill",
+        workloads: &FILL,
+        is_usual: false,
+    },
+    Group {
+        name: "long",
+        workloads: &LONG,
+        is_usual: false,
+    },
 ];
 
-impl Group {
-    /// The name by which it is asked for, and that of its place.
-    pub fn name(self) -> &'static str {
-        match self {
-            Group::Order => "order",
-            Group::Random => "random",
-            Group::Batches => "batches",
-            Group::Synced => "synced",
-            Group::Keyspaces => "keyspaces",
-            Group::Limits => "limits",
-            Group::Fill => "fill",
-            Group::Long => "long",
-        }
-    }
-
-    /// Whether it is run where a name is asked for, or none.
-    pub fn is_asked_for(self, name: Option<&str>) -> bool {
-        match name {
-            Some(name) => self.name() == name,
-            None => !matches!(self, Group::Fill | Group::Long),
-        }
-    }
-
-    /// How many keyspaces it has, where there are so many pairs in all.
-    pub fn keyspaces(self, count: u64) -> u64 {
-        match self {
-            Group::Keyspaces => (count / PAIRS_PER_KEYSPACE).min(KEYSPACES),
-            _ => 1,
-        }
-    }
-
-    /// What is done to its keyspaces.
-    pub fn workloads(self) -> &'static [Workload] {
-        match self {
-            Group::Order => &ORDER,
-            Group::Random => &RANDOM,
-            Group::Batches => &BATCHES,
-            Group::Synced => &SYNCED,
-            Group::Keyspaces => &KEYSPACES_FILLED,
-            Group::Limits => &[],
-            Group::Fill => &FILL,
-            Group::Long => &LONG,
-        }
-    }
+/// Whether a group has this name.
+pub fn is_group(name: &str) -> bool {
+    GROUPS.iter().any(|group| group.name == name)
 }

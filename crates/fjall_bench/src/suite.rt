@@ -1,271 +1,194 @@
 //! All workloads, one after another.
 
-use crate::clock::Stopwatch;
-use crate::data::PAIR_LEN;
-use crate::database::{closed, flush, make_keyspaces, merge, open};
-use crate::limits::{append_records, digest_records};
-use crate::places::Places;
+use crate::clock::{Spent, Stopwatch};
+use crate::data::count_digests;
+use crate::database::{closed, flush, merge, opened};
 use crate::reads::{count_hits, count_misses, count_ranges, scan};
-use crate::report::{Row, Space};
+use crate::report::{HEAD, Row};
 use crate::rows::{Action, GROUPS, Group, Workload};
-use crate::writes::{insert_batches, insert_each, insert_synced, remove_each};
+use crate::writes::{write_batches, write_each};
 use anyhow::{Result, bail};
 use fjall_base::Disk;
 use fjall_core::Core;
+use fjall_folder::FolderDisk;
+use fjall_memory::MemoryDisk;
+use fjall_options::KeyspaceCreateOptions;
 use std::alloc::Global;
-use std::rt::Clock;
-use std::time::CpuClock;
+use std::fs;
 
-// The engine's name in the table.
-const ENGINE: &str = "pothvilai";
+/// What is to be measured: over `memory` or a folder, with so many pairs, and by one group of workloads or all usual ones.
+#[derive(Clone, Copy)]
+pub struct Measuring<'a> {
+    pub place: &'a str,
+    pub count: u64,
+    pub group: Option<&'a str>,
+}
 
-/// Runs the group of workloads of this name, or all but those that have to be asked for, each over a place of its own. What
-/// was done is told on standard output, the same in each run, and the table of times on standard error.
-pub fn run<R: Print + Eprint + Clock + CpuClock, P: Places>(
-    rt: &R,
-    alloc: Global,
-    places: &P,
-    count: u64,
-    name: Option<&str>,
-) -> Result<()> {
-    eprintln!(rt; "engine\tworkload\tcount\twall s\tprocessor s\toperations/s")?;
-    let mut is_known = false;
-    for group in &GROUPS {
-        if group.is_asked_for(name) {
-            is_known = true;
-            run_group(rt, alloc, places.disk(group.name())?, *group, count)?;
+impl Measuring<'_> {
+    fn has(&self, group: &Group) -> bool {
+        match self.group {
+            Some(name) => group.name == name,
+            None => group.is_usual,
         }
     }
-    if !is_known {
-        bail!("no group of workloads has this name");
+}
+
+/// Runs groups of workloads, each over a database of its own. What was done is told on standard output, the same in each run,
+/// and the table of times on standard error. A folder that has one of these databases already is refused.
+pub fn run(rt: &HostRuntime, measuring: Measuring<'_>) -> Result<()> {
+    refuse_old(rt, measuring)?;
+    eprintln!(rt; "{HEAD}")?;
+    for group in &GROUPS {
+        if measuring.has(group) {
+            run_in(rt, measuring, group)?;
+        }
     }
     Ok(())
 }
 
-// Prints a row of the table: the time since the watch was started.
-fn tell<R: Eprint + Clock + CpuClock>(
-    rt: &R,
-    engine: &'static str,
-    workload: &'static str,
-    count: u64,
-    watch: &Stopwatch,
-) -> Result<()> {
-    let row = Row {
-        engine,
-        workload,
-        count,
-        spent: watch.spent(rt)?,
-    };
-    eprintln!(rt; "{row}")?;
+// The folder of a group's database.
+fn folder_of(alloc: Global, place: &str, group: &Group) -> Result<String> {
+    Ok(format!(in alloc; "{place}/{}", group.name)?)
+}
+
+// Refuses a folder in which an earlier run left a database, which would be gone on with.
+fn refuse_old(rt: &HostRuntime, measuring: Measuring<'_>) -> Result<()> {
+    if measuring.place == "memory" {
+        return Ok(());
+    }
+    for group in &GROUPS {
+        let folder = folder_of(rt.alloc(), measuring.place, group)?;
+        if measuring.has(group) && fs::exists(rt, folder.as_str())? {
+            bail!(
+                "{} is there already: each run wants folders of its own",
+                folder.as_str()
+            );
+        }
+    }
     Ok(())
 }
 
-// Runs a group's workloads over its disk.
-fn run_group<R: Print + Eprint + Clock + CpuClock, D: Disk + Drop>(
-    rt: &R,
+// Runs a group's workloads in memory or in its folder.
+fn run_in(rt: &HostRuntime, measuring: Measuring<'_>, group: &Group) -> Result<()> {
+    let alloc = rt.alloc();
+    let count = measuring.count;
+    if measuring.place == "memory" {
+        return run_group(rt, alloc, MemoryDisk::new(alloc), group, count);
+    }
+    let folder = folder_of(alloc, measuring.place, group)?;
+    let disk = FolderDisk::open(rt, alloc, folder.as_str())?;
+    run_group(rt, alloc, disk, group, count)
+}
+
+// Runs a group's workloads over a database on its disk.
+fn run_group<D: Disk + Drop>(
+    rt: &HostRuntime,
     alloc: Global,
     disk: D,
-    group: Group,
+    group: &Group,
     count: u64,
 ) -> Result<()> {
-    match group {
-        Group::Limits => limits(rt, disk, count),
-        _ => run_workloads(rt, alloc, disk, group, count),
-    }
-}
-
-// Runs a group's workloads over a database.
-fn run_workloads<R: Print + Eprint + Clock + CpuClock, D: Disk + Drop>(
-    rt: &R,
-    alloc: Global,
-    disk: D,
-    group: Group,
-    count: u64,
-) -> Result<()> {
-    let mut core = open(alloc, disk)?;
-    let ids = make_each(rt, alloc, &mut core, group.keyspaces(count))?;
-    for workload in group.workloads() {
-        core = run_workload(rt, alloc, core, &ids, workload, count)?;
-    }
-    if matches!(group, Group::Long) {
-        say_space(rt, &core, count)?;
+    let mut core = opened(alloc, disk)?;
+    let id = core.keyspace(b"pairs", KeyspaceCreateOptions::default(alloc)?)?;
+    for workload in group.workloads {
+        let numbers = workload.2.numbers(alloc, count)?;
+        core = run_workload(rt, alloc, core, id, workload, &numbers)?;
     }
     Ok(())
 }
 
-// Makes keyspaces, and answers their ids. The making of a single one is no row of the table.
-fn make_each<R: Eprint + Clock + CpuClock, D: Disk>(
-    rt: &R,
+// Runs a workload over a database, and says what it holds then.
+fn run_workload<D: Disk + Drop>(
+    rt: &HostRuntime,
     alloc: Global,
-    core: &mut Core<D>,
-    count: u64,
-) -> Result<Vec<u64>> {
-    let watch = Stopwatch::start(rt)?;
-    let ids = make_keyspaces(alloc, core, count)?;
-    if count > 1 {
-        tell(rt, ENGINE, "make keyspaces", count, &watch)?;
-    }
-    Ok(ids)
-}
-
-// Runs a workload over the keyspaces of a database, and says what it holds then.
-fn run_workload<R: Print + Eprint + Clock + CpuClock, D: Disk + Drop>(
-    rt: &R,
-    alloc: Global,
-    core: Core<D>,
-    ids: &[u64],
-    workload: &Workload,
-    count: u64,
-) -> Result<Core<D>> {
-    let Workload(name, action, choice) = *workload;
-    let numbers = choice.numbers(alloc, count)?;
-    let count = count_all(ids, &numbers);
-    let (core, done) = match action {
-        Action::Close => (close(rt, alloc, core, name, count)?, count),
-        Action::Reopen => (reopen(rt, alloc, core, name, count)?, count),
-        _ => serve_all(rt, alloc, core, ids, workload, &numbers)?,
-    };
-    say(rt, &core, ids, name, done)?;
-    Ok(core)
-}
-
-// How many operations there are where each number has one in each keyspace.
-fn count_all(ids: &[u64], numbers: &[u64]) -> u64 {
-    ids.len().saturating_mul(numbers.len()) as u64
-}
-
-// Closes a database; then it is opened again.
-fn close<R: Eprint + Clock + CpuClock, D: Disk + Drop>(
-    rt: &R,
-    alloc: Global,
-    core: Core<D>,
-    name: &'static str,
-    count: u64,
-) -> Result<Core<D>> {
-    let watch = Stopwatch::start(rt)?;
-    let disk = closed(core)?;
-    tell(rt, ENGINE, name, count, &watch)?;
-    Ok(open(alloc, disk)?)
-}
-
-// Opens a database again.
-fn reopen<R: Eprint + Clock + CpuClock, D: Disk + Drop>(
-    rt: &R,
-    alloc: Global,
-    core: Core<D>,
-    name: &'static str,
-    count: u64,
-) -> Result<Core<D>> {
-    let disk = closed(core)?;
-    let watch = Stopwatch::start(rt)?;
-    let core = open(alloc, disk)?;
-    tell(rt, ENGINE, name, count, &watch)?;
-    Ok(core)
-}
-
-// Does the same to each keyspace, and says how many operations were done, or how many pairs were found.
-fn serve_all<R: Eprint + Clock + CpuClock, D: Disk + Drop>(
-    rt: &R,
-    alloc: Global,
-    core: Core<D>,
-    ids: &[u64],
+    core: Box<Core<D>>,
+    id: u64,
     workload: &Workload,
     numbers: &[u64],
-) -> Result<(Core<D>, u64)> {
+) -> Result<Box<Core<D>>> {
     let Workload(name, action, _) = *workload;
+    let count = numbers.len() as u64;
     let mut core = core;
-    let mut done = 0u64;
-    let watch = Stopwatch::start(rt)?;
-    for id in ids {
-        done = done.saturating_add(serve(alloc, &mut core, *id, action, numbers)?);
+    let mut done = count;
+    if matches!(action, Action::Close | Action::Reopen) {
+        core = restart(rt, alloc, core, workload, count)?;
+    } else {
+        let watch = Stopwatch::start(rt)?;
+        done = serve(alloc, &mut core, id, action, numbers)?;
+        tell(rt, workload, count, watch.spent(rt)?)?;
     }
-    let count = count_all(ids, numbers);
-    tell(rt, ENGINE, name, count, &watch)?;
     if done < count {
         bail!("{name}: a pair is missing");
     }
-    Ok((core, done))
+    say(rt, &core, id, name, done)?;
+    Ok(core)
 }
 
-// Does something to a keyspace, and says how many operations were done, or how many pairs were found.
+// Closes a database and opens it again, one of which is measured.
+fn restart<D: Disk + Drop>(
+    rt: &HostRuntime,
+    alloc: Global,
+    core: Box<Core<D>>,
+    workload: &Workload,
+    count: u64,
+) -> Result<Box<Core<D>>> {
+    let watch = Stopwatch::start(rt)?;
+    let disk = closed(core)?;
+    let closing = watch.spent(rt)?;
+    let watch = Stopwatch::start(rt)?;
+    let core = opened(alloc, disk)?;
+    let spent = match workload.1 {
+        Action::Close => closing,
+        _ => watch.spent(rt)?,
+    };
+    tell(rt, workload, count, spent)?;
+    Ok(core)
+}
+
+// Does something with each number, and says how many operations were done, or how many pairs were found.
 fn serve<D: Disk>(
     alloc: Global,
     core: &mut Core<D>,
     id: u64,
     action: Action,
     numbers: &[u64],
-) -> Result<u64> {
+) -> fjall_base::Result<u64> {
     match action {
-        Action::ReadHit => return Ok(count_hits(core, id, numbers)?),
-        Action::ReadMiss => return Ok(count_misses(core, id, numbers)?),
-        Action::ScanForward => return Ok(scan(core, id, false)?),
-        Action::ScanBack => return Ok(scan(core, id, true)?),
-        Action::ReadRanges => return Ok(count_ranges(alloc, core, id, numbers)?),
-        Action::Insert => insert_each(alloc, core, id, numbers)?,
-        Action::InsertSynced => insert_synced(alloc, core, id, numbers)?,
-        Action::InsertBatches => insert_batches(alloc, core, id, numbers)?,
-        Action::Remove => remove_each(alloc, core, id, numbers)?,
+        Action::ReadHit => return count_hits(core, id, numbers),
+        Action::ReadMiss => return count_misses(core, id, numbers),
+        Action::ScanForward => return scan(core, id, false),
+        Action::ScanBack => return scan(core, id, true),
+        Action::ReadRanges => return count_ranges(alloc, core, id, numbers),
+        Action::Digest => return Ok(count_digests(numbers)),
+        Action::InsertBatches => write_batches(alloc, core, id, numbers)?,
         Action::Flush => flush(alloc, core, id)?,
         Action::Merge => merge(alloc, core, id)?,
-        Action::Close | Action::Reopen => {}
+        _ => write_each(alloc, core, id, action, numbers)?,
     }
     Ok(numbers.len() as u64)
 }
 
-// Says what a workload did and what the core holds then.
-fn say<R: Print, D: Disk>(
-    rt: &R,
-    core: &Core<D>,
-    ids: &[u64],
-    workload: &'static str,
-    done: u64,
-) -> Result<()> {
-    let mut versions = 0u64;
-    let mut tables = 0u64;
-    for id in ids {
-        versions = versions.saturating_add(core.approximate_len(*id));
-        tables = tables.saturating_add(core.disk_space(Some(*id)));
-    }
-    let (seqno, journal) = (core.visible_seqno(), core.journal_disk_space());
-    println!(rt;
-        "{workload}: {done}, visible number {seqno}, {versions} versions, journal {journal} bytes, tables {tables} bytes"
-    )?;
-    Ok(())
-}
-
-// Says how many bytes the tables and journals have, and how many times those of so many pairs that is.
-fn say_space<R: Print, D: Disk>(rt: &R, core: &Core<D>, count: u64) -> Result<()> {
-    let space = Space {
-        engine: ENGINE,
-        bytes: core.disk_space(None),
-        pair_bytes: count.saturating_mul(PAIR_LEN),
+// Prints a row of the table.
+fn tell(rt: &HostRuntime, workload: &Workload, count: u64, spent: Spent) -> Result<()> {
+    let row = Row {
+        engine: match workload.1 {
+            Action::Digest => "sha2 alone",
+            _ => "pothvilai",
+        },
+        workload: workload.0,
+        count,
+        spent,
     };
-    println!(rt; "{space}")?;
+    eprintln!(rt; "{row}")?;
     Ok(())
 }
 
-// Appends records to a file.
-fn append_each<R: Eprint + Clock + CpuClock, D: Disk + Drop>(
-    rt: &R,
-    disk: D,
-    count: u64,
-) -> Result<()> {
-    let mut disk = disk;
-    let watch = Stopwatch::start(rt)?;
-    append_records(&mut disk, count)?;
-    tell(rt, "disk alone", "append 150 bytes", count, &watch)
-}
-
-// What the machine can do at best.
-fn limits<R: Print + Eprint + Clock + CpuClock, D: Disk + Drop>(
-    rt: &R,
-    disk: D,
-    count: u64,
-) -> Result<()> {
-    append_each(rt, disk, count)?;
-    let watch = Stopwatch::start(rt)?;
-    let last = digest_records(count);
-    tell(rt, "sha2 alone", "digest 150 bytes", count, &watch)?;
-    println!(rt; "limits: {count} records, the last digest begins with {last}")?;
+// Says what a workload did and what the database holds then.
+fn say<D: Disk>(rt: &HostRuntime, core: &Core<D>, id: u64, name: &str, done: u64) -> Result<()> {
+    let (seqno, versions) = (core.visible_seqno(), core.approximate_len(id));
+    let (journal, tables) = (core.journal_disk_space(), core.disk_space(Some(id)));
+    println!(rt;
+        "{name}: {done}, visible number {seqno}, {versions} versions, journal {journal} bytes, tables {tables} bytes"
+    )?;
     Ok(())
 }
