@@ -31,18 +31,24 @@ pub enum Outcome {
 #[derive(Drop)]
 pub struct AccountBook<D: Disk> {
     alloc: Global,
-    core: Core<D>,
+    core: Box<Core<D>>,
     transactions: Transactions,
     accounts: u64,
+}
+
+// Opens the engine on a disk, in a box, so that it is one pointer to each function that owns it.
+fn open_core<D: Disk + Drop>(alloc: Global, disk: D) -> fjall_base::Result<Box<Core<D>>> {
+    let config = Config::new(alloc, "book")?;
+    match Core::open(alloc, config, disk) {
+        Ok(core) => Ok(Box::new(alloc, core)?),
+        Err(refused) => Err(refused.error),
+    }
 }
 
 impl<D: Disk + Drop> AccountBook<D> {
     /// Opens the book that a disk holds, or begins one there.
     pub fn open(alloc: Global, disk: D) -> Result<AccountBook<D>> {
-        let mut core = match Core::open(alloc, Config::new(alloc, "book")?, disk) {
-            Ok(core) => core,
-            Err(refused) => return Err(refused.error.into()),
-        };
+        let mut core = open_core(alloc, disk)?;
         let accounts = core.keyspace(b"accounts", KeyspaceCreateOptions::default(alloc)?)?;
         Ok(AccountBook {
             alloc,
@@ -54,7 +60,7 @@ impl<D: Disk + Drop> AccountBook<D> {
 
     /// Closes the book, and gives back the disk that holds it.
     pub fn close(self) -> Result<D> {
-        let (disk, closed) = self.core.close();
+        let (disk, closed) = Box::into_inner(self.core).close();
         closed?;
         Ok(disk)
     }

@@ -30,20 +30,26 @@ pub enum Outcome<T> {
 #[derive(Drop)]
 pub struct JobQueue<D: Disk> {
     alloc: Global,
-    core: Core<D>,
+    core: Box<Core<D>>,
     transactions: Transactions,
     waiting: u64,
     claimed: u64,
     numbers: u64,
 }
 
+// Opens the engine on a disk, in a box, so that it is one pointer to each function that owns it.
+fn open_core<D: Disk + Drop>(alloc: Global, disk: D) -> fjall_base::Result<Box<Core<D>>> {
+    let config = Config::new(alloc, "queue")?;
+    match Core::open(alloc, config, disk) {
+        Ok(core) => Ok(Box::new(alloc, core)?),
+        Err(refused) => Err(refused.error),
+    }
+}
+
 impl<D: Disk + Drop> JobQueue<D> {
     /// Opens the queue that a disk holds, or begins one there.
     pub fn open(alloc: Global, disk: D) -> Result<JobQueue<D>> {
-        let mut core = match Core::open(alloc, Config::new(alloc, "queue")?, disk) {
-            Ok(core) => core,
-            Err(refused) => return Err(refused.error.into()),
-        };
+        let mut core = open_core(alloc, disk)?;
         let waiting = core.keyspace(b"waiting", KeyspaceCreateOptions::default(alloc)?)?;
         let claimed = core.keyspace(b"claimed", KeyspaceCreateOptions::default(alloc)?)?;
         let numbers = core.keyspace(b"numbers", KeyspaceCreateOptions::default(alloc)?)?;
@@ -59,7 +65,7 @@ impl<D: Disk + Drop> JobQueue<D> {
 
     /// Closes the queue, and gives back the disk that holds it.
     pub fn close(self) -> Result<D> {
-        let (disk, closed) = self.core.close();
+        let (disk, closed) = Box::into_inner(self.core).close();
         closed?;
         Ok(disk)
     }

@@ -38,7 +38,7 @@ pub struct Session {
 #[derive(Drop)]
 pub struct SessionStore<D: Disk> {
     alloc: Global,
-    core: Core<D>,
+    core: Box<Core<D>>,
     transactions: Transactions,
     // by token the session's end and its user's name
     sessions: u64,
@@ -46,13 +46,19 @@ pub struct SessionStore<D: Disk> {
     ends: u64,
 }
 
+// Opens the engine on a disk, in a box, so that it is one pointer to each function that owns it.
+fn open_core<D: Disk + Drop>(alloc: Global, disk: D) -> fjall_base::Result<Box<Core<D>>> {
+    let config = Config::new(alloc, "sessions")?;
+    match Core::open(alloc, config, disk) {
+        Ok(core) => Ok(Box::new(alloc, core)?),
+        Err(refused) => Err(refused.error),
+    }
+}
+
 impl<D: Disk + Drop> SessionStore<D> {
     /// Opens the store that a disk holds, or begins one there.
     pub fn open(alloc: Global, disk: D) -> Result<SessionStore<D>> {
-        let mut core = match Core::open(alloc, Config::new(alloc, "sessions")?, disk) {
-            Ok(core) => core,
-            Err(refused) => return Err(refused.error.into()),
-        };
+        let mut core = open_core(alloc, disk)?;
         let sessions = core.keyspace(b"sessions", KeyspaceCreateOptions::default(alloc)?)?;
         let ends = core.keyspace(b"ends", KeyspaceCreateOptions::default(alloc)?)?;
         Ok(SessionStore {
@@ -66,7 +72,7 @@ impl<D: Disk + Drop> SessionStore<D> {
 
     /// Closes the store, and gives back the disk that holds it.
     pub fn close(self) -> Result<D> {
-        let (disk, closed) = self.core.close();
+        let (disk, closed) = Box::into_inner(self.core).close();
         closed?;
         Ok(disk)
     }
