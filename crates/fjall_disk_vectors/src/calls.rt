@@ -1,6 +1,7 @@
 //! Calls of a disk as rows, and looks at what it holds.
 
-use fjall_base::{DirEntry, Disk, Error, Result};
+use fjall_base::{ClosedDisk, Disk, Error, Result};
+use fjall_memory::MemoryDisk;
 use std::alloc::Global;
 use std::io::ErrorKind;
 
@@ -8,8 +9,6 @@ use std::io::ErrorKind;
 pub type Answer = Result<&'static [u64]>;
 
 pub const DONE: Answer = Ok(&[]);
-
-pub const NO: Answer = Ok(&[0]);
 
 pub const YES: Answer = Ok(&[1]);
 
@@ -31,23 +30,16 @@ pub enum Call {
     Len(&'static str),
     /// Whether the file has just these bytes.
     Holds(&'static str, &'static [u8]),
+    /// The same of so many bytes behind a place.
+    HoldsAt(&'static str, usize, usize, &'static [u8]),
     /// How many files and folders are right in the folder.
     Count(&'static str),
-    /// Whether these are right in the folder, in order, each with a blank behind it, and folders with a slash.
+    /// Whether these are right in the folder, in the order in which they came, each with a blank behind it, and folders with
+    /// a slash.
     Lists(&'static str, &'static str),
-    /// How many faults the disk has met.
-    Faults,
 }
 
 use Call::*;
-
-/// How many bytes the file of this name has, where there is one.
-pub fn len_of<D: Disk>(alloc: Global, disk: &mut D, name: &str) -> Result<Option<usize>> {
-    match disk.read(alloc, name)? {
-        Some(bytes) => Ok(Some(bytes.len())),
-        None => Ok(None),
-    }
-}
 
 /// Whether a call answers what it should.
 pub fn is_answer(answer: &Result<Vec<u64>>, wanted: Answer) -> bool {
@@ -58,95 +50,51 @@ pub fn is_answer(answer: &Result<Vec<u64>>, wanted: Answer) -> bool {
     }
 }
 
-/// Adds this number to those that are seen, where there is one.
-pub fn add_some(seen: &mut Vec<u64>, number: Option<usize>) -> Result<()> {
-    if let Some(number) = number {
-        seen.push(number as u64)?;
-    }
-    Ok(())
-}
-
 /// Adds the answer to a question.
 pub fn add_answer(seen: &mut Vec<u64>, answer: bool) -> Result<()> {
     seen.push(u64::from(answer))?;
     Ok(())
 }
 
-// Adds the answer to a question of what may be missing.
-fn add_some_answer(seen: &mut Vec<u64>, answer: Option<bool>) -> Result<()> {
-    if let Some(answer) = answer {
-        add_answer(seen, answer)?;
+/// Adds whether these are the bytes that were found, where any were.
+fn add_same(seen: &mut Vec<u64>, found: Option<Vec<u8>>, bytes: &[u8]) -> Result<()> {
+    match found {
+        Some(text) => add_answer(seen, text.as_slice() == bytes),
+        None => Ok(()),
+    }
+}
+
+/// Whether these names are right in a folder.
+fn lists<D: Disk>(alloc: Global, disk: &mut D, folder: &str, text: &str) -> Result<bool> {
+    let mut names = String::new(alloc);
+    for entry in &disk.list(alloc, folder)? {
+        names.push_str(entry.name.as_str())?;
+        names.push_str(if entry.is_folder { "/ " } else { " " })?;
+    }
+    Ok(names.as_str() == text)
+}
+
+/// Looks at what a disk holds, and adds what is seen; another call sees nothing.
+fn look<D: Disk>(alloc: Global, disk: &mut D, call: Call, seen: &mut Vec<u64>) -> Result<()> {
+    match call {
+        Len(name) => {
+            if let Some(bytes) = disk.read(alloc, name)? {
+                seen.push(bytes.len() as u64)?;
+            }
+        }
+        Holds(name, bytes) => add_same(seen, disk.read(alloc, name)?, bytes)?,
+        HoldsAt(name, at, len, bytes) => {
+            add_same(seen, disk.read_at(alloc, name, at, len)?, bytes)?;
+        }
+        Count(folder) => seen.push(disk.list(alloc, folder)?.len() as u64)?,
+        Lists(folder, text) => add_answer(seen, lists(alloc, disk, folder, text)?)?,
+        _ => {}
     }
     Ok(())
 }
 
-// Whether the file has just these bytes, where there is one.
-fn held<D: Disk>(alloc: Global, disk: &mut D, name: &str, bytes: &[u8]) -> Result<Option<bool>> {
-    match disk.read(alloc, name)? {
-        Some(text) => Ok(Some(text.as_slice() == bytes)),
-        None => Ok(None),
-    }
-}
-
-/// Whether a file of this name is there and has just these bytes.
-pub fn holds<D: Disk>(alloc: Global, disk: &mut D, name: &str, bytes: &[u8]) -> Result<bool> {
-    Ok(held(alloc, disk, name, bytes)? == Some(true))
-}
-
-// The name of what a folder has, as a list shows it.
-fn shown(alloc: Global, entry: &DirEntry) -> Result<String> {
-    let slash = if entry.is_folder { "/" } else { "" };
-    Ok(format!(in alloc; "{}{slash} ", entry.name.as_str())?)
-}
-
-// The names of these, in order.
-fn sorted(alloc: Global, entries: &[DirEntry]) -> Result<Vec<String>> {
-    let mut names = Vec::new(alloc);
-    for entry in entries {
-        names.push(shown(alloc, entry)?)?;
-    }
-    names.sort()?;
-    Ok(names)
-}
-
-// These names one behind another.
-fn joined(alloc: Global, names: &[String]) -> Result<String> {
-    let mut text = String::new(alloc);
-    for name in names {
-        text.push_str(name)?;
-    }
-    Ok(text)
-}
-
-// The names right in a folder, in order.
-fn list<D: Disk>(alloc: Global, disk: &mut D, folder: &str) -> Result<String> {
-    let entries = disk.list(alloc, folder)?;
-    joined(alloc, &sorted(alloc, &entries)?)
-}
-
-// Whether these names are right in a folder.
-fn lists<D: Disk>(alloc: Global, disk: &mut D, folder: &str, text: &str) -> Result<bool> {
-    Ok(list(alloc, disk, folder)?.as_str() == text)
-}
-
-// How many files and folders are right in the folder.
-fn count<D: Disk>(alloc: Global, disk: &mut D, folder: &str) -> Result<usize> {
-    Ok(disk.list(alloc, folder)?.len())
-}
-
 /// Makes a call, and adds what is seen.
 pub fn make<D: Disk>(alloc: Global, disk: &mut D, call: Call, seen: &mut Vec<u64>) -> Result<()> {
-    match call {
-        Len(name) => add_some(seen, len_of(alloc, disk, name)?),
-        Holds(name, bytes) => add_some_answer(seen, held(alloc, disk, name, bytes)?),
-        Count(folder) => add_some(seen, Some(count(alloc, disk, folder)?)),
-        Lists(folder, text) => add_answer(seen, lists(alloc, disk, folder, text)?),
-        _ => change(disk, call, seen),
-    }
-}
-
-// Makes a call that changes something, or counts the faults.
-fn change<D: Disk>(disk: &mut D, call: Call, seen: &mut Vec<u64>) -> Result<()> {
     match call {
         Create(name) => disk.create(name),
         Append(name, bytes) => disk.append(name, bytes),
@@ -156,9 +104,83 @@ fn change<D: Disk>(disk: &mut D, call: Call, seen: &mut Vec<u64>) -> Result<()> 
         RemoveFolder(name) => disk.remove_folder(name),
         MakeFolder(name) => disk.make_folder(name),
         SyncFolder(name) => disk.sync_folder(name),
-        _ => {
-            seen.push(disk.faults())?;
-            Ok(())
+        _ => look(alloc, disk, call, seen),
+    }
+}
+
+/// A disk on which these calls were made.
+pub fn disk_of(alloc: Global, calls: &[Call]) -> Result<MemoryDisk> {
+    let mut disk = MemoryDisk::new(alloc);
+    let mut seen = Vec::new(alloc);
+    for &call in calls {
+        make(alloc, &mut disk, call, &mut seen)?;
+    }
+    Ok(disk)
+}
+
+/// What a call sees.
+fn seen_by<D: Disk>(alloc: Global, disk: &mut D, call: Call) -> Result<Vec<u64>> {
+    let mut seen = Vec::new(alloc);
+    make(alloc, disk, call, &mut seen)?;
+    Ok(seen)
+}
+
+const EACH: &[Call] = &[
+    MakeFolder("k"),
+    Create("k/c"),
+    Append("k/c", b"abc"),
+    Sync("k/c"),
+    Cut("k/c", 2),
+    Len("k/c"),
+    HoldsAt("k/c", 1, 1, b"b"),
+    Count("k"),
+    SyncFolder("k"),
+    Remove("k/c"),
+    RemoveFolder("k"),
+];
+
+/// The place of the first call that fails, or their count, and the faults of a disk that fails at this number.
+fn first_failed(alloc: Global, number: u64) -> (usize, u64) {
+    let mut disk = MemoryDisk::new(alloc);
+    let mut seen = Vec::new(alloc);
+    disk.fail_at(number, 0);
+    let mut first = EACH.len();
+    for (place, &call) in EACH.iter().enumerate() {
+        if make(alloc, &mut disk, call, &mut seen).is_err() {
+            first = first.min(place);
         }
+    }
+    (first, disk.faults())
+}
+
+// A call of a disk that lies, and its answer.
+const CLOSED: &[(Call, Answer)] = &[
+    (MakeFolder("k"), DONE),
+    (Create("k/c"), DONE),
+    (Append("k/c", b"abc"), DONE),
+    (Sync("k/c"), DONE),
+    (SyncFolder("k"), DONE),
+    (SyncFolder(""), DONE),
+    (Cut("k/c", 1), DONE),
+    (Remove("k/c"), DONE),
+    (RemoveFolder("k"), DONE),
+    (Len("k/c"), DONE),
+    (HoldsAt("k/c", 0, 1, b""), DONE),
+    (Lists("", ""), YES),
+];
+
+#[test]
+fn a_call_fails_or_keeps_nothing(rt: HostRuntime) {
+    for number in 0..12 {
+        let (first, faults) = first_failed(rt.alloc(), number + 1);
+        assert_eq!(rt; (first, faults == 0), (number as usize, number == 11));
+    }
+    let mut disk = ClosedDisk;
+    for (row, &(call, answer)) in CLOSED.iter().enumerate() {
+        let seen = seen_by(rt.alloc(), &mut disk, call);
+        assert!(rt;
+            is_answer(&seen, answer) && disk.faults() == 0,
+            "closed, row {row}"
+        );
     }
 }

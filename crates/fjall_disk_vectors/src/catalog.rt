@@ -1,19 +1,18 @@
 //! Changes of the catalog, and what damages it.
 
 use crate::calls::Call::*;
-use crate::calls::{DONE, YES, add_some, len_of};
-use crate::folder::{CURRENT, TREE, add_keyspace};
+use crate::calls::{DONE, YES, add_answer};
 use crate::steps::Question::*;
 use crate::steps::Step::*;
-use crate::steps::{Row, Start, Step, take_all};
-use fjall_base::{Disk, Error, Result, StorageError};
+use crate::steps::{CURRENT, Question, Row, Start, TREE};
+use fjall_base::{Disk, Error, Result, Slice, StorageError};
 use fjall_catalog::{
-    LoadedCatalog, Update, commit, prepare, read_catalog, remove_old, write_table,
+    LoadedCatalog, commit, first_record_of, prepare, read_catalog, remove_old, write_table,
 };
-use fjall_files::make_file;
 use fjall_memory::MemoryDisk;
+use fjall_meta::MetaKeyspace;
+use fjall_options::KeyspaceCreateOptions;
 use std::alloc::Global;
-use std::test::Fail;
 
 /// The table of the first change.
 const TABLE: &str = "keyspaces/0/1.table";
@@ -21,42 +20,42 @@ const TABLE: &str = "keyspaces/0/1.table";
 /// A number that isn't there.
 const NONE: u64 = u64::MAX;
 
-/// The catalog that the disk says.
-pub fn read(alloc: Global, disk: &mut MemoryDisk) -> Result<LoadedCatalog> {
-    read_catalog(alloc, disk)
+/// Adds a keyspace of this name to the keyspaces, and answers its id.
+pub fn add_keyspace(
+    alloc: Global,
+    keyspaces: &mut MetaKeyspace,
+    name: &[u8],
+    number: u64,
+) -> Result<u64> {
+    let options = KeyspaceCreateOptions::default(alloc)?;
+    keyspaces.create_keyspace(Slice::new(alloc, name)?, options, number)
 }
 
-/// Makes a change, and leaves the old table.
-pub fn write(disk: &mut MemoryDisk, update: &Update) -> Result<()> {
-    write_table(disk, update)?;
-    commit(disk, update)
-}
-
-// Makes the change of this number, whole.
+/// Makes the change of this number, whole.
 fn change(alloc: Global, disk: &mut MemoryDisk, found: &LoadedCatalog, number: u64) -> Result<()> {
     let update = prepare(alloc, &found.catalog, &found.keyspaces, number)?;
-    write(disk, &update)?;
+    write_table(disk, &update)?;
+    commit(disk, &update)?;
     remove_old(disk, &update)
 }
 
 /// Creates a keyspace of this name.
 pub fn add_entry(alloc: Global, disk: &mut MemoryDisk, name: &[u8], number: u64) -> Result<()> {
-    let mut found = read(alloc, disk)?;
+    let mut found = read_catalog(alloc, disk)?;
     add_keyspace(alloc, &mut found.keyspaces, name, number)?;
     change(alloc, disk, &found, number)
 }
 
 /// Removes the keyspace of this id.
 pub fn remove_entry(alloc: Global, disk: &mut MemoryDisk, id: u64, number: u64) -> Result<()> {
-    let mut found = read(alloc, disk)?;
+    let mut found = read_catalog(alloc, disk)?;
     found.keyspaces.remove_keyspace(id);
     change(alloc, disk, &found, number)
 }
 
 /// Adds how many keyspaces live, the end of the records, whether they are torn, and the fields of the catalog: the next
 /// ids of a table and of a keyspace, the numbers that are persisted and highest, and the count of the table's entries.
-pub fn describe(alloc: Global, disk: &mut MemoryDisk, seen: &mut Vec<u64>) -> Result<()> {
-    let found = read(alloc, disk)?;
+fn describe(found: &LoadedCatalog, seen: &mut Vec<u64>) -> Result<()> {
     let catalog = &found.catalog;
     let entry_count = match &catalog.table {
         Some(table) => table.entry_count,
@@ -75,34 +74,48 @@ pub fn describe(alloc: Global, disk: &mut MemoryDisk, seen: &mut Vec<u64>) -> Re
     Ok(())
 }
 
-/// Adds how many keyspaces live.
-pub fn add_count(alloc: Global, disk: &mut MemoryDisk, seen: &mut Vec<u64>) -> Result<()> {
-    let found = read(alloc, disk)?;
-    add_some(seen, Some(found.keyspaces.keyspace_count()))
-}
-
-/// Adds the id of the keyspace of this name, where there is one.
-pub fn add_id(
+/// Adds whether the file is the first record that is made under this number, where there is one.
+fn add_is_first(
     alloc: Global,
     disk: &mut MemoryDisk,
-    name: &[u8],
+    name: &str,
+    number: u64,
     seen: &mut Vec<u64>,
 ) -> Result<()> {
-    if let Some(id) = read(alloc, disk)?.keyspaces.resolve_id(name) {
-        seen.push(id)?;
+    match disk.read(alloc, name)? {
+        Some(text) => add_answer(seen, text == first_record_of(alloc, number)?),
+        None => Ok(()),
+    }
+}
+
+/// Asks a question of the catalog that the disk says, and adds what is seen: no number where there is none.
+fn ask_found(found: &LoadedCatalog, question: Question, seen: &mut Vec<u64>) -> Result<()> {
+    let number = match question {
+        Keyspaces => Some(found.keyspaces.keyspace_count() as u64),
+        Id(name) => found.keyspaces.resolve_id(name),
+        NumberOf(id) => match found.keyspaces.get(id) {
+            Some(keyspace) => Some(keyspace.number),
+            None => None,
+        },
+        _ => return describe(found, seen),
+    };
+    if let Some(number) = number {
+        seen.push(number)?;
     }
     Ok(())
 }
 
-/// Adds the number under which the keyspace of this id was made, where there is one.
-pub fn add_number(
+/// Asks a question, and adds what is seen.
+pub fn ask(
     alloc: Global,
     disk: &mut MemoryDisk,
-    id: u64,
+    question: Question,
     seen: &mut Vec<u64>,
 ) -> Result<()> {
-    if let Some(keyspace) = read(alloc, disk)?.keyspaces.get(id) {
-        seen.push(keyspace.number)?;
+    match question {
+        FirstLen(number) => seen.push(first_record_of(alloc, number)?.len() as u64)?,
+        IsFirst(name, number) => add_is_first(alloc, disk, name, number, seen)?,
+        _ => ask_found(&read_catalog(alloc, disk)?, question, seen)?,
     }
     Ok(())
 }
@@ -125,7 +138,7 @@ pub const SCRIPT: &[Row] = &[
     (Ask(Id(b"b")), Ok(&[2])),
     (Ask(State), Ok(&[2, 215, 0, 3, 3, 9, 9, 42])),
     (
-        On(Lists(TREE, "keyspaces/0/2.table keyspaces/0/current ")),
+        On(Lists(TREE, "keyspaces/0/current keyspaces/0/2.table ")),
         YES,
     ),
     (RemoveEntry(1, 10), DONE),
@@ -135,7 +148,8 @@ pub const SCRIPT: &[Row] = &[
     (Ask(State), Ok(&[0, 350, 0, 4, 3, 11, 11, NONE])),
     (On(Count(TREE)), Ok(&[1])),
     // No record.
-    (New(Start::Torn(0)), DONE),
+    (New(Start::Tree), DONE),
+    (On(Cut(CURRENT, 0)), DONE),
     (Ask(State), Err(RECORD_DAMAGED)),
     (On(Remove(CURRENT)), DONE),
     (Ask(State), Err(RECORD_DAMAGED)),
@@ -147,39 +161,3 @@ pub const SCRIPT: &[Row] = &[
     (On(Remove(TABLE)), DONE),
     (Ask(State), Err(TABLE_DAMAGED)),
 ];
-
-// Changes the byte at this place of a file, or changes it back.
-fn damage(alloc: Global, disk: &mut MemoryDisk, name: &str, at: usize) -> Result<()> {
-    let mut copy = Vec::new(alloc);
-    if let Some(bytes) = disk.read(alloc, name)? {
-        for (i, byte) in bytes.iter().enumerate() {
-            copy.push(if i == at { *byte ^ 1 } else { *byte })?;
-        }
-    }
-    disk.remove(name)?;
-    make_file(disk, name, &copy)
-}
-
-// Each file is damaged at every byte.
-const DAMAGED: &[(&[Step], &str, Error)] = &[
-    (&[New(Start::Tree)], CURRENT, RECORD_DAMAGED),
-    (&[New(Start::Tree), AddEntry(b"a", 4)], TABLE, TABLE_DAMAGED),
-];
-
-#[test]
-fn each_damaged_byte_is_seen(rt: HostRuntime) -> std::result::Result<(), Fail> {
-    let alloc = rt.alloc();
-    let mut seen = Vec::new(alloc);
-    for &(steps, file, error) in DAMAGED {
-        let mut disk = MemoryDisk::new(alloc);
-        take_all(alloc, &mut disk, steps, &mut seen)?;
-        let len = len_of(alloc, &mut disk, file)?.ok_or("missing")?;
-        for at in 0..len {
-            damage(alloc, &mut disk, file, at)?;
-            let refusal = read(alloc, &mut disk).err();
-            damage(alloc, &mut disk, file, at)?;
-            assert_eq!(rt; refusal, Some(error), "{file}, byte {at}");
-        }
-    }
-    Ok(())
-}

@@ -1,44 +1,41 @@
 //! Keyspaces made, deleted and removed.
 
 use crate::calls::Call::*;
-use crate::calls::{DONE, FAULT, YES};
-use crate::catalog::read;
-use crate::folder::{CURRENT, add_keyspace};
+use crate::calls::{DONE, YES, add_answer};
+use crate::catalog::add_keyspace;
 use crate::steps::Question::*;
 use crate::steps::Step::*;
-use crate::steps::{Row, Start};
+use crate::steps::{CURRENT, Row, Start};
 use fjall_base::{Error, Result};
-use fjall_catalog::{Catalog, Update, first_record_of, prepare};
-use fjall_commit::{Creation, create_keyspace, delete_keyspace, prepare_creation, remove_keyspace};
+use fjall_catalog::{Catalog, first_record_of, prepare, read_catalog};
+use fjall_commit::{create_keyspace, delete_keyspace, prepare_creation, remove_keyspace};
 use fjall_memory::MemoryDisk;
 use fjall_meta::MetaKeyspace;
 use std::alloc::Global;
-use std::test::Fail;
 
 pub const FIRST: &str = "keyspaces/1/current";
 
-// What creates a keyspace of this name.
-fn creation(alloc: Global, disk: &mut MemoryDisk, name: &[u8], number: u64) -> Result<Creation> {
-    let mut found = read(alloc, disk)?;
+/// Creates a keyspace of this name, and adds whether its record is the first one of this number.
+pub fn create(
+    alloc: Global,
+    disk: &mut MemoryDisk,
+    name: &[u8],
+    number: u64,
+    seen: &mut Vec<u64>,
+) -> Result<()> {
+    let mut found = read_catalog(alloc, disk)?;
     let id = add_keyspace(alloc, &mut found.keyspaces, name, number)?;
-    prepare_creation(alloc, &found.catalog, &found.keyspaces, id, number)
-}
-
-// Whether the record of a creation is the first one of this number.
-fn is_first(alloc: Global, creation: &Creation, number: u64) -> Result<bool> {
-    Ok(creation.record_text == first_record_of(alloc, number)?)
-}
-
-/// Creates a keyspace of this name, and answers whether its record is the first one of this number.
-pub fn create(alloc: Global, disk: &mut MemoryDisk, name: &[u8], number: u64) -> Result<bool> {
-    let creation = creation(alloc, disk, name, number)?;
+    let creation = prepare_creation(alloc, &found.catalog, &found.keyspaces, id, number)?;
     create_keyspace(disk, &creation)?;
-    is_first(alloc, &creation, number)
+    add_answer(
+        seen,
+        creation.record_text == first_record_of(alloc, number)?,
+    )
 }
 
 /// Deletes the keyspace of this id.
 pub fn delete(alloc: Global, disk: &mut MemoryDisk, id: u64, number: u64) -> Result<()> {
-    let mut found = read(alloc, disk)?;
+    let mut found = read_catalog(alloc, disk)?;
     found.keyspaces.remove_keyspace(id);
     let update = prepare(alloc, &found.catalog, &found.keyspaces, number)?;
     delete_keyspace(disk, &update)
@@ -90,31 +87,7 @@ pub const SCRIPT: &[Row] = &[
     (Ask(Keyspaces), Ok(&[0])),
 ];
 
-// Keyspaces of these names.
-fn keyspaces_of(alloc: Global, names: &[&[u8]]) -> Result<MetaKeyspace> {
-    let mut keyspaces = MetaKeyspace::new(alloc);
-    for name in names {
-        add_keyspace(alloc, &mut keyspaces, name, 1)?;
-    }
-    Ok(keyspaces)
-}
-
-// What a change writes, or a creation of keyspace 1.
-fn update_of(
-    alloc: Global,
-    catalog: &Catalog,
-    keyspaces: &MetaKeyspace,
-    number: u64,
-    is_creation: bool,
-) -> Result<Update> {
-    if is_creation {
-        Ok(prepare_creation(alloc, catalog, keyspaces, 1, number)?.update)
-    } else {
-        prepare(alloc, catalog, keyspaces, number)
-    }
-}
-
-// Whether a table is made by a change, or by a creation of keyspace 1, over these keyspaces.
+/// Whether a table is made by a change, or by a creation of keyspace 1, over the keyspaces of these names.
 fn makes_table(
     alloc: Global,
     next_table_id: u64,
@@ -124,8 +97,15 @@ fn makes_table(
 ) -> Result<bool> {
     let mut catalog = Catalog::new();
     catalog.next_table_id = next_table_id;
-    let keyspaces = keyspaces_of(alloc, names)?;
-    let update = update_of(alloc, &catalog, &keyspaces, number, is_creation)?;
+    let mut keyspaces = MetaKeyspace::new(alloc);
+    for name in names {
+        add_keyspace(alloc, &mut keyspaces, name, 1)?;
+    }
+    let update = if is_creation {
+        prepare_creation(alloc, &catalog, &keyspaces, 1, number)?.update
+    } else {
+        prepare(alloc, &catalog, &keyspaces, number)?
+    };
     Ok(update.table.is_some())
 }
 
@@ -140,13 +120,12 @@ const NUMBERS: &[(u64, &[&[u8]], u64, bool, Result<bool>)] = &[
 ];
 
 #[test]
-fn numbers_are_used_up(rt: HostRuntime) -> std::result::Result<(), Fail> {
-    for (row, (table_id, names, number, is_creation, answer)) in NUMBERS.iter().enumerate() {
+fn numbers_are_used_up(rt: HostRuntime) {
+    for (row, &(table_id, names, number, is_creation, answer)) in NUMBERS.iter().enumerate() {
         assert_eq!(rt;
-            makes_table(rt.alloc(), *table_id, names, *number, *is_creation),
-            *answer,
+            makes_table(rt.alloc(), table_id, names, number, is_creation),
+            answer,
             "row {row}"
         );
     }
-    Ok(())
 }

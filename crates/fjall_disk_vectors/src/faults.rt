@@ -2,7 +2,6 @@
 
 use crate::calls::Call::*;
 use crate::changes::FIRST;
-use crate::folder::TORN;
 use crate::regions::CURRENT;
 use crate::steps::Question::*;
 use crate::steps::Step::*;
@@ -11,7 +10,6 @@ use fjall_base::{Disk, Error, Result};
 use fjall_memory::MemoryDisk;
 use std::alloc::Global;
 use std::io::ErrorKind;
-use std::test::Fail;
 
 /// A step that is cut short, what comes before it, and what comes behind it and a crash.
 #[derive(Clone, Copy)]
@@ -49,30 +47,6 @@ const CREATE_HOME_MADE: Task = Task {
     before: &[New(Start::Tree)],
     step: CreateHome(b"a", 4),
     after: &[Ask(Keyspaces), On(Len(FIRST))],
-};
-
-// Seven calls read the folder, and nine mend it: the fifteenth comes behind the cut of the journal.
-const MEND: Task = Task {
-    before: &[
-        New(Start::Items),
-        Insert("3.jnl", 1),
-        On(Append("3.jnl", TORN)),
-    ],
-    step: Mend("3.jnl"),
-    after: &[Ask(Ends)],
-};
-
-// Three calls read, and fourteen change the folder: the last of them sync the marker and the names of the root.
-const BEGIN: Task = Task {
-    before: &[New(Start::Nothing)],
-    step: Begin,
-    after: &[Ask(Number), Begin, Crash(0), Ask(IsBegun(&["0.jnl"]))],
-};
-
-const OPEN: Task = Task {
-    before: &[New(Start::Swollen)],
-    step: Open,
-    after: &[Open, Ask(Unnamed), Ask(Kept), On(Len("0.jnl"))],
 };
 
 /// How a step ends, and how many faults came.
@@ -122,85 +96,20 @@ const STRETCHES: &[Stretch] = &[
         SERVED,
         &[1, 1, 55],
     ),
-    (MEND, (1, 14), &[0], STAYS, FAILS, &[0, 2, 49, 1]),
-    (MEND, (15, 16), &[0], STAYS, FAILS, &[0, 2, 49, 0]),
-    (MEND, (17, 19), &[0], STAYS, SERVED, &[1, 0, 2, 49, 0]),
-    (
-        BEGIN,
-        (1, 15),
-        &[0, 2],
-        &[Some(0), Some(1), Some(100)],
-        FAILS,
-        &[0, 1],
-    ),
-    (
-        BEGIN,
-        (16, 16),
-        &[0, 2],
-        &[Some(0), Some(1)],
-        FAILS,
-        &[0, 1],
-    ),
-    (BEGIN, (16, 16), &[0, 2], &[Some(100)], FAILS, &[0, 0, 1]),
-    (
-        BEGIN,
-        (17, 17),
-        &[0, 2],
-        &[Some(0), Some(1), Some(100)],
-        FAILS,
-        &[0, 0, 1],
-    ),
-    (BEGIN, (18, 18), &[0], STAYS, SERVED, &[0, 0, 0, 1]),
-    (
-        OPEN,
-        (1, 26),
-        &[0, 2],
-        &[Some(0), Some(2)],
-        FAILS,
-        &[49, 6, 1, 2, 2, 1, 1, 0, 3, 49],
-    ),
-    (
-        OPEN,
-        (27, 60),
-        &[0, 2],
-        &[Some(0), Some(2)],
-        SERVED,
-        &[49, 6, 1, 2, 2, 1, 1, 49, 6, 1, 2, 2, 1, 1, 0, 3, 49],
-    ),
 ];
 
 /// A call that failed, how many bytes of an append went out, and how many unsynced bytes a crash left.
 type Cut = (u64, usize, Option<usize>);
 
-/// How a step ends, and what is seen in all.
-type Seen = (Outcome, Vec<u64>);
-
-// A disk on which these steps are taken.
-fn disk_after(alloc: Global, steps: &[Step]) -> Result<MemoryDisk> {
+/// Takes a task's steps with this cut, and answers how its step ends, and what is seen in all.
+fn cut_short(alloc: Global, task: &Task, (call, part, keep): Cut) -> Result<(Outcome, Vec<u64>)> {
     let mut disk = MemoryDisk::new(alloc);
-    take_all(alloc, &mut disk, steps, &mut Vec::new(alloc))?;
-    Ok(disk)
-}
-
-// Takes a step while this call of it fails, and answers how it ends.
-fn take_failing(
-    alloc: Global,
-    disk: &mut MemoryDisk,
-    step: Step,
-    (call, part): (u64, usize),
-    seen: &mut Vec<u64>,
-) -> Outcome {
-    disk.fail_at(call, part);
-    let ended = take(alloc, disk, step, seen);
-    disk.fail_at(0, 0);
-    (ended, disk.faults())
-}
-
-// Takes a task's steps with this cut, and answers how its step ends, and what is seen in all.
-fn cut_short(alloc: Global, task: Task, (call, part, keep): Cut) -> Result<Seen> {
-    let mut disk = disk_after(alloc, task.before)?;
+    take_all(alloc, &mut disk, task.before, &mut Vec::new(alloc))?;
     let mut seen = Vec::new(alloc);
-    let outcome = take_failing(alloc, &mut disk, task.step, (call, part), &mut seen);
+    disk.fail_at(call, part);
+    let ended = take(alloc, &mut disk, task.step, &mut seen);
+    disk.fail_at(0, 0);
+    let outcome = (ended, disk.faults());
     if let Some(keep) = keep {
         take(alloc, &mut disk, Crash(keep), &mut seen)?;
     }
@@ -208,59 +117,31 @@ fn cut_short(alloc: Global, task: Task, (call, part, keep): Cut) -> Result<Seen>
     Ok((outcome, seen))
 }
 
-// Whether a step ends like this, and these numbers are seen.
-fn is_right((ended, seen): &Seen, outcome: Outcome, wanted: &[u64]) -> bool {
-    *ended == outcome && seen.as_slice() == wanted
-}
-
-// How a task's step ends at this cut, and what is seen in all, where it isn't what should be.
-fn wrong_at(
-    alloc: Global,
-    task: Task,
-    cut: Cut,
-    outcome: Outcome,
-    wanted: &[u64],
-) -> Result<Option<Seen>> {
-    let seen = cut_short(alloc, task, cut)?;
-    if is_right(&seen, outcome, wanted) {
-        return Ok(None);
-    }
-    Ok(Some(seen))
-}
-
-/// A cut, and what came of it.
-type Wrong = (Cut, Seen);
-
-// The first wrong cut of a stretch at this call.
-fn first_wrong_at(alloc: Global, stretch: &Stretch, call: u64) -> Result<Option<Wrong>> {
-    let (task, _, parts, keeps, outcome, wanted) = *stretch;
-    for part in parts {
-        for keep in keeps {
-            let cut = (call, *part, *keep);
-            if let Some(wrong) = wrong_at(alloc, task, cut, outcome, wanted)? {
-                return Ok(Some((cut, wrong)));
+/// The first cut of a stretch at this call that doesn't end or see what it should.
+fn first_wrong(alloc: Global, stretch: &Stretch, call: u64) -> Result<Option<Cut>> {
+    let (task, _, parts, keeps, outcome, wanted) = stretch;
+    for &part in *parts {
+        for &keep in *keeps {
+            let cut = (call, part, keep);
+            let (ended, seen) = cut_short(alloc, task, cut)?;
+            if ended != *outcome || seen.as_slice() != *wanted {
+                return Ok(Some(cut));
             }
         }
     }
     Ok(None)
 }
 
-// The first cut of a stretch that doesn't end or see what it should.
-fn first_wrong(alloc: Global, stretch: &Stretch) -> Result<Option<Wrong>> {
-    let (first, last) = stretch.1;
-    for call in first..=last {
-        let wrong = first_wrong_at(alloc, stretch, call)?;
-        if wrong.is_some() {
-            return Ok(wrong);
+#[test]
+fn each_call_fails_in_turn(rt: HostRuntime) {
+    for (row, stretch) in STRETCHES.iter().enumerate() {
+        let (first, last) = stretch.1;
+        for call in first..=last {
+            assert_eq!(rt;
+                first_wrong(rt.alloc(), stretch, call),
+                Ok(None),
+                "row {row}"
+            );
         }
     }
-    Ok(None)
-}
-
-#[test]
-fn each_call_fails_in_turn(rt: HostRuntime) -> std::result::Result<(), Fail> {
-    for (row, stretch) in STRETCHES.iter().enumerate() {
-        assert_eq!(rt; first_wrong(rt.alloc(), stretch)?, None, "row {row}");
-    }
-    Ok(())
 }

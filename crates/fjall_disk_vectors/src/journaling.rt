@@ -1,7 +1,6 @@
 //! The bytes of a journal that batches were written to.
 
-use crate::calls::holds;
-use fjall_base::{Result, Slice};
+use fjall_base::{Disk, Result, Slice};
 use fjall_commit::{append_batch, append_clear, sync_journal};
 use fjall_journal::{BatchItem, Op, PersistMode, ValueType, Writer, check_items};
 use fjall_memory::MemoryDisk;
@@ -59,38 +58,20 @@ enum Step {
 
 use Step::*;
 
-// Puts a new journal on an empty disk.
-fn begin(alloc: Global, disk: &mut MemoryDisk, journal: &mut Writer) -> Result<()> {
-    *disk = MemoryDisk::new(alloc);
-    *journal = Writer::create_new(alloc, disk, NAME)?;
-    Ok(())
-}
-
-// Crashes, and leaves what is synced.
-fn crash(alloc: Global, disk: &mut MemoryDisk) -> Result<()> {
-    *disk = mem::replace(disk, MemoryDisk::new(alloc)).crash(0)?;
-    Ok(())
-}
-
-// What becomes of k.
-fn op_of(alloc: Global, item: Item) -> Result<Op> {
-    Ok(match item {
-        Some(value) => Op::Put(Slice::new(alloc, value)?),
-        None => Op::Remove,
-    })
-}
-
-// The items of a batch.
+/// The items of a batch.
 fn items_of(alloc: Global, items: &[Item]) -> Result<Vec<BatchItem>> {
     let mut batch = Vec::new(alloc);
     for item in items {
-        let key = Slice::new(alloc, b"k")?;
-        batch.push((3, key, op_of(alloc, *item)?))?;
+        let op = match item {
+            Some(value) => Op::Put(Slice::new(alloc, value)?),
+            None => Op::Remove,
+        };
+        batch.push((3, Slice::new(alloc, b"k")?, op))?;
     }
     Ok(batch)
 }
 
-// Writes a batch of this number, where it has items, and ones that a batch may have.
+/// Writes a batch of this number, where it has items, and ones that a batch may have.
 fn write(
     disk: &mut MemoryDisk,
     journal: &mut Writer,
@@ -105,33 +86,24 @@ fn write(
     append_batch(journal, disk, mode, items, number)
 }
 
-// Adds the insert, which waits.
-fn wait(disk: &mut MemoryDisk, journal: &mut Writer) -> Result<()> {
-    journal.write_raw(disk, 3, b"k", b"v1", ValueType::Value, 5)?;
-    Ok(())
-}
-
-// Takes a step.
+/// Takes a step.
 fn take(alloc: Global, disk: &mut MemoryDisk, journal: &mut Writer, step: Step) -> Result<()> {
     match step {
-        New => begin(alloc, disk, journal),
-        Wait => wait(disk, journal),
-        Write(number, items, mode) => {
-            write(disk, journal, number, &items_of(alloc, items)?, mode)
+        New => {
+            *disk = MemoryDisk::new(alloc);
+            *journal = Writer::create_new(alloc, disk, NAME)?;
         }
-        Empty(number, mode) => append_clear(journal, disk, mode, 3, number),
-        Persist(mode) => sync_journal(journal, disk, mode),
-        Crash => crash(alloc, disk),
+        Wait => {
+            journal.write_raw(disk, 3, b"k", b"v1", ValueType::Value, 5)?;
+        }
+        Write(number, items, mode) => {
+            return write(disk, journal, number, &items_of(alloc, items)?, mode);
+        }
+        Empty(number, mode) => return append_clear(journal, disk, mode, 3, number),
+        Persist(mode) => return sync_journal(journal, disk, mode),
+        Crash => *disk = mem::replace(disk, MemoryDisk::new(alloc)).crash(0)?,
     }
-}
-
-// These bytes one behind another.
-fn joined(alloc: Global, parts: &[&[u8]]) -> Result<Vec<u8>> {
-    let mut text = Vec::new(alloc);
-    for part in parts {
-        text.extend_from_slice(part)?;
-    }
-    Ok(text)
+    Ok(())
 }
 
 const BUFFER: Option<PersistMode> = Some(PersistMode::Buffer);
@@ -181,47 +153,33 @@ const ROWS: &[(Step, u64, u64, &[&[u8]])] = &[
     (Crash, 50, 50, &[INSERT]),
 ];
 
-/// A journal's length, its place, and whether its file has the bytes that it should.
-type Seen = (u64, u64, bool);
-
-// Whether the journal's file has just these parts.
-fn has_parts(alloc: Global, disk: &mut MemoryDisk, parts: &[&[u8]]) -> Result<bool> {
-    let text = joined(alloc, parts)?;
-    holds(alloc, disk, NAME, &text)
-}
-
-// Takes a step, and answers what is seen of a journal whose file should have these parts.
-fn outcome(
+/// Takes a step, and answers whether the journal's file then has just these parts.
+fn is_written(
     alloc: Global,
     disk: &mut MemoryDisk,
     journal: &mut Writer,
     step: Step,
     parts: &[&[u8]],
-) -> Result<Seen> {
+) -> Result<bool> {
     take(alloc, disk, journal, step)?;
-    let is_whole = has_parts(alloc, disk, parts)?;
-    Ok((journal.len(), journal.pos(), is_whole))
-}
-
-// The first row that isn't as it should be, and what is seen.
-fn first_wrong(
-    alloc: Global,
-    disk: &mut MemoryDisk,
-    journal: &mut Writer,
-) -> Result<Option<(usize, Seen)>> {
-    for (row, (step, len, pos, parts)) in ROWS.iter().enumerate() {
-        let seen = outcome(alloc, disk, journal, *step, parts)?;
-        if seen != (*len, *pos, true) {
-            return Ok(Some((row, seen)));
-        }
+    let mut wanted = Vec::new(alloc);
+    for part in parts {
+        wanted.extend_from_slice(part)?;
     }
-    Ok(None)
+    Ok(disk.read(alloc, NAME)? == Some(wanted))
 }
 
 #[test]
 fn batches_go_out(rt: HostRuntime) -> std::result::Result<(), Fail> {
     let mut disk = MemoryDisk::new(rt.alloc());
     let mut journal = Writer::create_new(rt.alloc(), &mut disk, NAME)?;
-    assert_eq!(rt; first_wrong(rt.alloc(), &mut disk, &mut journal)?, None);
+    for (row, &(step, len, pos, parts)) in ROWS.iter().enumerate() {
+        let is_written = is_written(rt.alloc(), &mut disk, &mut journal, step, parts);
+        assert_eq!(rt;
+            (journal.len(), journal.pos(), is_written),
+            (len, pos, Ok(true)),
+            "row {row}"
+        );
+    }
     Ok(())
 }

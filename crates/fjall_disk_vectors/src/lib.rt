@@ -1,8 +1,6 @@
-//! Folders on a disk in memory: read, changed, damaged, and cut short at each call.
+//! Worked rows of a disk and of what stands below a database on it, and calls of each public function there.
 #![tactic(auto)]
 
-#[cfg(test)]
-mod beginning;
 #[cfg(test)]
 mod calls;
 #[cfg(test)]
@@ -12,20 +10,22 @@ mod changes;
 #[cfg(test)]
 mod faults;
 #[cfg(test)]
-mod folder;
-#[cfg(test)]
 mod journaling;
 #[cfg(test)]
-mod mending;
+mod lists;
 #[cfg(test)]
-mod opening;
+mod machine;
 #[cfg(test)]
-mod recovery;
+mod reads;
+#[cfg(test)]
+mod refusals;
 #[cfg(test)]
 mod regions;
 #[cfg(test)]
-mod repair;
+mod scenarios;
 #[cfg(test)]
-mod scripts;
+mod stage;
 #[cfg(test)]
 mod steps;
+#[cfg(test)]
+mod writes;

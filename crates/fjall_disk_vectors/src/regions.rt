@@ -15,14 +15,17 @@ pub const CURRENT: &str = "keyspaces/5/current";
 
 const TABLE: &str = "keyspaces/5/1.table";
 
-// Removes the home with its records, and with a table or not.
+/// Removes the home with its records, and with a table or not.
 fn remove(alloc: Global, disk: &mut MemoryDisk, with_table: bool) -> Result<()> {
+    let names: &[&str] = if with_table {
+        &[CURRENT, TABLE]
+    } else {
+        &[CURRENT]
+    };
     let mut files = Vec::new(alloc);
-    files.push(String::from_str(alloc, CURRENT)?)?;
-    if !with_table {
-        return remove_home(disk, HOME, files.as_slice());
+    for name in names {
+        files.push(String::from_str(alloc, name)?)?;
     }
-    files.push(String::from_str(alloc, TABLE)?)?;
     remove_home(disk, HOME, files.as_slice())
 }
 

@@ -1,11 +1,19 @@
 //! Steps over a disk in memory, which the rows of a script take.
 
-use crate::calls::{Answer, Call, add_answer, add_some, make};
-use crate::{beginning, catalog, changes, folder, mending, opening, regions, repair};
-use fjall_base::Result;
+use crate::calls::Call::*;
+use crate::calls::{Answer, Call, DONE, FAULT, YES, disk_of, is_answer, make};
+use crate::{catalog, changes, regions};
+use fjall_base::{Disk, Result};
+use fjall_catalog::first_record;
+use fjall_files::make_file;
 use fjall_memory::MemoryDisk;
 use std::alloc::Global;
 use std::mem;
+
+/// The folder of tree 0, and its records.
+pub const TREE: &str = "keyspaces/0";
+
+pub const CURRENT: &str = "keyspaces/0/current";
 
 /// A step of a script, and what it answers.
 pub type Row = (Step, Answer);
@@ -14,6 +22,8 @@ pub type Row = (Step, Answer);
 #[derive(Clone, Copy)]
 pub enum Step {
     On(Call),
+    /// The disk fails at this call from now on, of an append behind so many bytes.
+    FailAt(u64, usize),
     /// A crash leaves at most so many of each file's unsynced bytes.
     Crash(usize),
     /// A folder takes the place of what is there.
@@ -36,18 +46,6 @@ pub enum Step {
     CreateHome(&'static [u8], u64),
     DeleteHome(u64, u64),
     RemoveKeyspace(u64),
-    /// Makes a keyspace and leaves the old table.
-    Keyspace(&'static [u8], u64),
-    /// Writes a=b into keyspace 1, under this number, into a new journal of this name.
-    Insert(&'static str, u64),
-    /// Begins a database, or goes on with it, and answers the id of its active journal.
-    Begin,
-    /// Mends the folder, and answers whether this is its active journal.
-    Mend(&'static str),
-    /// Opens the folder, and answers what `repair::open` says.
-    Open,
-    /// Sweeps the folder, and answers what `repair::sweep_unnamed` says.
-    SweepPlan,
     Ask(Question),
 }
 
@@ -55,20 +53,10 @@ pub enum Step {
 #[derive(Clone, Copy)]
 pub enum Start {
     Nothing,
+    /// A folder "k" and a file "k/c" of three synced bytes in it.
+    Filled,
     /// An empty tree 0, synced.
     Tree,
-    /// An empty tree 0 and no marker.
-    Unmarked,
-    /// So many bytes of an empty tree 0, not synced.
-    Torn(usize),
-    /// An empty tree 0 and this marker.
-    Marked(&'static [u8]),
-    /// The keyspace 1, "items", made under number 0.
-    Items,
-    /// The same with a write under number 1 in the journal 0, and one under number 2 in the journal 1.
-    Sound,
-    /// The same with a write under number 5 in a torn journal, and what nothing names.
-    Swollen,
 }
 
 /// What is asked of a folder.
@@ -85,97 +73,52 @@ pub enum Question {
     /// The id of the keyspace of this name, and the number of the keyspace of this id.
     Id(&'static [u8]),
     NumberOf(u64),
-    /// Whether a database without keyspaces is there, whose journals of these names hold nothing.
-    IsBegun(&'static [&'static str]),
-    /// The number of a next change.
-    Number,
-    /// The ids of the journals, of the keyspaces' folders, and the next one.
-    Journals,
-    Folders,
-    NextId,
-    /// How many journals are sealed, the least next number, the end of the last journal, and whether it is torn.
-    Ends,
-    /// Each keyspace's id, the end of its records, and the length of their file.
-    Homes,
-    /// The id of the keyspace of this name.
-    Named(&'static [u8]),
-    /// How many of those are there that nothing names in `Swollen`, and of those that something names or keeps.
-    Unnamed,
-    Kept,
 }
 
 use Step::*;
 
-fn started(alloc: Global, start: Start) -> Result<MemoryDisk> {
-    match start {
-        Start::Nothing => Ok(MemoryDisk::new(alloc)),
-        Start::Tree => folder::synced_tree(alloc),
-        Start::Unmarked => folder::unmarked_folder(alloc),
-        Start::Torn(len) => folder::torn_tree(alloc, len),
-        Start::Marked(marker) => folder::empty_folder(alloc, marker),
-        Start::Items => folder::folder_of_items(alloc),
-        Start::Sound => folder::sound_folder(alloc),
-        Start::Swollen => folder::swollen_folder(alloc),
-    }
-}
+const FILL: &[Call] = &[
+    MakeFolder("k"),
+    Create("k/c"),
+    Append("k/c", b"abc"),
+    Sync("k/c"),
+    SyncFolder("k"),
+    SyncFolder(""),
+];
 
-fn ask(
-    alloc: Global,
-    disk: &mut MemoryDisk,
-    question: Question,
-    seen: &mut Vec<u64>,
-) -> Result<()> {
-    match question {
-        Question::FirstLen(number) => folder::add_first_len(alloc, number, seen),
-        Question::IsFirst(name, number) => folder::add_is_first(alloc, disk, name, number, seen),
-        Question::State => catalog::describe(alloc, disk, seen),
-        Question::Keyspaces => catalog::add_count(alloc, disk, seen),
-        Question::Id(name) => catalog::add_id(alloc, disk, name, seen),
-        Question::NumberOf(id) => catalog::add_number(alloc, disk, id, seen),
-        Question::IsBegun(journals) => {
-            add_answer(seen, beginning::is_begun(alloc, disk, journals)?)
-        }
-        Question::Unnamed => add_some(seen, Some(repair::unnamed(alloc, disk)?)),
-        Question::Kept => add_some(seen, Some(repair::kept(alloc, disk)?)),
-        _ => opening::ask(alloc, disk, question, seen),
-    }
-}
+const FOLDERS: &[Call] = &[
+    MakeFolder("keyspaces"),
+    MakeFolder(TREE),
+    SyncFolder("keyspaces"),
+    SyncFolder(""),
+];
 
-// Takes a step of those that work on the catalog or on a whole folder.
-fn work(alloc: Global, disk: &mut MemoryDisk, step: Step, seen: &mut Vec<u64>) -> Result<()> {
-    match step {
-        AddEntry(name, number) => catalog::add_entry(alloc, disk, name, number),
-        RemoveEntry(id, number) => catalog::remove_entry(alloc, disk, id, number),
-        CreateHome(name, number) => {
-            add_answer(seen, changes::create(alloc, disk, name, number)?)
-        }
-        DeleteHome(id, number) => changes::delete(alloc, disk, id, number),
-        RemoveKeyspace(id) => changes::remove(alloc, disk, id),
-        Keyspace(name, number) => folder::create(alloc, disk, name, number),
-        Insert(journal, number) => folder::insert(alloc, disk, journal, number),
-        Begin => beginning::begin_folder(alloc, disk, seen),
-        Mend(journal) => add_answer(seen, mending::mend_folder(alloc, disk, journal)?),
-        Open => repair::open(alloc, disk, seen),
-        SweepPlan => repair::sweep_unnamed(alloc, disk, seen),
-        Ask(question) => ask(alloc, disk, question, seen),
-        _ => regions::work(alloc, disk, step),
-    }
+/// A disk with an empty tree 0, all synced.
+fn tree(alloc: Global) -> Result<MemoryDisk> {
+    let mut disk = disk_of(alloc, FOLDERS)?;
+    make_file(&mut disk, CURRENT, &first_record(alloc)?)?;
+    disk.sync_folder(TREE)?;
+    Ok(disk)
 }
 
 /// Takes a step, and adds what is seen.
 pub fn take(alloc: Global, disk: &mut MemoryDisk, step: Step, seen: &mut Vec<u64>) -> Result<()> {
     match step {
-        On(call) => make(alloc, disk, call, seen),
-        Crash(keep) => {
-            *disk = mem::replace(disk, MemoryDisk::new(alloc)).crash(keep)?;
-            Ok(())
-        }
-        New(start) => {
-            *disk = started(alloc, start)?;
-            Ok(())
-        }
-        _ => work(alloc, disk, step, seen),
+        On(call) => return make(alloc, disk, call, seen),
+        FailAt(call, part) => disk.fail_at(call, part),
+        Crash(keep) => *disk = mem::replace(disk, MemoryDisk::new(alloc)).crash(keep)?,
+        New(Start::Nothing) => *disk = MemoryDisk::new(alloc),
+        New(Start::Filled) => *disk = disk_of(alloc, FILL)?,
+        New(Start::Tree) => *disk = tree(alloc)?,
+        AddEntry(name, number) => catalog::add_entry(alloc, disk, name, number)?,
+        RemoveEntry(id, number) => catalog::remove_entry(alloc, disk, id, number)?,
+        CreateHome(name, number) => changes::create(alloc, disk, name, number, seen)?,
+        DeleteHome(id, number) => changes::delete(alloc, disk, id, number)?,
+        RemoveKeyspace(id) => changes::remove(alloc, disk, id)?,
+        Ask(question) => return catalog::ask(alloc, disk, question, seen),
+        _ => return regions::work(alloc, disk, step),
     }
+    Ok(())
 }
 
 /// Takes steps, and adds what they see.
@@ -185,8 +128,104 @@ pub fn take_all(
     steps: &[Step],
     seen: &mut Vec<u64>,
 ) -> Result<()> {
-    for step in steps {
-        take(alloc, disk, *step, seen)?;
+    for &step in steps {
+        take(alloc, disk, step, seen)?;
     }
     Ok(())
+}
+
+/// Takes a step, and answers what it sees.
+fn answer(alloc: Global, disk: &mut MemoryDisk, step: Step) -> Result<Vec<u64>> {
+    let mut seen = Vec::new(alloc);
+    take(alloc, disk, step, &mut seen)?;
+    Ok(seen)
+}
+
+// Each step, its answer, and the faults up to it.
+const STEPS: &[(Step, Answer, u64)] = &[
+    // A crash keeps names and synced bytes.
+    (New(Start::Filled), DONE, 0),
+    (On(Append("k/c", b"def")), DONE, 0),
+    (On(Create("unsynced")), DONE, 0),
+    (Crash(2), DONE, 0),
+    (On(Holds("k/c", b"abcde")), YES, 0),
+    (On(Holds("unsynced", b"")), YES, 0),
+    (On(Append("k/c", b"f")), DONE, 0),
+    (Crash(0), DONE, 0),
+    (On(Holds("k/c", b"abcde")), YES, 0),
+    // An append that fails adds its part.
+    (New(Start::Filled), DONE, 0),
+    (On(Append("k/c", b"def")), DONE, 0),
+    (FailAt(1, 2), DONE, 0),
+    (On(Append("k/c", b"ghi")), FAULT, 1),
+    (Crash(4), DONE, 1),
+    (On(Holds("k/c", b"abcdefg")), YES, 1),
+    // The call after the one that failed does not.
+    (New(Start::Filled), DONE, 0),
+    (On(Create("a")), DONE, 0),
+    (FailAt(1, 0), DONE, 0),
+    (On(Holds("a", b"")), FAULT, 1),
+    (On(Holds("a", b"")), YES, 1),
+    // Reads tell what stands.
+    (New(Start::Filled), DONE, 0),
+    (On(Append("k/c", b"de")), DONE, 0),
+    (On(MakeFolder("k/f")), DONE, 0),
+    (On(HoldsAt("k/c", 2, 3, b"cde")), YES, 0),
+    (On(HoldsAt("k/c", 3, 3, b"")), DONE, 0),
+    (On(HoldsAt("k/d", 0, 0, b"")), DONE, 0),
+    (On(Holds("k", b"")), DONE, 0),
+    (On(Lists("k", "k/c k/f/ ")), YES, 0),
+    (On(Lists("m", "")), YES, 0),
+    (On(Lists("", "k/ ")), YES, 0),
+    // Changes that no disk can make are faults.
+    (New(Start::Filled), DONE, 0),
+    (On(Create("")), FAULT, 1),
+    (On(MakeFolder("")), FAULT, 2),
+    (On(Create("m/x")), FAULT, 3),
+    (On(MakeFolder("m/x")), FAULT, 4),
+    (On(Create("k")), FAULT, 5),
+    (On(MakeFolder("k/c")), FAULT, 6),
+    (On(Append("k/d", b"x")), FAULT, 7),
+    (On(Append("k", b"x")), FAULT, 8),
+    (On(Sync("k/d")), FAULT, 9),
+    (On(SyncFolder("m")), FAULT, 10),
+    (On(Cut("k/c", 4)), FAULT, 11),
+    (On(Remove("k")), FAULT, 12),
+    (On(RemoveFolder("k/c")), FAULT, 13),
+    (On(RemoveFolder("k")), FAULT, 14),
+    (On(Holds("k/c", b"abc")), YES, 14),
+    // What is already so is none.
+    (On(Remove("k/d")), DONE, 14),
+    (On(RemoveFolder("m")), DONE, 14),
+    (On(Create("k/c")), DONE, 14),
+    (On(MakeFolder("k")), DONE, 14),
+    (On(Cut("k/c", 1)), DONE, 14),
+    (On(Remove("k/c")), DONE, 14),
+    (On(RemoveFolder("k")), DONE, 14),
+    (On(Lists("", "")), YES, 14),
+];
+
+const SCRIPTS: &[(&str, &[Row])] = &[
+    ("regions", regions::SCRIPT),
+    ("catalog", catalog::SCRIPT),
+    ("changes", changes::SCRIPT),
+];
+
+#[test]
+fn a_disk_goes_by_its_steps(rt: HostRuntime) {
+    let alloc = rt.alloc();
+    let mut disk = MemoryDisk::new(alloc);
+    for (row, &(step, wanted, faults)) in STEPS.iter().enumerate() {
+        let seen = answer(alloc, &mut disk, step);
+        assert!(rt;
+            is_answer(&seen, wanted) && disk.faults() == faults,
+            "row {row}: {seen:?}"
+        );
+    }
+    for &(name, rows) in SCRIPTS {
+        for (row, &(step, wanted)) in rows.iter().enumerate() {
+            let seen = answer(alloc, &mut disk, step);
+            assert!(rt; is_answer(&seen, wanted), "{name}, row {row}: {seen:?}");
+        }
+    }
 }

@@ -35,33 +35,14 @@ fn entry_of(alloc: Global, named: Named) -> Result<Entry> {
     })
 }
 
-fn spelling(alloc: Global, entry: &Entry) -> Result<Vec<u8>> {
-    let mut out = Vec::new(alloc);
-    entry.encode_into(&mut out)?;
-    Ok(out)
-}
-
-fn entry_in(alloc: Global, bytes: &[u8]) -> Result<(Entry, usize)> {
-    Entry::decode_from(alloc, bytes)
-}
-
-/// Whether the bytes spell this entry.
-fn is_spelling(alloc: Global, entry: &Entry, bytes: &[u8]) -> Result<bool> {
-    let spelled = spelling(alloc, entry)?;
-    Ok(spelled.as_slice() == bytes)
-}
-
-/// Whether the bytes spell the entry that is named.
-fn is_named(alloc: Global, named: Named, bytes: &[u8]) -> Result<bool> {
-    let entry = entry_of(alloc, named)?;
-    is_spelling(alloc, &entry, bytes)
-}
-
 /// How many bytes the first entry there has, and whether they spell it, and the one that is named.
 fn first_entry(alloc: Global, bytes: &[u8], named: Named) -> Result<(usize, bool)> {
-    let (entry, len) = entry_in(alloc, bytes)?;
-    let same = is_spelling(alloc, &entry, bytes)?;
-    Ok((len, is_named(alloc, named, bytes)? && same))
+    let (entry, len) = Entry::decode_from(alloc, bytes)?;
+    let mut spelled = Vec::new(alloc);
+    entry.encode_into(&mut spelled)?;
+    let mut wanted = Vec::new(alloc);
+    entry_of(alloc, named)?.encode_into(&mut wanted)?;
+    Ok((len, spelled.as_slice() == bytes && wanted == spelled))
 }
 
 const CLEAR: Named = Named::Clear(1);
@@ -91,20 +72,7 @@ const ENTRIES: &[(&[u8], Named, Result<(usize, bool)>)] = &[
     (&[2, 3], CLEAR, Err(Error::InvalidTag(("ValueType", 3)))),
 ];
 
-#[test]
-fn entries_and_back(rt: HostRuntime) {
-    for (row, (bytes, named, answer)) in ENTRIES.iter().enumerate() {
-        assert_eq!(rt;
-            (
-                first_entry(rt.alloc(), bytes, *named),
-                ValueType::try_from(4).ok()
-            ),
-            (*answer, Some(ValueType::Indirection)),
-            "row {row}"
-        );
-    }
-}
-
+/// The length of the item of this key and value.
 fn encoded(alloc: Global, key: &[u8], value: &[u8]) -> Result<usize> {
     let mut out = Vec::new(alloc);
     let compression = CompressionType::None;
@@ -112,19 +80,11 @@ fn encoded(alloc: Global, key: &[u8], value: &[u8]) -> Result<usize> {
     Ok(out.len())
 }
 
-fn writer_on(alloc: Global, disk: &mut MemoryDisk) -> Result<Writer> {
-    Writer::create_new(alloc, disk, "0.jnl")
-}
-
-/// Writes this into keyspace 1 under number 1, and answers the length of the batch.
-fn write(disk: &mut MemoryDisk, writer: &mut Writer, key: &[u8], value: &[u8]) -> Result<usize> {
-    writer.write_raw(disk, 1, key, value, ValueType::Value, 1)
-}
-
+/// The length of the file behind a write of this key and value.
 fn written(alloc: Global, key: &[u8], value: &[u8]) -> Result<u64> {
     let mut disk = MemoryDisk::new(alloc);
-    let mut writer = writer_on(alloc, &mut disk)?;
-    write(&mut disk, &mut writer, key, value)?;
+    let mut writer = Writer::create_new(alloc, &mut disk, "0.jnl")?;
+    writer.write_raw(&mut disk, 1, key, value, ValueType::Value, 1)?;
     Ok(writer.len())
 }
 
@@ -147,7 +107,17 @@ fn lengths_of(alloc: Global, key: usize, value: usize) -> Result<(Result<usize>,
 }
 
 #[test]
-fn lengths(rt: HostRuntime) {
+fn entries_and_their_lengths(rt: HostRuntime) {
+    for (row, &(bytes, named, answer)) in ENTRIES.iter().enumerate() {
+        assert_eq!(rt;
+            (
+                first_entry(rt.alloc(), bytes, named),
+                ValueType::try_from(4).ok()
+            ),
+            (answer, Some(ValueType::Indirection)),
+            "entry, row {row}"
+        );
+    }
     for &(key_len, value_len, item_len, file_len) in LENGTHS {
         assert_eq!(rt;
             (
@@ -155,37 +125,29 @@ fn lengths(rt: HostRuntime) {
                 JOURNAL_BUFFER_BYTES
             ),
             (Ok((item_len, file_len)), 8_192),
-            "{key_len}, {value_len}"
+            "lengths {key_len}, {value_len}"
         );
     }
 }
 
-/// An item with a key of this length that gets a value of this length.
-fn item_of(alloc: Global, key: usize, value: usize) -> Result<BatchItem> {
-    let key = vec![in alloc; 7u8; key]?;
-    let value = vec![in alloc; 9u8; value]?;
-    let op = Op::Put(Slice::new(alloc, &value)?);
-    Ok((1, Slice::new(alloc, &key)?, op))
-}
-
-fn items_of(alloc: Global, items: &[(usize, usize)]) -> Result<Vec<BatchItem>> {
-    let mut batch = Vec::new(alloc);
-    for (key, value) in items {
-        batch.push(item_of(alloc, *key, *value)?)?;
+/// Items of keys of these lengths that get values of these lengths.
+fn items_of(alloc: Global, lengths: &[(usize, usize)]) -> Result<Vec<BatchItem>> {
+    let mut items = Vec::new(alloc);
+    for &(key, value) in lengths {
+        let key = vec![in alloc; 7u8; key]?;
+        let value = vec![in alloc; 9u8; value]?;
+        let op = Op::Put(Slice::new(alloc, &value)?);
+        items.push((1, Slice::new(alloc, &key)?, op))?;
     }
-    Ok(batch)
-}
-
-fn write_items(disk: &mut MemoryDisk, writer: &mut Writer, items: &[BatchItem]) -> Result<usize> {
-    writer.write_batch(disk, items, 1)
+    Ok(items)
 }
 
 /// The length of a batch of these items, and the file's and the writer's behind it.
-fn batch_lengths(alloc: Global, items: &[(usize, usize)]) -> Result<(usize, u64, u64)> {
-    let items = items_of(alloc, items)?;
+fn batch_lengths(alloc: Global, lengths: &[(usize, usize)]) -> Result<(usize, u64, u64)> {
+    let items = items_of(alloc, lengths)?;
     let mut disk = MemoryDisk::new(alloc);
-    let mut writer = writer_on(alloc, &mut disk)?;
-    let count = write_items(&mut disk, &mut writer, &items)?;
+    let mut writer = Writer::create_new(alloc, &mut disk, "0.jnl")?;
+    let count = writer.write_batch(&mut disk, &items, 1)?;
     Ok((count, writer.len(), writer.pos()))
 }
 
@@ -200,13 +162,6 @@ const BATCHES: &[(&[(usize, usize)], Result<(usize, u64, u64)>)] = &[
     (&[(65_536, 0), (0, 1)], Err(Error::KeyEmpty)),
 ];
 
-#[test]
-fn lengths_of_batches(rt: HostRuntime) {
-    for (row, &(items, answer)) in BATCHES.iter().enumerate() {
-        assert_eq!(rt; batch_lengths(rt.alloc(), items), answer, "row {row}");
-    }
-}
-
 /// The lengths that a writer says, and how many bytes of the one insert its file has, if it has no others.
 type Seen = (u64, u64, Option<usize>);
 
@@ -218,18 +173,6 @@ fn state_of(alloc: Global, disk: &mut MemoryDisk, writer: &Writer) -> Result<See
     Ok((writer.len(), writer.pos(), file_len))
 }
 
-/// One insert: the length of its batch, and what is seen then.
-fn insert(alloc: Global, disk: &mut MemoryDisk) -> Result<(Writer, usize, Seen)> {
-    let mut writer = writer_on(alloc, disk)?;
-    let count = write(disk, &mut writer, b"a", b"b")?;
-    let before = state_of(alloc, disk, &writer)?;
-    Ok((writer, count, before))
-}
-
-fn persist(disk: &mut MemoryDisk, writer: &mut Writer, mode: PersistMode) -> Result<()> {
-    writer.persist(disk, mode)
-}
-
 /// What a further writer of a file of this length sees behind a crash.
 fn crashed(alloc: Global, disk: MemoryDisk, len: u64) -> Result<Seen> {
     let further = Writer::from_file(alloc, "0.jnl", len)?;
@@ -237,17 +180,19 @@ fn crashed(alloc: Global, disk: MemoryDisk, len: u64) -> Result<Seen> {
     state_of(alloc, &mut left, &further)
 }
 
-/// One insert that is persisted in this mode, while the disk fails at this call: what is seen before, what is
-/// answered, and what is seen then and behind a crash by a further writer.
+/// One insert that is persisted in this mode, while the disk fails at this call: its length and what is seen before,
+/// what is answered, and what is seen then and behind a crash by a further writer.
 fn persisted(
     alloc: Global,
     mode: PersistMode,
     call: u64,
 ) -> Result<(usize, Seen, Result<()>, Seen, Seen)> {
     let mut disk = MemoryDisk::new(alloc);
-    let (mut writer, count, before) = insert(alloc, &mut disk)?;
+    let mut writer = Writer::create_new(alloc, &mut disk, "0.jnl")?;
+    let count = writer.write_raw(&mut disk, 1, b"a", b"b", ValueType::Value, 1)?;
+    let before = state_of(alloc, &mut disk, &writer)?;
     disk.fail_at(call, 20);
-    let answer = persist(&mut disk, &mut writer, mode);
+    let answer = writer.persist(&mut disk, mode);
     let after = state_of(alloc, &mut disk, &writer)?;
     let last = crashed(alloc, disk, writer.len())?;
     Ok((count, before, answer, after, last))
@@ -295,7 +240,14 @@ const PERSISTED: &[(PersistMode, u64, Result<()>, Seen, Seen)] = &[
 ];
 
 #[test]
-fn a_writer_persists(rt: HostRuntime) {
+fn a_writer_writes_and_persists(rt: HostRuntime) {
+    for (row, &(items, answer)) in BATCHES.iter().enumerate() {
+        assert_eq!(rt;
+            batch_lengths(rt.alloc(), items),
+            answer,
+            "batch, row {row}"
+        );
+    }
     for &(mode, call, answer, after, last) in PERSISTED {
         assert_eq!(rt;
             persisted(rt.alloc(), mode, call),
@@ -337,33 +289,6 @@ fn contents_of(
     let contents = read_journal(alloc, text)?;
     let same = only_item(&contents.batches) == item;
     Ok((contents.batches.len(), same, contents.end, contents.tail))
-}
-
-#[test]
-fn cut_anywhere(rt: HostRuntime) {
-    for len in 0..=49usize {
-        let item = (1, 1, b"a".as_slice(), b"b".as_slice(), ValueType::Value);
-        let (count, wanted, end, tail) = match len {
-            0 => (0, None, 0, Tail::Clean),
-            49 => (1, Some(item), 49, Tail::Clean),
-            _ => (0, None, 0, Tail::Torn),
-        };
-        let text = ONE.get(..len).unwrap_or(ONE);
-        assert_eq!(rt;
-            contents_of(rt.alloc(), text, wanted),
-            Ok((count, true, end, tail)),
-            "{len} bytes"
-        );
-    }
-}
-
-/// The one insert with another byte at a place.
-fn with_byte(alloc: Global, at: usize, byte: u8) -> Result<Vec<u8>> {
-    let mut text = Vec::from_slice(alloc, ONE)?;
-    if let Some(other) = text.get_mut(at) {
-        *other = byte;
-    }
-    Ok(text)
 }
 
 const MISMATCH: JournalRecoveryError = JournalRecoveryError::ChecksumMismatch;
@@ -426,18 +351,32 @@ const DAMAGES: &[(usize, u8, Told, Tail)] = &[
     (48, 4, None, Tail::Torn),
 ];
 
-fn tail_of(alloc: Global, text: &[u8]) -> Result<Tail> {
-    Ok(read_journal(alloc, text)?.tail)
-}
-
 /// The tail of the one insert with another byte at a place, and what is told of that behind the one insert.
 fn damage_told(alloc: Global, at: usize, byte: u8) -> Result<(Tail, AllTold)> {
-    let text = with_byte(alloc, at, byte)?;
-    Ok((tail_of(alloc, &text)?, told(alloc, &text)?))
+    let mut text = Vec::from_slice(alloc, ONE)?;
+    if let Some(other) = text.get_mut(at) {
+        *other = byte;
+    }
+    let contents = read_journal(alloc, &text)?;
+    Ok((contents.tail, told(alloc, &text)?))
 }
 
 #[test]
-fn a_damage_is_told_once(rt: HostRuntime) {
+fn journals_are_read(rt: HostRuntime) {
+    for len in 0..=49usize {
+        let item = (1, 1, b"a".as_slice(), b"b".as_slice(), ValueType::Value);
+        let (count, wanted, end, tail) = match len {
+            0 => (0, None, 0, Tail::Clean),
+            49 => (1, Some(item), 49, Tail::Clean),
+            _ => (0, None, 0, Tail::Torn),
+        };
+        let text = ONE.get(..len).unwrap_or(ONE);
+        assert_eq!(rt;
+            contents_of(rt.alloc(), text, wanted),
+            Ok((count, true, end, tail)),
+            "{len} bytes"
+        );
+    }
     for &(at, byte, second, tail) in DAMAGES {
         let wanted = (Some(Ok(1)), 49, second, None, 49, tail);
         assert_eq!(rt;

@@ -1,7 +1,7 @@
 //! Worked rows of the meta keyspace, and calls of each public function.
 
 use fjall_base::{Error, Result, Slice, StorageError};
-use fjall_meta::{LivingKeyspace, MetaEntry, MetaKeyspace, is_valid_keyspace_name};
+use fjall_meta::{MetaEntry, MetaKeyspace, is_valid_keyspace_name};
 use fjall_options::{KeyspaceCreateOptions, StoredOption, encode_config_key, encode_name_key};
 use std::alloc::Global;
 use std::test::Fail;
@@ -33,54 +33,31 @@ const BY_NAME: &[StoredOption] = &[
 /// A keyspace with default options: its id, the number of its creation, and its name.
 type Named = (u64, u64, &'static [u8]);
 
-/// The pair of this option of a keyspace as it is wanted.
-fn config_entry(alloc: Global, id: u64, number: u64, option: StoredOption) -> Result<MetaEntry> {
-    let key = encode_config_key(alloc, id, option.name())?;
-    let value = Slice::new(alloc, option.default_value())?;
-    Ok(MetaEntry { key, value, number })
-}
-
-/// The pair of this keyspace's name as it is wanted.
-fn name_entry(alloc: Global, (id, number, name): Named) -> Result<MetaEntry> {
-    let key = encode_name_key(alloc, id)?;
-    let value = Slice::new(alloc, name)?;
-    Ok(MetaEntry { key, value, number })
-}
-
 /// The pairs of these keyspaces as they are wanted.
 fn wanted_entries(alloc: Global, living: &[Named]) -> Result<Vec<MetaEntry>> {
     let mut entries = Vec::new(alloc);
     for &(id, number, _) in living {
-        for &option in BY_NAME {
-            entries.push(config_entry(alloc, id, number, option)?)?;
+        for option in BY_NAME {
+            let key = encode_config_key(alloc, id, option.name())?;
+            let value = Slice::new(alloc, option.default_value())?;
+            entries.push(MetaEntry { key, value, number })?;
         }
     }
-    for &named in living {
-        entries.push(name_entry(alloc, named)?)?;
+    for &(id, number, name) in living {
+        let key = encode_name_key(alloc, id)?;
+        let value = Slice::new(alloc, name)?;
+        entries.push(MetaEntry { key, value, number })?;
     }
     Ok(entries)
-}
-
-/// Whether a keyspace that is asked for an option answers its default value.
-fn is_default(
-    alloc: Global,
-    keyspaces: &MetaKeyspace,
-    id: u64,
-    option: StoredOption,
-) -> Result<bool> {
-    let value = keyspaces.get_kv_for_config(alloc, id, option)?;
-    Ok(match &value {
-        Some(bytes) => bytes.as_slice() == option.default_value(),
-        None => false,
-    })
 }
 
 /// Whether each of these keyspaces that is asked for each option answers its default value.
 fn are_default(alloc: Global, keyspaces: &MetaKeyspace, living: &[Named]) -> Result<bool> {
     for &(id, _, _) in living {
         for &option in BY_NAME {
-            if !is_default(alloc, keyspaces, id, option)? {
-                return Ok(false);
+            match keyspaces.get_kv_for_config(alloc, id, option)? {
+                Some(bytes) if bytes.as_slice() == option.default_value() => {}
+                _ => return Ok(false),
             }
         }
     }
@@ -97,28 +74,20 @@ fn are_ordered(entries: &[MetaEntry]) -> bool {
 }
 
 /// Whether just these keyspaces live.
-fn are_living(alloc: Global, keyspaces: &MetaKeyspace, wanted: &[Named]) -> Result<bool> {
-    let mut living = Vec::new(alloc);
-    for keyspace in keyspaces.living() {
-        living.push((keyspace.id, keyspace.number, keyspace.name.as_slice()))?;
+fn are_living(keyspaces: &MetaKeyspace, wanted: &[Named]) -> bool {
+    for (keyspace, &(id, number, name)) in keyspaces.living().iter().zip(wanted) {
+        if (keyspace.id, keyspace.number, keyspace.name.as_slice()) != (id, number, name) {
+            return false;
+        }
     }
-    Ok(living.as_slice() == wanted)
+    keyspaces.living().len() == wanted.len()
 }
 
-/// Whether the pairs are those of these keyspaces, in the order of their keys.
-fn has_entries(alloc: Global, keyspaces: &MetaKeyspace, wanted: &[Named]) -> Result<bool> {
-    let entries = keyspaces.entries(alloc)?;
-    let wanted_entries = wanted_entries(alloc, wanted)?;
-    Ok(entries == wanted_entries && are_ordered(&entries))
-}
-
-/// Whether just these keyspaces live, and have these pairs, in the order of their keys.
+/// Whether just these keyspaces live, with default options, and have these pairs, in the order of their keys.
 fn has_living(alloc: Global, keyspaces: &MetaKeyspace, wanted: &[Named]) -> Result<bool> {
-    Ok(
-        are_living(alloc, keyspaces, wanted)?
-            && are_default(alloc, keyspaces, wanted)?
-            && has_entries(alloc, keyspaces, wanted)?,
-    )
+    let entries = keyspaces.entries(alloc)?;
+    let same = entries == wanted_entries(alloc, wanted)? && are_ordered(&entries);
+    Ok(same && are_living(keyspaces, wanted) && are_default(alloc, keyspaces, wanted)?)
 }
 
 /// Creates a keyspace of this name with default options.
@@ -150,24 +119,20 @@ enum Step {
 
 use Step::*;
 
-/// Puts the ids of these keyspaces behind the others.
-fn put_ids(living: &[LivingKeyspace], ids: &mut Vec<u64>) -> Result<()> {
-    for keyspace in living {
-        ids.push(keyspace.id)?;
-    }
-    Ok(())
-}
-
 /// Whether the others that are listed before the removal of a keyspace are those that live behind it.
 fn others_stay(alloc: Global, keyspaces: &mut MetaKeyspace, id: u64) -> Result<bool> {
     let mut others = Vec::new(alloc);
     let (front, behind) = keyspaces.living_without(id);
-    put_ids(front, &mut others)?;
-    put_ids(behind, &mut others)?;
+    for keyspace in front.iter().chain(behind) {
+        others.push(keyspace.id)?;
+    }
     keyspaces.remove_keyspace(id);
-    let mut left = Vec::new(alloc);
-    put_ids(keyspaces.living(), &mut left)?;
-    Ok(others == left)
+    for (at, keyspace) in keyspaces.living().iter().enumerate() {
+        if others.get(at) != Some(&keyspace.id) {
+            return Ok(false);
+        }
+    }
+    Ok(others.len() == keyspaces.living().len())
 }
 
 /// Takes a step, and answers the id that a creation answers, else whether what it says holds.
@@ -181,15 +146,6 @@ fn take(alloc: Global, keyspaces: &mut MetaKeyspace, step: Step) -> Result<u64> 
         ListOthersAndRemove(id) => return Ok(u64::from(others_stay(alloc, keyspaces, id)?)),
     }
     Ok(0)
-}
-
-/// The next id, and how many keyspaces and pairs there are.
-fn counts_of(keyspaces: &MetaKeyspace) -> (u64, usize, usize) {
-    (
-        keyspaces.next_id(),
-        keyspaces.keyspace_count(),
-        keyspaces.len(),
-    )
 }
 
 const LONGEST: [u8; 255] = [b'n'; 255];
@@ -230,23 +186,6 @@ const ROWS: &[(Step, Result<u64>, u64, &[Named])] = &[
     (Create(b"items", 7), Ok(1), 2, &[(1, 0, b"items")]),
 ];
 
-#[test]
-fn keyspaces_go_by_their_steps(rt: HostRuntime) {
-    let mut keyspaces = MetaKeyspace::new(rt.alloc());
-    for (row, &(step, answer, next_id, living)) in ROWS.iter().enumerate() {
-        let len = living.len();
-        assert_eq!(rt;
-            (
-                take(rt.alloc(), &mut keyspaces, step),
-                counts_of(&keyspaces),
-                has_living(rt.alloc(), &keyspaces, living)
-            ),
-            (answer, (next_id, len, len.saturating_mul(21)), Ok(true)),
-            "row {row}"
-        );
-    }
-}
-
 /// What the two keyspaces say of a name: the id, and whether it is there and may be one.
 type OfName = (Option<u64>, bool, bool);
 /// What they say of an id: the number, the name, and one of the options.
@@ -266,19 +205,6 @@ fn of_id(keyspaces: &MetaKeyspace, id: u64) -> (Option<u64>, Option<&[u8]>, Opti
         None => None,
     };
     (number, name, threshold)
-}
-
-/// Whether this is what the keyspaces say of an id.
-fn is_of_id(keyspaces: &MetaKeyspace, id: u64, wanted: OfId) -> bool {
-    of_id(keyspaces, id) == wanted
-}
-
-/// Whether this name is listed at a place, or "none" is wanted where there is no name.
-fn is_listed(names: &[Slice], at: usize, wanted: &[u8]) -> bool {
-    match names.get(at) {
-        Some(name) => name.as_slice() == wanted,
-        None => wanted == b"none".as_slice(),
-    }
 }
 
 // A name and what is said of it, an id and what is said of that, and the name that is listed at the row's place.
@@ -312,74 +238,46 @@ fn of_name(keyspaces: &MetaKeyspace, name: &str) -> OfName {
     )
 }
 
-/// Whether the keyspace 3 has a value of the option `version`.
-fn has_third(alloc: Global, keyspaces: &MetaKeyspace) -> Result<bool> {
-    let value = keyspaces.get_kv_for_config(alloc, 3, StoredOption::Version)?;
+/// Whether this name is listed at a place, or "none" is wanted where there is no name.
+fn is_listed(names: &[Slice], at: usize, wanted: &[u8]) -> bool {
+    match names.get(at) {
+        Some(name) => name.as_slice() == wanted,
+        None => wanted == b"none".as_slice(),
+    }
+}
+
+/// Whether a keyspace has a value of the option `version`.
+fn has_version(alloc: Global, keyspaces: &MetaKeyspace, id: u64) -> Result<bool> {
+    let value = keyspaces.get_kv_for_config(alloc, id, StoredOption::Version)?;
     Ok(value.is_some())
 }
 
 #[test]
-fn ids_and_names(rt: HostRuntime) -> std::result::Result<(), Fail> {
-    let keyspaces = two(rt.alloc())?;
-    let names = keyspaces.list_keyspace_names(rt.alloc())?;
-    for (row, &(name, said, id, wanted, listed)) in ASKED.iter().enumerate() {
-        assert_eq!(rt;
-            (
-                of_name(&keyspaces, name),
-                is_of_id(&keyspaces, id, wanted),
-                is_listed(&names, row, listed),
-                has_third(rt.alloc(), &keyspaces)
-            ),
-            (said, true, true, Ok(false)),
+fn keyspaces_go_by_their_steps(rt: HostRuntime) -> std::result::Result<(), Fail> {
+    let mut keyspaces = MetaKeyspace::new(rt.alloc());
+    for (row, &(step, answer, next_id, living)) in ROWS.iter().enumerate() {
+        let taken = take(rt.alloc(), &mut keyspaces, step);
+        let counts = (
+            keyspaces.next_id(),
+            keyspaces.keyspace_count(),
+            keyspaces.len(),
+        );
+        let len = living.len();
+        assert!(rt;
+            (taken, counts) == (answer, (next_id, len, len.saturating_mul(21)))
+                && has_living(rt.alloc(), &keyspaces, living) == Ok(true),
             "row {row}"
         );
     }
-    Ok(())
-}
-
-// Places of the pairs of one keyspace "items", and their keys and values.
-const PAIRS: &[(usize, &[u8], &[u8])] = &[
-    (
-        0,
-        b"c\x00\x00\x00\x00\x00\x00\x00\x01compaction_strategy",
-        b"LeveledCompaction",
-    ),
-    (
-        14,
-        b"c\x00\x00\x00\x00\x00\x00\x00\x01leveled_l0_threshold",
-        &[4],
-    ),
-    (20, b"n\x00\x00\x00\x00\x00\x00\x00\x01", b"items"),
-];
-
-/// The pairs of one keyspace "items".
-fn entries_of_items(alloc: Global) -> Result<Vec<MetaEntry>> {
-    let mut keyspaces = MetaKeyspace::new(alloc);
-    create(alloc, &mut keyspaces, b"items", 0)?;
-    keyspaces.entries(alloc)
-}
-
-/// Whether a pair is equal to its clone, and whether that is equal to another pair.
-fn equal_to_clone(entry: &MetaEntry, other: &MetaEntry) -> Result<(bool, bool)> {
-    let copy = entry.clone()?;
-    Ok((copy == *entry, copy == *other))
-}
-
-#[test]
-fn stored_pairs(rt: HostRuntime) -> std::result::Result<(), Fail> {
-    let entries = entries_of_items(rt.alloc())?;
-    assert_eq!(rt; entries.len(), 21);
-    for &(place, key, value) in PAIRS {
-        let Some(entry) = entries.get(place) else {
-            continue
-        };
-        assert_eq!(rt;
-            (
-                entry.key.as_slice() == key,
-                entry.value.as_slice() == value,
-                equal_to_clone(entry, &entries[7])
-            ),
-            (true, true, Ok((true, false)))
+    let keyspaces = two(rt.alloc())?;
+    let names = keyspaces.list_keyspace_names(rt.alloc())?;
+    for (row, &(name, said, id, wanted, listed)) in ASKED.iter().enumerate() {
+        assert!(rt;
+            of_name(&keyspaces, name) == said
+                && of_id(&keyspaces, id) == wanted
+                && is_listed(&names, row, listed)
+                && has_version(rt.alloc(), &keyspaces, 3) == Ok(false),
+            "asked, row {row}"
         );
     }
     Ok(())
@@ -392,6 +290,8 @@ enum Edit {
     /// All of them are left out.
     All,
     Reverse,
+    /// The one at this place is left out.
+    Without(usize),
     /// The one at this place has this value and number.
     Value(usize, &'static [u8], u64),
     /// They are of so many other keyspaces.
@@ -400,31 +300,30 @@ enum Edit {
 
 use Edit::*;
 
-/// The pairs of the two keyspaces.
-fn entries_of_two(alloc: Global) -> Result<Vec<MetaEntry>> {
-    let keyspaces = two(alloc)?;
-    keyspaces.entries(alloc)
-}
-
-/// The pairs of the two keyspaces without the one at this place.
-fn without(alloc: Global, at: usize) -> Result<Vec<MetaEntry>> {
-    let mut entries = entries_of_two(alloc)?;
-    if at < entries.len() {
-        entries.remove(at);
+/// Pairs of keyspaces that are changed so.
+fn edited(alloc: Global, edit: Edit) -> Result<Vec<MetaEntry>> {
+    let mut entries = two(alloc)?.entries(alloc)?;
+    match edit {
+        Nothing => {}
+        All => entries.clear(),
+        Reverse => entries.reverse(),
+        Without(at) if at < entries.len() => {
+            entries.remove(at);
+        }
+        Without(_) => {}
+        Value(at, value, number) => {
+            let value = Slice::new(alloc, value)?;
+            if let Some(entry) = entries.get_mut(at) {
+                entry.value = value;
+                entry.number = number;
+            }
+        }
+        Many(count) => return many(alloc, count),
     }
     Ok(entries)
 }
 
-/// The pairs of the two keyspaces, where the one at this place has another value and number.
-fn with(alloc: Global, at: usize, value: &[u8], number: u64) -> Result<Vec<MetaEntry>> {
-    let mut entries = entries_of_two(alloc)?;
-    if let Some(entry) = entries.get_mut(at) {
-        entry.value = Slice::new(alloc, value)?;
-        entry.number = number;
-    }
-    Ok(entries)
-}
-
+/// The pairs of so many keyspaces.
 fn many(alloc: Global, count: u64) -> Result<Vec<MetaEntry>> {
     let mut keyspaces = MetaKeyspace::new(alloc);
     for number in 0..count {
@@ -432,20 +331,6 @@ fn many(alloc: Global, count: u64) -> Result<Vec<MetaEntry>> {
         create(alloc, &mut keyspaces, name.as_bytes(), number)?;
     }
     keyspaces.entries(alloc)
-}
-
-fn edited(alloc: Global, edit: Edit) -> Result<Vec<MetaEntry>> {
-    match edit {
-        Nothing => entries_of_two(alloc),
-        All => Ok(Vec::new(alloc)),
-        Reverse => {
-            let mut entries = entries_of_two(alloc)?;
-            entries.reverse();
-            Ok(entries)
-        }
-        Value(at, value, number) => with(alloc, at, value, number),
-        Many(count) => many(alloc, count),
-    }
 }
 
 /// What is read back: the count of keyspaces, the next id, the id of "a", the number of keyspace 150, and whether the
@@ -486,23 +371,57 @@ fn edited_back(alloc: Global, edit: Edit, next_id: u64) -> Back {
     read_back(alloc, &entries, next_id)
 }
 
+// Places of the pairs of one keyspace "items", and their keys and values.
+const PAIRS: &[(usize, &[u8], &[u8])] = &[
+    (
+        0,
+        b"c\x00\x00\x00\x00\x00\x00\x00\x01compaction_strategy",
+        b"LeveledCompaction",
+    ),
+    (
+        14,
+        b"c\x00\x00\x00\x00\x00\x00\x00\x01leveled_l0_threshold",
+        &[4],
+    ),
+    (20, b"n\x00\x00\x00\x00\x00\x00\x00\x01", b"items"),
+];
+
+/// Whether a pair has this key and value, is equal to its clone, and that not to another one.
+fn is_pair(entry: &MetaEntry, key: &[u8], value: &[u8], other: &MetaEntry) -> Result<bool> {
+    let copy = entry.clone()?;
+    let same = entry.key.as_slice() == key && entry.value.as_slice() == value;
+    Ok(same && copy == *entry && copy != *other)
+}
+
+/// Whether the pair at this place of one keyspace "items" is this one, among 21.
+fn is_stored(alloc: Global, place: usize, key: &[u8], value: &[u8]) -> Result<bool> {
+    let mut keyspaces = MetaKeyspace::new(alloc);
+    create(alloc, &mut keyspaces, b"items", 0)?;
+    let entries = keyspaces.entries(alloc)?;
+    let (Some(entry), Some(other)) = (entries.get(place), entries.get(7)) else {
+        return Ok(false);
+    };
+    Ok(entries.len() == 21 && is_pair(entry, key, value, other)?)
+}
+
 #[test]
-fn pairs_read_back(rt: HostRuntime) {
+fn pairs_are_stored_and_read_back(rt: HostRuntime) {
+    for &(place, key, value) in PAIRS {
+        assert_eq!(rt;
+            is_stored(rt.alloc(), place, key, value),
+            Ok(true),
+            "pair {place}"
+        );
+    }
     for (row, &(edit, next_id, answer)) in BACK.iter().enumerate() {
         assert_eq!(rt; edited_back(rt.alloc(), edit, next_id), answer, "row {row}");
     }
-}
-
-/// What is read back where the pair at this place is missing.
-fn without_back(alloc: Global, at: usize) -> Back {
-    let entries = without(alloc, at)?;
-    read_back(alloc, &entries, 3)
-}
-
-#[test]
-fn missing_pairs(rt: HostRuntime) {
     for at in 0..42 {
         let missing = Err(Error::Storage(StorageError::OptionMissing));
-        assert_eq!(rt; without_back(rt.alloc(), at), missing, "at {at}");
+        assert_eq!(rt;
+            edited_back(rt.alloc(), Without(at), 3),
+            missing,
+            "without {at}"
+        );
     }
 }

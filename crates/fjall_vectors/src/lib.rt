@@ -1,20 +1,20 @@
-//! Worked rows of errors and disks, of the formats and of what stands in memory, and calls of each public function.
+//! Worked rows of the formats and of what stands in memory, and calls of each public function there.
 #![tactic(auto)]
 
 #[cfg(test)]
-mod base;
+mod errors;
 #[cfg(test)]
 mod journal;
 #[cfg(test)]
 mod keyspaces;
 #[cfg(test)]
-mod machine;
+mod names;
 #[cfg(test)]
-mod meta;
+mod options;
 #[cfg(test)]
 mod reading;
 #[cfg(test)]
-mod refusals;
+mod tracker;
 #[cfg(test)]
 mod tree;
 #[cfg(test)]

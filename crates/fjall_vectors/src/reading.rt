@@ -8,15 +8,10 @@ use std::alloc::Global;
 use std::ops::Bound::{self, Excluded, Included, Unbounded};
 use std::test::Fail;
 
-/// Whether these are the bounds.
-fn are_bounds(range: &KeyRange, wanted: KeyBounds<'_>) -> bool {
-    bounds_of(range) == wanted
-}
-
 /// Whether the keys that begin with a prefix lie between these bounds.
 fn is_prefix(alloc: Global, prefix: &[u8], wanted: KeyBounds<'_>) -> Result<bool> {
     let range = prefix_to_range(alloc, prefix)?;
-    Ok(are_bounds(&range, wanted))
+    Ok(bounds_of(&range) == wanted)
 }
 
 /// Whether those of a range lie between these ones behind a prefix.
@@ -27,7 +22,7 @@ fn is_behind(
     wanted: KeyBounds<'_>,
 ) -> Result<bool> {
     let range = prefixed_range(alloc, prefix, range)?;
-    Ok(are_bounds(&range, wanted))
+    Ok(bounds_of(&range) == wanted)
 }
 
 /// Where a range begins, and where it ends.
@@ -44,20 +39,6 @@ const PREFIXES: &[(&[u8], Bounds)] = &[
     (b"\xff\x00", (Included(b"\xff\x00"), Excluded(b"\xff\x01"))),
 ];
 
-#[test]
-fn prefixes_have_bounds(rt: HostRuntime) {
-    for (row, &(prefix, bounds)) in PREFIXES.iter().enumerate() {
-        assert_eq!(rt;
-            (
-                is_prefix(rt.alloc(), prefix, bounds),
-                is_behind(rt.alloc(), prefix, ALL, bounds)
-            ),
-            (Ok(true), Ok(true)),
-            "row {row}"
-        );
-    }
-}
-
 // Bounds, and those behind the prefix "p".
 const BEHIND: &[(Bounds, Bounds)] = &[
     (
@@ -72,12 +53,22 @@ const BEHIND: &[(Bounds, Bounds)] = &[
 ];
 
 #[test]
-fn ranges_lie_behind_prefixes(rt: HostRuntime) {
+fn ranges_have_bounds(rt: HostRuntime) {
+    for (row, &(prefix, bounds)) in PREFIXES.iter().enumerate() {
+        assert_eq!(rt;
+            (
+                is_prefix(rt.alloc(), prefix, bounds),
+                is_behind(rt.alloc(), prefix, ALL, bounds)
+            ),
+            (Ok(true), Ok(true)),
+            "prefix, row {row}"
+        );
+    }
     for (row, &(range, bounds)) in BEHIND.iter().enumerate() {
         assert_eq!(rt;
             is_behind(rt.alloc(), b"p", range, bounds),
             Ok(true),
-            "row {row}"
+            "behind, row {row}"
         );
     }
 }
@@ -157,19 +148,6 @@ fn abcd(alloc: Global) -> Result<Kept> {
     Ok(Kept { alloc, pairs })
 }
 
-/// The key of the next pair that is left, or of the last one.
-fn take(cursor: &mut Cursor, kept: &mut Kept, back: bool) -> Result<Option<UserKey>> {
-    let found = if back {
-        cursor.next_back(kept)
-    } else {
-        cursor.next(kept)
-    };
-    match found {
-        Some(pair) => Ok(Some(pair?.0)),
-        None => Ok(None),
-    }
-}
-
 /// Whether this is the key of the next pair that is left, or of the last one.
 fn is_next(
     cursor: &mut Cursor,
@@ -177,11 +155,16 @@ fn is_next(
     back: bool,
     wanted: Option<&[u8]>,
 ) -> Result<bool> {
-    Ok(match (take(cursor, kept, back)?, wanted) {
-        (Some(key), Some(bytes)) => key.as_slice() == bytes,
-        (None, None) => true,
-        _ => false,
-    })
+    let found = if back {
+        cursor.next_back(kept)
+    } else {
+        cursor.next(kept)
+    };
+    match (found, wanted) {
+        (Some(pair), Some(bytes)) => Ok(pair?.0.as_slice() == bytes),
+        (None, None) => Ok(true),
+        _ => Ok(false),
+    }
 }
 
 // Whether a pair is taken from behind, and its key.

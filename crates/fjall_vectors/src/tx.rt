@@ -15,18 +15,14 @@ enum Mark {
 
 use Mark::*;
 
-fn put_mark(marks: &mut ConflictManager, mark: Mark) -> Result<()> {
-    match mark {
-        Read(key) => marks.mark_read(1, key),
-        Range(start, end) => marks.mark_range(1, (start, end)),
-        Write(keyspace_id, key) => marks.mark_conflict(keyspace_id, key),
-    }
-}
-
 fn marks_of(alloc: Global, named: &[Mark]) -> Result<ConflictManager> {
     let mut marks = ConflictManager::new(alloc);
     for &mark in named {
-        put_mark(&mut marks, mark)?;
+        match mark {
+            Read(key) => marks.mark_read(1, key)?,
+            Range(start, end) => marks.mark_range(1, (start, end))?,
+            Write(keyspace_id, key) => marks.mark_conflict(keyspace_id, key)?,
+        }
     }
     Ok(marks)
 }
@@ -88,17 +84,6 @@ fn meetings(alloc: Global, mark: Mark, writes: &[Mark]) -> Result<(bool, bool)> 
     Ok((marks.has_conflict(&written), written.has_conflict(&marks)))
 }
 
-#[test]
-fn marks_meet_writes(rt: HostRuntime) {
-    for (row, &(mark, writes, meets)) in MEETINGS.iter().enumerate() {
-        assert_eq!(rt;
-            meetings(rt.alloc(), mark, writes),
-            Ok((meets, false)),
-            "row {row}"
-        );
-    }
-}
-
 #[derive(Clone, Copy)]
 enum Step {
     /// A transaction commits under this number, which wrote this key.
@@ -110,38 +95,24 @@ enum Step {
 
 use Step::*;
 
-/// A transaction that wrote this key commits under this number.
-fn push(alloc: Global, oracle: &mut Oracle, number: u64, key: &'static [u8]) -> Result<()> {
-    let written = marks_of(alloc, &[Write(1, key)])?;
-    match oracle.push(number, written) {
-        Ok(()) => Ok(()),
-        Err(refused) => Err(refused.error),
-    }
-}
-
-/// Whether one that began at this instant and read this key is in conflict.
-fn is_in_conflict(
-    alloc: Global,
-    oracle: &Oracle,
-    instant: u64,
-    key: &'static [u8],
-) -> Result<bool> {
-    let read = marks_of(alloc, &[Read(key)])?;
-    Ok(oracle.has_conflict(instant, &read))
-}
-
 /// Takes a step, and answers whether one that asks is in conflict.
 fn take(alloc: Global, oracle: &mut Oracle, step: Step) -> Result<bool> {
     match step {
         Push(number, key) => {
-            push(alloc, oracle, number, key)?;
-            Ok(false)
+            let written = marks_of(alloc, &[Write(1, key)])?;
+            match oracle.push(number, written) {
+                Ok(()) => Ok(false),
+                Err(refused) => Err(refused.error),
+            }
         }
         Prune(watermark) => {
             oracle.prune(watermark);
             Ok(false)
         }
-        Ask(instant, key) => is_in_conflict(alloc, oracle, instant, key),
+        Ask(instant, key) => {
+            let read = marks_of(alloc, &[Read(key)])?;
+            Ok(oracle.has_conflict(instant, &read))
+        }
     }
 }
 
@@ -167,14 +138,21 @@ fn are_printed(alloc: Global) -> Result<bool> {
 }
 
 #[test]
-fn an_oracle_goes_by_its_steps(rt: HostRuntime) {
+fn marks_meet_writes(rt: HostRuntime) {
+    for (row, &(mark, writes, meets)) in MEETINGS.iter().enumerate() {
+        assert_eq!(rt;
+            meetings(rt.alloc(), mark, writes),
+            Ok((meets, false)),
+            "row {row}"
+        );
+    }
     let are_printed = are_printed(rt.alloc());
     let mut oracle = Oracle::new(rt.alloc());
     for (row, &(step, answer)) in STEPS.iter().enumerate() {
         assert_eq!(rt;
             (take(rt.alloc(), &mut oracle, step), are_printed),
             (Ok(answer), Ok(true)),
-            "row {row}"
+            "step {row}"
         );
     }
 }

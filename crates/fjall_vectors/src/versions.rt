@@ -15,36 +15,23 @@ enum Named {
 
 use Named::*;
 
-/// An item that says this of a key, with the value "v".
-fn item(
-    alloc: Global,
-    keyspace_id: u64,
-    key: &[u8],
-    value_type: ValueType,
-) -> Result<ReadBatchItem> {
-    Ok(ReadBatchItem {
-        keyspace_id,
-        key: Slice::new(alloc, key)?,
-        value: Slice::new(alloc, b"v")?,
-        value_type,
-    })
-}
-
-fn items_of(alloc: Global, id: u64, key: &[u8], points: bool) -> Result<Vec<ReadBatchItem>> {
-    let mut items = Vec::new(alloc);
-    items.push(item(alloc, id, key, ValueType::Value)?)?;
-    if points {
-        items.push(item(alloc, id, key, ValueType::Indirection)?)?;
-    }
-    Ok(items)
-}
-
+/// The batch that is named.
 fn batch(alloc: Global, named: Named) -> Result<Batch> {
-    let (seqno, id, key) = match named {
-        Puts(seqno, id, key) => (seqno, id, key),
-        Points(seqno) => (seqno, 1, b"k".as_slice()),
+    let (seqno, keyspace_id, key, types) = match named {
+        Puts(seqno, id, key) => (seqno, id, key, [ValueType::Value].as_slice()),
+        Points(seqno) => (seqno, 1, b"k".as_slice(), BOTH),
     };
-    let items = items_of(alloc, id, key, matches!(named, Points(_)))?;
+    let mut items = Vec::new(alloc);
+    for &value_type in types {
+        let key = Slice::new(alloc, key)?;
+        let value = Slice::new(alloc, b"v")?;
+        items.push(ReadBatchItem {
+            keyspace_id,
+            key,
+            value,
+            value_type,
+        })?;
+    }
     Ok(Batch {
         seqno,
         items,
@@ -52,13 +39,7 @@ fn batch(alloc: Global, named: Named) -> Result<Batch> {
     })
 }
 
-fn batches_of(alloc: Global, named: &[Named]) -> Result<Vec<Batch>> {
-    let mut batches = Vec::new(alloc);
-    for one in named {
-        batches.push(batch(alloc, *one)?)?;
-    }
-    Ok(batches)
-}
+const BOTH: &[ValueType] = &[ValueType::Value, ValueType::Indirection];
 
 const LAST: u64 = (1 << 63) - 1;
 
@@ -85,7 +66,10 @@ const CHECKED: &[(&[Named], u64, Result<u64>)] = &[
 
 /// The number behind these batches, or their first fault.
 fn checked(alloc: Global, named: &[Named], least: u64) -> Result<u64> {
-    let batches = batches_of(alloc, named)?;
+    let mut batches = Vec::new(alloc);
+    for one in named {
+        batches.push(batch(alloc, *one)?)?;
+    }
     check_batches(&batches, least)
 }
 

@@ -39,115 +39,6 @@ const COUNTS: &[(Call, u64)] = &[
     (Allocate(1), u64::MAX),
 ];
 
-#[test]
-fn bytes_are_counted(rt: HostRuntime) {
-    let mut buffers = WriteBufferManager::new();
-    for (row, &(call, answer)) in COUNTS.iter().enumerate() {
-        assert_eq!(rt;
-            (count(&mut buffers, call), buffers.get()),
-            (answer, answer),
-            "row {row}"
-        );
-    }
-}
-
-/// A write to the keyspace 1.
-#[derive(Clone, Copy)]
-enum Write {
-    Insert(&'static [u8], &'static [u8]),
-    Remove(&'static [u8]),
-    RemoveWeak(&'static [u8]),
-}
-
-fn slice(alloc: Global, bytes: &[u8]) -> Result<Slice> {
-    Ok(Slice::new(alloc, bytes)?)
-}
-
-/// Adds a write to a batch.
-fn add(alloc: Global, batch: &mut OwnedWriteBatch<()>, write: Write) -> Result<()> {
-    match write {
-        Write::Insert(key, value) => {
-            let key = slice(alloc, key)?;
-            batch.insert(&1, key, slice(alloc, value)?)
-        }
-        Write::Remove(key) => batch.remove(&1, slice(alloc, key)?),
-        Write::RemoveWeak(key) => batch.remove_weak(&1, slice(alloc, key)?),
-    }
-}
-
-// A write and its answer; how many items the batch has then.
-const WRITES: &[(Write, Result<()>, usize)] = &[
-    (Write::Insert(b"", b"v"), Err(Error::KeyEmpty), 0),
-    (Write::Insert(b"k", b"v"), Ok(()), 1),
-    (Write::Remove(b""), Err(Error::KeyEmpty), 1),
-    (Write::Remove(b"k"), Ok(()), 2),
-    (Write::RemoveWeak(b"k"), Ok(()), 3),
-    (Write::Insert(b"k", b""), Ok(()), 4),
-];
-
-#[test]
-fn batches_take_writes(rt: HostRuntime) -> std::result::Result<(), Fail> {
-    let mode = Some(PersistMode::SyncAll);
-    let mut batch = OwnedWriteBatch::with_capacity(rt.alloc(), (), 1)?.durability(mode);
-    for (row, &(write, answer, count)) in WRITES.iter().enumerate() {
-        assert_eq!(rt;
-            (
-                add(rt.alloc(), &mut batch, write),
-                batch.len(),
-                batch.is_empty(),
-                batch.mode()
-            ),
-            (answer, count, count == 0, mode),
-            "row {row}"
-        );
-    }
-    assert_eq!(rt; batch.into_items().len(), 4);
-    Ok(())
-}
-
-/// Adds a write to a bulk write.
-fn ingest(alloc: Global, ingestion: &mut Ingestion<()>, write: Write) -> Result<()> {
-    match write {
-        Write::Insert(key, value) => {
-            let key = slice(alloc, key)?;
-            ingestion.write(key, slice(alloc, value)?)
-        }
-        Write::Remove(key) => ingestion.write_tombstone(slice(alloc, key)?),
-        Write::RemoveWeak(key) => ingestion.write_weak_tombstone(slice(alloc, key)?),
-    }
-}
-
-// A write and its answer; how many items the bulk write has then.
-const INGESTED: &[(Write, Result<()>, usize)] = &[
-    (Write::Insert(b"", b"v"), Err(Error::KeyEmpty), 0),
-    (Write::Insert(&[0], b""), Ok(()), 1),
-    (Write::Insert(&[0], b""), Err(Error::KeyOrder), 1),
-    (Write::Remove(&[0, 0]), Ok(()), 2),
-    (Write::RemoveWeak(&[0]), Err(Error::KeyOrder), 2),
-    (Write::RemoveWeak(&[1]), Ok(()), 3),
-    (Write::Remove(&[0, 255]), Err(Error::KeyOrder), 3),
-    (Write::Remove(b""), Err(Error::KeyEmpty), 3),
-    (Write::Insert(&[1, 0], b"v"), Ok(()), 4),
-];
-
-#[test]
-fn keys_of_a_bulk_write_ascend(rt: HostRuntime) -> std::result::Result<(), Fail> {
-    let mut ingestion = Ingestion::new(rt.alloc(), ());
-    for (row, &(write, answer, count)) in INGESTED.iter().enumerate() {
-        assert_eq!(rt;
-            (
-                ingest(rt.alloc(), &mut ingestion, write),
-                ingestion.len(),
-                ingestion.is_empty()
-            ),
-            (answer, count, count == 0),
-            "row {row}"
-        );
-    }
-    assert_eq!(rt; ingestion.into_items().len(), 4);
-    Ok(())
-}
-
 /// A call of the queue of flushes.
 #[derive(Clone, Copy)]
 enum QueueCall {
@@ -180,14 +71,101 @@ const TURNS: &[(QueueCall, Option<u64>, usize)] = &[
 ];
 
 #[test]
-fn keyspaces_wait_for_a_flush_once(rt: HostRuntime) -> std::result::Result<(), Fail> {
+fn bytes_are_counted_and_flushes_wait(rt: HostRuntime) {
+    let mut buffers = WriteBufferManager::new();
+    for (row, &(call, answer)) in COUNTS.iter().enumerate() {
+        assert_eq!(rt;
+            (count(&mut buffers, call), buffers.get()),
+            (answer, answer),
+            "count, row {row}"
+        );
+    }
     let mut queue = FlushManager::new(rt.alloc());
     for (row, &(call, answer, count)) in TURNS.iter().enumerate() {
         assert_eq!(rt;
-            (call_queue(&mut queue, call)?, queue.len(), queue.is_empty()),
-            (answer, count, count == 0),
-            "row {row}"
+            (call_queue(&mut queue, call), queue.len(), queue.is_empty()),
+            (Ok(answer), count, count == 0),
+            "queue, row {row}"
         );
     }
+}
+
+/// A write to the keyspace 1.
+#[derive(Clone, Copy)]
+enum Write {
+    Insert(&'static [u8], &'static [u8]),
+    Remove(&'static [u8]),
+    RemoveWeak(&'static [u8]),
+}
+
+/// Adds a write to a batch.
+fn add(alloc: Global, batch: &mut OwnedWriteBatch<()>, write: Write) -> Result<()> {
+    match write {
+        Write::Insert(key, value) => {
+            let value = Slice::new(alloc, value)?;
+            batch.insert(&1, Slice::new(alloc, key)?, value)
+        }
+        Write::Remove(key) => batch.remove(&1, Slice::new(alloc, key)?),
+        Write::RemoveWeak(key) => batch.remove_weak(&1, Slice::new(alloc, key)?),
+    }
+}
+
+// A write and its answer; how many items the batch has then.
+const WRITES: &[(Write, Result<()>, usize)] = &[
+    (Write::Insert(b"", b"v"), Err(Error::KeyEmpty), 0),
+    (Write::Insert(b"k", b"v"), Ok(()), 1),
+    (Write::Remove(b""), Err(Error::KeyEmpty), 1),
+    (Write::Remove(b"k"), Ok(()), 2),
+    (Write::RemoveWeak(b"k"), Ok(()), 3),
+    (Write::Insert(b"k", b""), Ok(()), 4),
+];
+
+/// Adds a write to a bulk write.
+fn ingest(alloc: Global, ingestion: &mut Ingestion<()>, write: Write) -> Result<()> {
+    match write {
+        Write::Insert(key, value) => {
+            let value = Slice::new(alloc, value)?;
+            ingestion.write(Slice::new(alloc, key)?, value)
+        }
+        Write::Remove(key) => ingestion.write_tombstone(Slice::new(alloc, key)?),
+        Write::RemoveWeak(key) => ingestion.write_weak_tombstone(Slice::new(alloc, key)?),
+    }
+}
+
+// A write and its answer; how many items the bulk write has then.
+const INGESTED: &[(Write, Result<()>, usize)] = &[
+    (Write::Insert(b"", b"v"), Err(Error::KeyEmpty), 0),
+    (Write::Insert(&[0], b""), Ok(()), 1),
+    (Write::Insert(&[0], b""), Err(Error::KeyOrder), 1),
+    (Write::Remove(&[0, 0]), Ok(()), 2),
+    (Write::RemoveWeak(&[0]), Err(Error::KeyOrder), 2),
+    (Write::RemoveWeak(&[1]), Ok(()), 3),
+    (Write::Remove(&[0, 255]), Err(Error::KeyOrder), 3),
+    (Write::Remove(b""), Err(Error::KeyEmpty), 3),
+    (Write::Insert(&[1, 0], b"v"), Ok(()), 4),
+];
+
+#[test]
+fn batches_and_bulk_writes_take_writes(rt: HostRuntime) -> std::result::Result<(), Fail> {
+    let mode = Some(PersistMode::SyncAll);
+    let mut batch = OwnedWriteBatch::with_capacity(rt.alloc(), (), 1)?.durability(mode);
+    for (row, &(write, answer, count)) in WRITES.iter().enumerate() {
+        let added = add(rt.alloc(), &mut batch, write);
+        assert_eq!(rt;
+            (added, batch.len(), batch.is_empty(), batch.mode()),
+            (answer, count, count == 0, mode),
+            "batch, row {row}"
+        );
+    }
+    let mut bulk = Ingestion::new(rt.alloc(), ());
+    for (row, &(write, answer, count)) in INGESTED.iter().enumerate() {
+        let added = ingest(rt.alloc(), &mut bulk, write);
+        assert_eq!(rt;
+            (added, bulk.len(), bulk.is_empty()),
+            (answer, count, count == 0),
+            "bulk write, row {row}"
+        );
+    }
+    assert_eq!(rt; (batch.into_items().len(), bulk.into_items().len()), (4, 4));
     Ok(())
 }

@@ -1,4 +1,4 @@
-//! Worked rows of the formats, and damaged inputs.
+//! Worked rows of records and blocks, and damaged inputs.
 
 use super::{
     Named, are_equal, checksum, payload_of, payload_of_keys, put_framed, version_of, versions_of,
@@ -32,8 +32,8 @@ fn table(id: u64, level: Level) -> TableInfo {
 fn text_of(alloc: Global, fields: Fields) -> Result<Vec<u8>> {
     let (persisted, highest, next_table_id, named, clears) = fields;
     let mut tables = Vec::new(alloc);
-    for (id, level) in named {
-        tables.push(table(*id, *level))?;
+    for &(id, level) in named {
+        tables.push(table(id, level))?;
     }
     let record = Record {
         persisted,
@@ -65,20 +65,6 @@ const DAMAGED: Result<(usize, bool)> = Err(Error::Storage(StorageError::RecordDa
 const EMPTY: Fields = (None, None, 1, &[], &[]);
 
 const ONE_TABLE: Fields = (Some(7), Some(9), 2, &[(1, Level::L1)], &[]);
-
-/// The text, where the byte at a place is another one, if one is given, and the check is right again.
-fn with_byte(alloc: Global, text: &[u8], other: Option<(usize, u8)>) -> Result<Vec<u8>> {
-    let mut changed = Vec::from_slice(alloc, text)?;
-    changed.truncate(text.len().saturating_sub(8));
-    if let Some((at, byte)) = other
-        && let Some(place) = changed.get_mut(at)
-    {
-        *place = byte;
-    }
-    let sum = checksum(&changed);
-    changed.extend_from_slice(&sum)?;
-    Ok(changed)
-}
 
 // A record, a byte of its text that is another one, the length of the text, and what is read there.
 const RECORDS: &[(Fields, Option<(usize, u8)>, usize, Result<(usize, bool)>)] = &[
@@ -127,26 +113,24 @@ const RECORDS: &[(Fields, Option<(usize, u8)>, usize, Result<(usize, bool)>)] = 
     (ONE_TABLE, Some((51, 0)), 80, Ok((80, true))),
 ];
 
-/// The length of a record's text with another byte, what is read there, and whether it is the text without that byte.
+/// The length of a record's text, where the byte at a place is another one, if one is given, and the check is right
+/// again; what is read there, and whether it is the text without that byte.
 fn record_read(
     alloc: Global,
     fields: Fields,
     other: Option<(usize, u8)>,
 ) -> Result<(usize, Result<(usize, bool)>, bool)> {
     let whole = text_of(alloc, fields)?;
-    let text = with_byte(alloc, &whole, other)?;
-    Ok((text.len(), read(alloc, &text), text == whole))
-}
-
-#[test]
-fn records(rt: HostRuntime) {
-    for (row, &(fields, other, len, answer)) in RECORDS.iter().enumerate() {
-        assert_eq!(rt;
-            record_read(rt.alloc(), fields, other),
-            Ok((len, answer, other.is_none())),
-            "row {row}"
-        );
+    let mut text = Vec::from_slice(alloc, &whole)?;
+    text.truncate(whole.len().saturating_sub(8));
+    if let Some((at, byte)) = other
+        && let Some(place) = text.get_mut(at)
+    {
+        *place = byte;
     }
+    let sum = checksum(&text);
+    text.extend_from_slice(&sum)?;
+    Ok((text.len(), read(alloc, &text), text == whole))
 }
 
 /// What the last record says, and how many clears it has.
@@ -174,21 +158,30 @@ fn two_records(alloc: Global) -> Result<Vec<u8>> {
     Ok(bytes)
 }
 
-/// Whether the last record of a text is this one, and where the whole records end.
-fn last_read(alloc: Global, text: &[u8], last: Shown<'_>) -> Result<(bool, usize)> {
-    let current = read_current(alloc, text)?;
-    Ok((shown(&current.record) == last, current.end))
-}
-
-/// Where the whole records end if the byte at this place is changed.
-fn changed_end(alloc: Global, bytes: &[u8], at: usize) -> Result<usize> {
+/// Of a text that is cut at a place, whether its last record is this one and where the whole records end; and where they
+/// end if the byte there is changed.
+fn cut_and_changed(
+    alloc: Global,
+    bytes: &[u8],
+    at: usize,
+    last: Shown<'_>,
+) -> Result<(bool, usize, usize)> {
+    let current = read_current(alloc, bytes.get(..at).unwrap_or(&[]))?;
     let changed = with_other_bit(alloc, bytes, at)?;
-    Ok(read_current(alloc, &changed)?.end)
+    let end = read_current(alloc, &changed)?.end;
+    Ok((shown(&current.record) == last, current.end, end))
 }
 
 // Two records, cut at each length, and with each byte changed.
 #[test]
-fn cut_and_changed_anywhere(rt: HostRuntime) -> std::result::Result<(), Fail> {
+fn records(rt: HostRuntime) -> std::result::Result<(), Fail> {
+    for (row, &(fields, other, len, answer)) in RECORDS.iter().enumerate() {
+        assert_eq!(rt;
+            record_read(rt.alloc(), fields, other),
+            Ok((len, answer, other.is_none())),
+            "row {row}"
+        );
+    }
     let bytes = two_records(rt.alloc())?;
     let tables = [table(1, Level::L1)];
     for at in 0..=135usize {
@@ -197,14 +190,9 @@ fn cut_and_changed_anywhere(rt: HostRuntime) -> std::result::Result<(), Fail> {
             55..135 => (Some((None, None, 1, 1, &[], 0)), 55),
             _ => (None, 0),
         };
-        let cut = bytes.get(..at).unwrap_or(&[]);
         assert_eq!(rt;
-            (
-                last_read(rt.alloc(), cut, last),
-                changed_end(rt.alloc(), &bytes, at),
-                bytes.len()
-            ),
-            (Ok((true, end)), Ok(end), 135),
+            (cut_and_changed(rt.alloc(), &bytes, at, last), bytes.len()),
+            (Ok((true, end, end)), 135),
             "at {at}"
         );
     }
@@ -228,24 +216,15 @@ fn block_of(alloc: Global, entries: Entries) -> Result<Vec<u8>> {
     Ok(out)
 }
 
-fn are_named(alloc: Global, versions: &[TableEntry<'_>], named: &[Named]) -> Result<bool> {
-    let others = versions_of(alloc, named, b"b")?;
-    Ok(are_equal(versions, &others))
-}
-
-/// Whether a block spells these versions.
-fn is_spelled(alloc: Global, versions: &[TableEntry<'_>], block: &[u8]) -> Result<bool> {
-    let payload = payload_of(alloc, versions)?;
-    let end = block.len().saturating_sub(8);
-    Ok(payload.as_slice() == block.get(8..end).unwrap_or(&[]))
-}
-
 /// How many versions are read in a block, and whether they are these.
 fn block_read(alloc: Global, bytes: &[u8], entries: Entries) -> Result<(usize, bool)> {
     let versions = read_block(alloc, bytes)?;
     let same = match entries {
-        Entries::Versions(named) => are_named(alloc, &versions, named)?,
-        Entries::Keys(_) => is_spelled(alloc, &versions, bytes)?,
+        Entries::Versions(named) => are_equal(&versions, &versions_of(alloc, named, b"b")?),
+        Entries::Keys(_) => {
+            let end = bytes.len().saturating_sub(8);
+            payload_of(alloc, &versions)?.as_slice() == bytes.get(8..end).unwrap_or(&[])
+        }
     };
     Ok((versions.len(), same))
 }
@@ -296,46 +275,18 @@ fn block_and_back(alloc: Global, entries: Entries) -> Result<(usize, Result<(usi
     Ok((bytes.len(), block_read(alloc, &bytes, entries)))
 }
 
-#[test]
-fn blocks(rt: HostRuntime) {
-    for (row, &(entries, before, len, answer)) in BLOCKS.iter().enumerate() {
-        assert_eq!(rt;
-            (
-                is_before(entries),
-                block_and_back(rt.alloc(), entries),
-                BLOCK_BYTES
-            ),
-            (before, Ok((len, answer)), 4_096),
-            "row {row}"
-        );
-    }
-}
-
-/// What is read in a block whose byte at this place is changed.
-fn changed_read(alloc: Global, bytes: &[u8], at: usize) -> Result<Result<(usize, bool)>> {
+/// What is read in a block whose byte at this place is changed, and in one that is cut there.
+fn damaged_read(
+    alloc: Global,
+    bytes: &[u8],
+    at: usize,
+) -> Result<(Result<(usize, bool)>, Result<(usize, bool)>)> {
     let changed = with_other_bit(alloc, bytes, at)?;
-    Ok(block_read(alloc, &changed, Entries::Keys(0)))
-}
-
-#[test]
-fn changed_and_cut_blocks(rt: HostRuntime) -> std::result::Result<(), Fail> {
-    let bytes = block_of(rt.alloc(), Entries::Versions(&[ONE]))?;
-    let begin = [
-        17, 0, 0, 0, 0, 0, 0, 0, 1, 0, 0, 1, 0, 0, 0, 0, 0, 0, 0, 1, 0, 0, 0, 97, 98,
-    ];
-    for at in 0..33usize {
-        let cut = bytes.get(..at).unwrap_or(&[]);
-        assert_eq!(rt;
-            (
-                bytes.starts_with(&begin),
-                changed_read(rt.alloc(), &bytes, at),
-                block_read(rt.alloc(), cut, Entries::Keys(0))
-            ),
-            (true, Ok(NO_BLOCK), NO_BLOCK),
-            "at {at}"
-        );
-    }
-    Ok(())
+    let cut = bytes.get(..at).unwrap_or(&[]);
+    Ok((
+        block_read(alloc, &changed, Entries::Keys(0)),
+        block_read(alloc, cut, Entries::Keys(0)),
+    ))
 }
 
 // The length of a key, why it is refused, and the length of what is spelled.
@@ -359,9 +310,40 @@ fn spelled_len(alloc: Global, len: usize) -> Result<(Option<Error>, usize)> {
     Ok((error, out.len()))
 }
 
+const BEGINNING: &[u8] = &[
+    17, 0, 0, 0, 0, 0, 0, 0, 1, 0, 0, 1, 0, 0, 0, 0, 0, 0, 0, 1, 0, 0, 0, 97, 98,
+];
+
 #[test]
-fn refused_versions(rt: HostRuntime) {
-    for &(len, error, spelled) in KEYS {
-        assert_eq!(rt; spelled_len(rt.alloc(), len), Ok((error, spelled)), "{len}");
+fn blocks(rt: HostRuntime) -> std::result::Result<(), Fail> {
+    for (row, &(entries, before, len, answer)) in BLOCKS.iter().enumerate() {
+        assert_eq!(rt;
+            (
+                is_before(entries),
+                block_and_back(rt.alloc(), entries),
+                BLOCK_BYTES
+            ),
+            (before, Ok((len, answer)), 4_096),
+            "row {row}"
+        );
     }
+    let bytes = block_of(rt.alloc(), Entries::Versions(&[ONE]))?;
+    for at in 0..33usize {
+        assert_eq!(rt;
+            (
+                bytes.starts_with(BEGINNING),
+                damaged_read(rt.alloc(), &bytes, at)
+            ),
+            (true, Ok((NO_BLOCK, NO_BLOCK))),
+            "at {at}"
+        );
+    }
+    for &(len, error, spelled) in KEYS {
+        assert_eq!(rt;
+            spelled_len(rt.alloc(), len),
+            Ok((error, spelled)),
+            "key of {len}"
+        );
+    }
+    Ok(())
 }

@@ -78,14 +78,6 @@ fn table_of(alloc: Global, blocks: &[Block], count: u64, value: &[u8]) -> Result
     building.finish(count)
 }
 
-fn is_wanted(version: &TableEntry<'_>, key: Option<&[u8]>, instant: u64) -> bool {
-    let has_key = match key {
-        Some(key) => version.key == key,
-        None => true,
-    };
-    has_key && version.number < instant
-}
-
 /// All versions of these blocks that have the key, if one is given, and are numbered below the instant.
 fn wanted_of<'a>(
     alloc: Global,
@@ -97,7 +89,11 @@ fn wanted_of<'a>(
     let mut wanted = Vec::new(alloc);
     for (_, named) in blocks {
         for version in &versions_of(alloc, named, value)? {
-            if is_wanted(version, key, instant) {
+            let has_key = match key {
+                Some(key) => version.key == key,
+                None => true,
+            };
+            if has_key && version.number < instant {
                 wanted.push(*version)?;
             }
         }
@@ -202,75 +198,31 @@ const TABLES: &[(Given, &[u8], Answers)] = &[
     ),
 ];
 
-/// The bytes of the table that a row names, whose values are of 3,000 bytes.
-fn table_given(alloc: Global, blocks: &[Block], count: u64) -> Result<Vec<u8>> {
-    let value = vec![in alloc; b'b'; 3_000]?;
-    table_of(alloc, blocks, count, &value)
-}
-
-/// What the table that a row names answers.
+/// What the table that a row names answers, whose values are of 3,000 bytes.
 fn answers_given(alloc: Global, given: Given, key: &[u8]) -> Result<Answers> {
     let (blocks, count, said, more) = given;
-    let bytes = table_given(alloc, blocks, count)?;
+    let value = vec![in alloc; b'b'; 3_000]?;
+    let bytes = table_of(alloc, blocks, count, &value)?;
     let mut info = info_of(&bytes, said);
     info.file_len = info.file_len.wrapping_add(more);
     Ok(answers(alloc, &bytes, info, key))
 }
 
-#[test]
-fn tables_answer(rt: HostRuntime) {
-    for (row, &(given, key, wanted)) in TABLES.iter().enumerate() {
-        assert_eq!(rt;
-            answers_given(rt.alloc(), given, key),
-            Ok(wanted),
-            "row {row}"
-        );
-    }
-}
-
-/// The index's offset and length and the count of entries.
-fn footer_read(bytes: &[u8]) -> Result<(u64, u64, u64)> {
+/// Of a table of one entry, the index's offset and length and the count of entries, how many handles the index has, and
+/// where the span of "a" begins and ends.
+fn parts_of(alloc: Global, bytes: &[u8]) -> Result<((u64, u64, u64), (usize, usize, usize))> {
     let footer = Footer::read(bytes.get(68..).unwrap_or(&[]))?;
-    Ok((footer.index_offset, footer.index_len, footer.entry_count))
-}
-
-/// How many handles an index has, and where the span of "a" begins and ends.
-fn index_read(alloc: Global, bytes: &[u8]) -> Result<(usize, usize, usize)> {
     let index = Index::read(alloc, bytes.get(33..68).unwrap_or(&[]), 33)?;
     let span = index.span(b"a");
-    Ok((index.handles().len(), span.start, span.end))
-}
-
-#[test]
-fn parts_of_a_table(rt: HostRuntime) -> std::result::Result<(), Fail> {
-    let bytes = table_of(rt.alloc(), SINGLE, 1, b"b")?;
-    assert_eq!(rt;
-        (
-            bytes.len(),
-            FOOTER_LEN,
-            footer_read(&bytes),
-            index_read(rt.alloc(), &bytes)
-        ),
-        (104, 36, Ok((33, 35, 1)), Ok((1, 0, 1)))
-    );
-    Ok(())
+    Ok((
+        (footer.index_offset, footer.index_len, footer.entry_count),
+        (index.handles().len(), span.start, span.end),
+    ))
 }
 
 const KEYS: &[&[u8]] = &[b"", b"a", b"b", b"k", b"kk", b"l", b"m", b"z", b"zz"];
 
-/// The versions of a table, or those of a key that are numbered below the instant, if one is given.
-fn found_in<'a>(
-    table: &Table<'a>,
-    key: Option<&[u8]>,
-    instant: u64,
-) -> Result<Vec<TableEntry<'a>>> {
-    match key {
-        Some(key) => table.versions_at(key, instant),
-        None => table.versions(),
-    }
-}
-
-/// Whether a table of these blocks answers their versions.
+/// Whether a table of these blocks answers their versions, or those of a key that are numbered below the instant.
 fn is_answered(
     alloc: Global,
     table: &Table<'_>,
@@ -278,7 +230,10 @@ fn is_answered(
     value: &[u8],
     (key, instant): (Option<&[u8]>, u64),
 ) -> Result<bool> {
-    let found = found_in(table, key, instant)?;
+    let found = match key {
+        Some(key) => table.versions_at(key, instant)?,
+        None => table.versions()?,
+    };
     let wanted = wanted_of(alloc, blocks, value, key, instant)?;
     Ok(are_equal(&found, &wanted))
 }
@@ -311,17 +266,6 @@ fn wrong_answer(alloc: Global, blocks: &[Block], count: u64) -> Result<Option<(u
 
 const COUNTED: &[(&[Block], u64)] = &[(SINGLE, 1), (MANY, 9)];
 
-#[test]
-fn each_key_at_each_instant(rt: HostRuntime) {
-    for &(blocks, count) in COUNTED {
-        assert_eq!(rt;
-            wrong_answer(rt.alloc(), blocks, count),
-            Ok(None),
-            "{count} entries"
-        );
-    }
-}
-
 /// A table of two blocks with 300 keys.
 fn table_of_two_blocks(alloc: Global) -> Result<Vec<u8>> {
     let mut building = Building::new(alloc);
@@ -330,53 +274,16 @@ fn table_of_two_blocks(alloc: Global) -> Result<Vec<u8>> {
     building.finish(300)
 }
 
-#[test]
-fn wrong_block(rt: HostRuntime) -> std::result::Result<(), Fail> {
-    let bytes = table_of_two_blocks(rt.alloc())?;
-    let changed = with_other_bit(rt.alloc(), &bytes, 4_121)?;
-    let info = info_of(&bytes, 300);
-    for i in 0..300u16 {
-        let key = i.to_be_bytes();
-        let found = if i < 241 { Ok(1) } else { Err(DAMAGED) };
-        assert_eq!(rt;
-            (
-                bytes.len(),
-                answers(rt.alloc(), &bytes, info, &key),
-                answers(rt.alloc(), &changed, info, &key)
-            ),
-            (5_224, Ok((2, Ok(300), Ok(1))), Ok((2, Err(DAMAGED), found))),
-            "{i}"
-        );
-    }
-    Ok(())
-}
-
-/// What a table of one entry answers when the byte at this place is changed.
-fn changed_answers(alloc: Global, bytes: &[u8], at: usize) -> Result<Answers> {
+/// What a table answers when the byte at this place is changed.
+fn changed_answers(
+    alloc: Global,
+    bytes: &[u8],
+    at: usize,
+    count: u64,
+    key: &[u8],
+) -> Result<Answers> {
     let changed = with_other_bit(alloc, bytes, at)?;
-    Ok(answers(alloc, &changed, info_of(&changed, 1), b"a"))
-}
-
-#[test]
-fn every_changed_byte_of_a_table(rt: HostRuntime) -> std::result::Result<(), Fail> {
-    let bytes = table_of(rt.alloc(), SINGLE, 1, b"b")?;
-    for at in 0..104usize {
-        let cut = bytes.get(..at).unwrap_or(&[]);
-        let wanted: Answers = if at < 33 {
-            Ok((1, Err(DAMAGED), Err(DAMAGED)))
-        } else {
-            Err(DAMAGED)
-        };
-        assert_eq!(rt;
-            (
-                changed_answers(rt.alloc(), &bytes, at),
-                answers(rt.alloc(), cut, info_of(cut, 1), b"a")
-            ),
-            (Ok(wanted), Err(DAMAGED)),
-            "at {at}"
-        );
-    }
-    Ok(())
+    Ok(answers(alloc, &changed, info_of(bytes, count), key))
 }
 
 // Handles, each of an offset, a length and a first key, and how many an index of them has before 15 bytes of blocks.
@@ -404,8 +311,71 @@ fn index_len(alloc: Global, handles: &[(u64, u64, &[u8])]) -> Result<usize> {
 }
 
 #[test]
-fn indexes(rt: HostRuntime) {
-    for (row, (handles, len)) in INDEXES.iter().enumerate() {
-        assert_eq!(rt; index_len(rt.alloc(), handles), *len, "row {row}");
+fn tables_answer(rt: HostRuntime) {
+    for (row, &(given, key, wanted)) in TABLES.iter().enumerate() {
+        assert_eq!(rt;
+            answers_given(rt.alloc(), given, key),
+            Ok(wanted),
+            "row {row}"
+        );
     }
+    for &(blocks, count) in COUNTED {
+        assert_eq!(rt;
+            wrong_answer(rt.alloc(), blocks, count),
+            Ok(None),
+            "{count} entries"
+        );
+    }
+    for (row, &(handles, len)) in INDEXES.iter().enumerate() {
+        assert_eq!(rt; index_len(rt.alloc(), handles), len, "index, row {row}");
+    }
+}
+
+#[test]
+fn damaged_tables(rt: HostRuntime) -> std::result::Result<(), Fail> {
+    let alloc = rt.alloc();
+    let bytes = table_of(alloc, SINGLE, 1, b"b")?;
+    for at in 0..104usize {
+        let cut = bytes.get(..at).unwrap_or(&[]);
+        let wanted: Answers = if at < 33 {
+            Ok((1, Err(DAMAGED), Err(DAMAGED)))
+        } else {
+            Err(DAMAGED)
+        };
+        assert_eq!(rt;
+            (
+                changed_answers(alloc, &bytes, at, 1, b"a"),
+                answers(alloc, cut, info_of(cut, 1), b"a"),
+                parts_of(alloc, &bytes),
+                (bytes.len(), FOOTER_LEN)
+            ),
+            (
+                Ok(wanted),
+                Err(DAMAGED),
+                Ok(((33, 35, 1), (1, 0, 1))),
+                (104, 36)
+            ),
+            "at {at}"
+        );
+    }
+    let bytes = table_of_two_blocks(alloc)?;
+    let info = info_of(&bytes, 300);
+    for i in 0..300u16 {
+        let key = i.to_be_bytes();
+        let found = if i < 241 { Ok(1) } else { Err(DAMAGED) };
+        assert_eq!(rt;
+            (
+                bytes.len(),
+                answers(alloc, &bytes, info, &key),
+                changed_answers(alloc, &bytes, 4_121, 300, &key)
+            ),
+            (
+                5_224,
+                Ok((2, Ok(300), Ok(1))),
+                Ok(Ok((2, Err(DAMAGED), found)))
+            ),
+            "{i}"
+        );
+    }
+    Ok(())
 }

@@ -6,15 +6,11 @@ use fjall_table::{TableEntry, TableWriter, put_frame, read_block};
 use std::alloc::Global;
 use std::test::Fail;
 
-fn write(writer: &mut TableWriter, version: &TableEntry<'_>) -> Result<()> {
-    writer.write(version)
-}
-
 /// The table of these versions, whose values are "b", or none.
 fn table_of(alloc: Global, named: &[Named]) -> Result<Option<Vec<u8>>> {
     let mut writer = TableWriter::new(alloc);
     for version in &versions_of(alloc, named, b"b")? {
-        write(&mut writer, version)?;
+        writer.write(version)?;
     }
     writer.finish()
 }
@@ -72,24 +68,6 @@ fn frame_read(alloc: Global) -> Result<(usize, bool)> {
     Ok((frame.len(), begins))
 }
 
-#[test]
-fn parts_of_a_table(rt: HostRuntime) -> std::result::Result<(), Fail> {
-    let bytes = table_of(rt.alloc(), &[(b"a", 1, Some(1))])?;
-    let frame = frame_read(rt.alloc());
-    for &(from, to, wanted) in PARTS {
-        assert_eq!(rt;
-            (
-                has_part(&bytes, from, to, wanted),
-                part(&bytes, 104, 105).len(),
-                frame
-            ),
-            ((true, true), 0, Ok((18, true))),
-            "from {from}"
-        );
-    }
-    Ok(())
-}
-
 /// The table of so many keys of these bytes, counted from 0 on, with empty values.
 fn table_of_keys(alloc: Global, width: usize, count: u16) -> Result<(u64, Option<Vec<u8>>)> {
     let mut writer = TableWriter::new(alloc);
@@ -101,7 +79,7 @@ fn table_of_keys(alloc: Global, width: usize, count: u16) -> Result<(u64, Option
             number: 1,
             value: Some(b""),
         };
-        write(&mut writer, &version)?;
+        writer.write(&version)?;
     }
     Ok((writer.entry_count(), writer.finish()?))
 }
@@ -153,17 +131,6 @@ fn counted(
     Ok((entry_count, len, keys_in(alloc, &table, width, ends)?))
 }
 
-#[test]
-fn tables_of_keys(rt: HostRuntime) {
-    for &(width, count, len, ends) in TABLES {
-        assert_eq!(rt;
-            counted(rt.alloc(), width, count, ends),
-            Ok((u64::from(count), len, (u64::from(count), true))),
-            "{count} entries"
-        );
-    }
-}
-
 // A byte of a key and how many of it the key has, the number, whether there is a value, and why it is refused.
 const WRITES: &[(u8, usize, u64, bool, Option<Error>)] = &[
     (b'b', 1, 5, true, None),
@@ -195,7 +162,7 @@ fn refusal(
         number,
         value,
     };
-    Ok(write(writer, &version).err())
+    Ok(writer.write(&version).err())
 }
 
 /// Whether the first block of a table holds just these versions, with empty values.
@@ -208,7 +175,27 @@ fn holds(alloc: Global, bytes: &Option<Vec<u8>>, wanted: &[Named]) -> Result<boo
 const WRITTEN: &[Named] = &[(b"b", 5, Some(0)), (b"b", 4, Some(0)), (b"c", 9, None)];
 
 #[test]
-fn refusals(rt: HostRuntime) -> std::result::Result<(), Fail> {
+fn writers_make_tables(rt: HostRuntime) -> std::result::Result<(), Fail> {
+    let bytes = table_of(rt.alloc(), &[(b"a", 1, Some(1))])?;
+    let frame = frame_read(rt.alloc());
+    for &(from, to, wanted) in PARTS {
+        assert_eq!(rt;
+            (
+                has_part(&bytes, from, to, wanted),
+                part(&bytes, 104, 105).len(),
+                frame
+            ),
+            ((true, true), 0, Ok((18, true))),
+            "from {from}"
+        );
+    }
+    for &(width, count, len, ends) in TABLES {
+        assert_eq!(rt;
+            counted(rt.alloc(), width, count, ends),
+            Ok((u64::from(count), len, (u64::from(count), true))),
+            "{count} entries"
+        );
+    }
     let mut writer = TableWriter::new(rt.alloc());
     for (row, &(byte, len, number, has_value, error)) in WRITES.iter().enumerate() {
         assert_eq!(rt;
@@ -217,7 +204,6 @@ fn refusals(rt: HostRuntime) -> std::result::Result<(), Fail> {
             "row {row}"
         );
     }
-    let bytes = writer.finish()?;
-    assert_eq!(rt; holds(rt.alloc(), &bytes, WRITTEN), Ok(true));
+    assert_eq!(rt; holds(rt.alloc(), &writer.finish()?, WRITTEN), Ok(true));
     Ok(())
 }

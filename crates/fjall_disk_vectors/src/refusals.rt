@@ -59,16 +59,11 @@ enum Asked {
 
 use Asked::*;
 
-/// An item that takes a key of this length away.
-fn removal(alloc: Global, id: u64, len: usize) -> Result<BatchItem> {
-    let key = vec![in alloc; b'k'; len]?;
-    Ok((id, Slice::new(alloc, &key)?, Op::Remove))
-}
-
 fn removals(alloc: Global, keys: &[(u64, usize)]) -> Result<Vec<BatchItem>> {
     let mut batch = Vec::new(alloc);
-    for (id, len) in keys {
-        batch.push(removal(alloc, *id, *len)?)?;
+    for &(id, len) in keys {
+        let key = vec![in alloc; b'k'; len]?;
+        batch.push((id, Slice::new(alloc, &key)?, Op::Remove))?;
     }
     Ok(batch)
 }
@@ -83,7 +78,9 @@ fn removed(alloc: Global, keys: &[(u8, usize)]) -> Result<Vec<(UserKey, Op)>> {
     Ok(items)
 }
 
-fn refusal(alloc: Global, memory: &EngineState, asked: Asked) -> Result<Option<Error>> {
+/// What the memory of a row refuses.
+fn refusal(alloc: Global, named: Given, asked: Asked) -> Result<Option<Error>> {
+    let memory = memory_of(alloc, named)?;
     Ok(match asked {
         Write(keys) => memory.change_refusal(&removals(alloc, keys)?),
         Creation(name, next_table_id) => memory.creation_refusal(name, next_table_id),
@@ -216,19 +213,9 @@ const REFUSALS: &[(Given, Asked, Option<Error>)] = &[
     ),
 ];
 
-/// What the memory of a row refuses.
-fn refusal_of(alloc: Global, named: Given, asked: Asked) -> Result<Option<Error>> {
-    let memory = memory_of(alloc, named)?;
-    refusal(alloc, &memory, asked)
-}
-
 #[test]
 fn refusals_come_in_order(rt: HostRuntime) {
     for (row, &(named, asked, error)) in REFUSALS.iter().enumerate() {
-        assert_eq!(rt;
-            refusal_of(rt.alloc(), named, asked),
-            Ok(error),
-            "row {row}"
-        );
+        assert_eq!(rt; refusal(rt.alloc(), named, asked), Ok(error), "row {row}");
     }
 }

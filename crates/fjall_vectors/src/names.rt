@@ -1,13 +1,11 @@
 //! Names, lists and markers, each with what it means.
 
-use crate::calls::{Answer, is_answer};
 use fjall_base::{DirEntry, Error, FormatVersion, JournalRecoveryError, Result};
 use fjall_files::{
     Marker, current_name, journal_name, journals, keyspace_folder, keyspaces, parse_file_header,
     parse_journal_name, read_marker, table_name, tables, version_of, write_file_header,
 };
 use std::alloc::Global;
-use std::test::Fail;
 
 const MISNAMED: Error = Error::JournalRecovery(JournalRecoveryError::InvalidFileName);
 
@@ -54,20 +52,11 @@ fn read(marker: Option<&[u8]>) -> Read {
     )
 }
 
-// Whether a marker is what is written.
+/// Whether a marker is what is written.
 fn is_written(alloc: Global, marker: Option<&[u8]>) -> Result<bool> {
     let mut header = Vec::new(alloc);
     write_file_header(&mut header)?;
     Ok(marker == Some(header.as_slice()))
-}
-
-#[test]
-fn markers(rt: HostRuntime) -> std::result::Result<(), Fail> {
-    for (row, (marker, written, wanted)) in MARKERS.iter().enumerate() {
-        let seen = (is_written(rt.alloc(), *marker)?, read(*marker));
-        assert!(rt; seen == (*written, *wanted), "row {row}");
-    }
-    Ok(())
 }
 
 /// What a name is of.
@@ -83,7 +72,7 @@ enum Named {
 
 use Named::*;
 
-// The name, spelled; of another one it is this text.
+/// The name, spelled; of another one it is this text.
 fn spelled(alloc: Global, named: Named, text: &str) -> Result<String> {
     match named {
         Journal(id) => journal_name(alloc, id),
@@ -120,21 +109,25 @@ const NAMES: &[(Named, &str, Result<Option<u64>>)] = &[
     (Other, "0..jnl", Err(MISNAMED)),
 ];
 
-// Whether a name is spelled so.
+/// Whether a name is spelled so.
 fn is_spelled(alloc: Global, named: Named, text: &str) -> Result<bool> {
     Ok(spelled(alloc, named, text)?.as_str() == text)
 }
 
 #[test]
-fn names(rt: HostRuntime) -> std::result::Result<(), Fail> {
-    for &(named, text, id) in NAMES {
-        let seen = (
-            is_spelled(rt.alloc(), named, text)?,
-            parse_journal_name(text),
+fn markers_and_names(rt: HostRuntime) {
+    for (row, &(marker, written, wanted)) in MARKERS.iter().enumerate() {
+        assert!(rt;
+            is_written(rt.alloc(), marker) == Ok(written) && read(marker) == wanted,
+            "marker, row {row}"
         );
-        assert!(rt; seen == (true, id), "at {text}");
     }
-    Ok(())
+    for &(named, text, id) in NAMES {
+        assert!(rt;
+            is_spelled(rt.alloc(), named, text) == Ok(true) && parse_journal_name(text) == id,
+            "name {text}"
+        );
+    }
 }
 
 /// What a list is read for.
@@ -145,7 +138,7 @@ enum Sought {
     TablesOf(u64),
 }
 
-// Adds entries of these names to a list.
+/// Adds entries of these names to a list.
 fn add_entries(
     alloc: Global,
     listed: &mut Vec<DirEntry>,
@@ -159,7 +152,7 @@ fn add_entries(
     Ok(())
 }
 
-// The ids that are found in a list of these files and these folders.
+/// The ids that are found in a list of these files and these folders.
 fn found(alloc: Global, sought: Sought, files: &[&str], folders: &[&str]) -> Result<Vec<u64>> {
     let mut listed = Vec::new(alloc);
     add_entries(alloc, &mut listed, files, false)?;
@@ -172,7 +165,7 @@ fn found(alloc: Global, sought: Sought, files: &[&str], folders: &[&str]) -> Res
 }
 
 // What is sought, the files and the folders of a list, and the ids that are found.
-const LISTS: &[(Sought, &[&str], &[&str], Answer)] = &[
+const LISTS: &[(Sought, &[&str], &[&str], Result<&[u64]>)] = &[
     (
         Sought::Journals,
         &["10.jnl", "version", "9.jnl", "0.jnl", "lock"],
@@ -211,21 +204,26 @@ const LISTS: &[(Sought, &[&str], &[&str], Answer)] = &[
     ),
 ];
 
-/// A row whose list isn't read as it should be, and what is found.
-type Wrong = (usize, Result<Vec<u64>>);
-
-// The first wrong row.
-fn first_wrong_list(alloc: Global) -> Option<Wrong> {
-    for (row, (sought, files, folders, ids)) in LISTS.iter().enumerate() {
-        let found = found(alloc, *sought, files, folders);
-        if !is_answer(&found, *ids) {
-            return Some((row, found));
-        }
+/// Whether these ids are found in a list of these files and these folders, or it is refused so.
+fn are_found(
+    alloc: Global,
+    sought: Sought,
+    (files, folders): (&[&str], &[&str]),
+    wanted: Result<&[u64]>,
+) -> bool {
+    match (found(alloc, sought, files, folders), wanted) {
+        (Ok(ids), Ok(numbers)) => ids.as_slice() == numbers,
+        (Err(error), Err(refusal)) => error == refusal,
+        _ => false,
     }
-    None
 }
 
 #[test]
 fn lists(rt: HostRuntime) {
-    assert_eq!(rt; first_wrong_list(rt.alloc()), None);
+    for (row, &(sought, files, folders, ids)) in LISTS.iter().enumerate() {
+        assert!(rt;
+            are_found(rt.alloc(), sought, (files, folders), ids),
+            "row {row}"
+        );
+    }
 }

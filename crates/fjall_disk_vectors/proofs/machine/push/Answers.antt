@@ -2,7 +2,7 @@ use Rattle.std.proofs.Common.{◌∙◌, sym}
 use Rattle.fjall_journal.specs.Changes.{Items}
 use Rattle.fjall_state.specs.Remembered.{facts_of}
 use Rattle.fjall_state.proofs.Dues.{may_change}
-use Rattle.fjall_vectors.proofs.machine.push.Goals as goal
+use Rattle.fjall_disk_vectors.proofs.machine.push.Goals as goal
 
 pub write-requires-clause-living : goal.write-requires-clause-living
 write-requires-clause-living c = (may_change (facts_of c.args.memory.now 0) (Items c.args.items.now) (sym c.change_refusal.ensures ∙ c.in_default.is)).living

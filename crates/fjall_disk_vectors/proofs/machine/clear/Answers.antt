@@ -2,7 +2,7 @@ use Rattle.std.proofs.Common.{◌∙◌, sym}
 use Rattle.fjall_journal.specs.Changes.{Emptied}
 use Rattle.fjall_state.specs.Remembered.{facts_of}
 use Rattle.fjall_state.proofs.Dues.{may_change}
-use Rattle.fjall_vectors.proofs.machine.clear.Goals as goal
+use Rattle.fjall_disk_vectors.proofs.machine.clear.Goals as goal
 
 pub clear-requires-clause-living : goal.clear-requires-clause-living
 clear-requires-clause-living c = (may_change (facts_of c.args.memory.now 0) (Emptied c.args.id) (sym c.clear_refusal.ensures ∙ c.in_default.is)).living

@@ -86,99 +86,75 @@ fn with_data_blocks(
 ) -> Result<KeyspaceCreateOptions> {
     let compression = CompressionPolicy::disabled(alloc)?;
     let hash_ratio = HashRatioPolicy::all(alloc, 8_000_000)?;
-    Ok(
-        options
-            .data_block_compression_policy(compression)
-            .data_block_hash_ratio_policy(hash_ratio),
-    )
-}
-
-/// These options with other restart intervals and sizes of data blocks.
-fn with_block_sizes(
-    alloc: Global,
-    options: KeyspaceCreateOptions,
-) -> Result<KeyspaceCreateOptions> {
     let restart_interval = RestartIntervalPolicy::all(alloc, 8)?;
     let size = BlockSizePolicy::all(alloc, 512)?;
     Ok(
         options
+            .data_block_compression_policy(compression)
+            .data_block_hash_ratio_policy(hash_ratio)
             .data_block_restart_interval_policy(restart_interval)
             .data_block_size_policy(size),
     )
 }
 
-/// These options without filters.
+/// These options without filters, and with other blocks for them.
 fn with_filters(alloc: Global, options: KeyspaceCreateOptions) -> Result<KeyspaceCreateOptions> {
     let none = FilterPolicy::all(alloc, FilterPolicyEntry::None)?;
-    Ok(options.filter_policy(none))
-}
-
-/// These options with other blocks of filters.
-fn with_filter_blocks(
-    alloc: Global,
-    options: KeyspaceCreateOptions,
-) -> Result<KeyspaceCreateOptions> {
     let partitioning = PartitioningPolicy::all(alloc, true)?;
     let pinning = PinningPolicy::all(alloc, false)?;
     Ok(
         options
+            .filter_policy(none)
             .filter_block_partitioning_policy(partitioning)
             .filter_block_pinning_policy(pinning),
     )
 }
 
-/// These options with other blocks of indexes.
+/// These options with other blocks of indexes, which are not compressed.
 fn with_index_blocks(
     alloc: Global,
     options: KeyspaceCreateOptions,
 ) -> Result<KeyspaceCreateOptions> {
     let partitioning = PartitioningPolicy::all(alloc, false)?;
     let pinning = PinningPolicy::all(alloc, true)?;
+    let compression = CompressionPolicy::disabled(alloc)?;
     Ok(
         options
             .index_block_partitioning_policy(partitioning)
-            .index_block_pinning_policy(pinning),
+            .index_block_pinning_policy(pinning)
+            .index_block_compression_policy(compression),
     )
 }
 
-/// These options with indexes that are not compressed, and the other compaction strategy.
-fn with_strategy(alloc: Global, options: KeyspaceCreateOptions) -> Result<KeyspaceCreateOptions> {
-    let compression = CompressionPolicy::disabled(alloc)?;
-    let strategy = changed_strategy(alloc)?;
-    Ok(
-        options
-            .index_block_compression_policy(compression)
-            .compaction_strategy(strategy),
-    )
-}
-
-/// The default options with other flags and another size.
+/// The default options with other flags, another size, and the other compaction strategy.
 fn with_flags(alloc: Global) -> Result<KeyspaceCreateOptions> {
+    let strategy = changed_strategy(alloc)?;
     let options = KeyspaceCreateOptions::default(alloc)?;
     Ok(
         options
             .expect_point_read_hits(true)
             .manual_journal_persist(true)
-            .max_memtable_size(1_000),
+            .max_memtable_size(1_000)
+            .compaction_strategy(strategy),
     )
 }
 
-/// Options with other settings of data blocks.
-fn with_changed_data(alloc: Global) -> Result<KeyspaceCreateOptions> {
-    with_block_sizes(alloc, with_data_blocks(alloc, with_flags(alloc)?)?)
+/// The pairs of options that differ from the default ones in each setting.
+fn changed_pairs(alloc: Global) -> Result<Vec<KvPair>> {
+    let options = with_data_blocks(alloc, with_flags(alloc)?)?;
+    let options = with_index_blocks(alloc, with_filters(alloc, options)?)?;
+    options.encode_kvs(alloc, 9)
 }
 
-/// The same with other settings of filters.
-fn with_changed_filters(alloc: Global) -> Result<KeyspaceCreateOptions> {
-    with_filter_blocks(alloc, with_filters(alloc, with_changed_data(alloc)?)?)
+/// The pairs of the default options.
+fn default_pairs(alloc: Global) -> Result<Vec<KvPair>> {
+    KeyspaceCreateOptions::default(alloc)?.encode_kvs(alloc, 1)
 }
 
-/// Options that differ from the default ones in each setting.
-fn changed(alloc: Global) -> Result<KeyspaceCreateOptions> {
-    with_strategy(
-        alloc,
-        with_index_blocks(alloc, with_changed_filters(alloc)?)?,
-    )
+/// What these pairs are read back as, and the pairs of that.
+fn pairs_again(alloc: Global, pairs: &[KvPair]) -> Result<(EffectiveSettings, Vec<KvPair>)> {
+    let options = KeyspaceCreateOptions::from_kvs(alloc, 9, pairs)?;
+    Ok((options.effective(), options.encode_kvs(alloc, 9)?))
 }
 
 /// The bytes of the pair at this place, or none.
@@ -187,36 +163,6 @@ fn bytes_at(pairs: &[KvPair], at: usize) -> (&[u8], &[u8]) {
         Some((key, value)) => (key.as_slice(), value.as_slice()),
         None => (&[], &[]),
     }
-}
-
-/// The pairs that these options store for a keyspace.
-fn pairs_of(
-    alloc: Global,
-    options: &KeyspaceCreateOptions,
-    keyspace_id: u64,
-) -> Result<Vec<KvPair>> {
-    options.encode_kvs(alloc, keyspace_id)
-}
-
-/// The options that these pairs give a keyspace.
-fn options_of(alloc: Global, keyspace_id: u64, pairs: &[KvPair]) -> Result<KeyspaceCreateOptions> {
-    KeyspaceCreateOptions::from_kvs(alloc, keyspace_id, pairs)
-}
-
-/// The pairs of the default options.
-fn default_pairs(alloc: Global) -> Result<Vec<KvPair>> {
-    pairs_of(alloc, &KeyspaceCreateOptions::default(alloc)?, 1)
-}
-
-/// The pairs of the changed options.
-fn changed_pairs(alloc: Global) -> Result<Vec<KvPair>> {
-    pairs_of(alloc, &changed(alloc)?, 9)
-}
-
-/// What these pairs are read back as, and the pairs of that.
-fn pairs_again(alloc: Global, pairs: &[KvPair]) -> Result<(EffectiveSettings, Vec<KvPair>)> {
-    let options = options_of(alloc, 9, pairs)?;
-    Ok((options.effective(), pairs_of(alloc, &options, 9)?))
 }
 
 /// Whether the pair has the key of this option of a keyspace, and this value.
@@ -272,15 +218,6 @@ enum Entries {
 
 use Entries::*;
 
-/// Whether these entries are spelled just so.
-fn are_spelled<T: PolicyEntry>(alloc: Global, entries: &[T], bytes: &[u8]) -> Result<bool> {
-    if entries.is_empty() || 255 < entries.len() {
-        return Ok(false);
-    }
-    let spelled = Policy::new(alloc, entries)?.encode(alloc)?;
-    Ok(spelled.as_slice() == bytes)
-}
-
 /// What is read in the bytes: whether it is these entries, how many, and whether they are spelled just so.
 fn read<T: PolicyEntry + PartialEq>(
     alloc: Global,
@@ -289,7 +226,11 @@ fn read<T: PolicyEntry + PartialEq>(
 ) -> Result<(bool, usize, bool)> {
     let policy = Policy::<T>::decode(alloc, bytes)?;
     let same = policy.iter().eq(entries);
-    Ok((same, policy.len(), are_spelled(alloc, entries, bytes)?))
+    if entries.is_empty() || 255 < entries.len() {
+        return Ok((same, policy.len(), false));
+    }
+    let spelled = Policy::new(alloc, entries)?.encode(alloc)?;
+    Ok((same, policy.len(), spelled.as_slice() == bytes))
 }
 
 fn read_entries(alloc: Global, bytes: &[u8], entries: Entries) -> Result<(bool, usize, bool)> {
@@ -373,38 +314,14 @@ const POLICIES: &[(&[u8], Entries, Result<(bool, usize, bool)>)] = &[
     ),
 ];
 
-#[test]
-fn policies_and_back(rt: HostRuntime) {
-    for (row, (bytes, entries, answer)) in POLICIES.iter().enumerate() {
-        assert_eq!(rt;
-            read_entries(rt.alloc(), bytes, *entries),
-            *answer,
-            "row {row}"
-        );
-    }
-}
-
-/// The pair of this value of the option of keyspace 1.
-fn pair_of(alloc: Global, name: &str, value: &[u8]) -> Result<KvPair> {
-    let key = encode_config_key(alloc, 1, name)?;
-    Ok((key, Slice::new(alloc, value)?))
-}
-
-/// The pair of this value of the option, where a name is given.
-fn named_pairs(alloc: Global, name: &str, value: &[u8]) -> Result<Vec<KvPair>> {
-    let mut pairs = Vec::new(alloc);
-    if !name.is_empty() {
-        pairs.push(pair_of(alloc, name, value)?)?;
-    }
-    Ok(pairs)
-}
-
 /// This value of the option of keyspace 1, where a name is given, before so many default pairs.
 fn stored_pairs(alloc: Global, name: &str, value: &[u8], count: usize) -> Result<Vec<KvPair>> {
-    let mut pairs = named_pairs(alloc, name, value)?;
-    let mut defaults = default_pairs(alloc)?;
-    defaults.truncate(count);
-    for pair in defaults {
+    let mut pairs = Vec::new(alloc);
+    if !name.is_empty() {
+        let key = encode_config_key(alloc, 1, name)?;
+        pairs.push((key, Slice::new(alloc, value)?))?;
+    }
+    for pair in default_pairs(alloc)?.into_iter().take(count) {
         pairs.push(pair)?;
     }
     Ok(pairs)
@@ -412,8 +329,8 @@ fn stored_pairs(alloc: Global, name: &str, value: &[u8], count: usize) -> Result
 
 /// Whether the options that these pairs give a keyspace persist by hand, and the byte that they store again for that.
 fn by_hand(alloc: Global, keyspace_id: u64, pairs: &[KvPair]) -> Result<(bool, Option<u8>)> {
-    let options = options_of(alloc, keyspace_id, pairs)?;
-    let again = pairs_of(alloc, &options, keyspace_id)?;
+    let options = KeyspaceCreateOptions::from_kvs(alloc, keyspace_id, pairs)?;
+    let again = options.encode_kvs(alloc, keyspace_id)?;
     let byte = match bytes_at(&again, 14).1 {
         [byte] => Some(*byte),
         _ => None,
@@ -458,25 +375,28 @@ fn answer_of(
     by_hand(alloc, keyspace_id, &pairs)
 }
 
-fn is_name_key(alloc: Global) -> Result<bool> {
-    let key = encode_name_key(alloc, 1)?;
-    Ok(key.as_slice() == [0x6e, 0, 0, 0, 0, 0, 0, 0, 1].as_slice())
-}
-
-fn is_config_key(alloc: Global) -> Result<bool> {
-    let key = encode_config_key(alloc, 258, "version")?;
-    Ok(key.as_slice() == b"c\x00\x00\x00\x00\x00\x00\x01\x02version".as_slice())
+/// Whether the keys of a name and of an option are spelled so.
+fn are_keys(alloc: Global) -> Result<bool> {
+    let name = encode_name_key(alloc, 1)?;
+    let option = encode_config_key(alloc, 258, "version")?;
+    Ok(
+        name.as_slice() == [0x6e, 0, 0, 0, 0, 0, 0, 0, 1].as_slice()
+            && option.as_slice() == b"c\x00\x00\x00\x00\x00\x00\x01\x02version".as_slice(),
+    )
 }
 
 #[test]
-fn stored_values(rt: HostRuntime) {
-    let are_keys = (is_name_key(rt.alloc()), is_config_key(rt.alloc()));
+fn policies_and_stored_values(rt: HostRuntime) {
+    for (row, &(bytes, entries, answer)) in POLICIES.iter().enumerate() {
+        assert_eq!(rt;
+            read_entries(rt.alloc(), bytes, entries),
+            answer,
+            "policy, row {row}"
+        );
+    }
+    let are_keys = are_keys(rt.alloc());
     for (row, &(name, value, count, keyspace_id, answer)) in STORED.iter().enumerate() {
         let found = answer_of(rt.alloc(), (name, value, count, keyspace_id));
-        assert_eq!(rt;
-            (found, are_keys),
-            (answer, (Ok(true), Ok(true))),
-            "row {row}"
-        );
+        assert_eq!(rt; (found, are_keys), (answer, Ok(true)), "stored, row {row}");
     }
 }

@@ -1,6 +1,6 @@
-//! What an engine holds in memory: keyspaces made, written, deleted and read, and refusals in their order.
+//! What an engine holds in memory: keyspaces made, written, deleted and read, and tickets.
 
-use fjall_base::{Error, KvPair, Result, Slice};
+use fjall_base::{Error, Result, Slice};
 use fjall_journal::{BatchItem, Op, PersistMode, ValueType, Writer};
 use fjall_loading::LastRecords;
 use fjall_manager::{ActiveWatermarks, JournalManager};
@@ -10,8 +10,7 @@ use fjall_options::KeyspaceCreateOptions;
 use fjall_state::{Call, EngineState, Reply, Ticket, View};
 use fjall_trees::Trees;
 use std::alloc::Global;
-use std::fmt::Debug;
-use std::ops::Bound;
+use std::ops::Bound::Unbounded;
 
 /// Makes a keyspace of this name with default options, where nothing refuses it.
 fn create(alloc: Global, memory: &mut EngineState, name: &[u8]) -> Result<u64> {
@@ -44,15 +43,11 @@ fn op_of(alloc: Global, change: Change) -> Result<Op> {
 /// An item of a batch: a keyspace, a key, and what becomes of it.
 type Item = (u64, &'static [u8], Change);
 
-fn item_of(alloc: Global, (id, key, change): Item) -> Result<BatchItem> {
-    let key = Slice::new(alloc, key)?;
-    Ok((id, key, op_of(alloc, change)?))
-}
-
 fn items_of(alloc: Global, items: &[Item]) -> Result<Vec<BatchItem>> {
     let mut batch = Vec::new(alloc);
-    for item in items {
-        batch.push(item_of(alloc, *item)?)?;
+    for &(id, key, change) in items {
+        let op = op_of(alloc, change)?;
+        batch.push((id, Slice::new(alloc, key)?, op))?;
     }
     Ok(batch)
 }
@@ -68,10 +63,6 @@ fn push(alloc: Global, memory: &mut EngineState, items: &[BatchItem]) -> Result<
     let mut disk = MemoryDisk::new(alloc);
     let mut journal = Writer::create_new(alloc, &mut disk, "0.jnl")?;
     memory.write(&mut journal, &mut disk, items, None)
-}
-
-fn write(alloc: Global, memory: &mut EngineState, items: &[Item]) -> Result<()> {
-    push(alloc, memory, &items_of(alloc, items)?)
 }
 
 /// Empties a keyspace, where nothing refuses it, with a journal of its own.
@@ -105,11 +96,6 @@ fn delete(alloc: Global, memory: &mut EngineState, id: u64) -> Result<()> {
     Ok(())
 }
 
-/// Counts one handle more.
-fn retain(memory: &mut EngineState, id: u64) -> Result<()> {
-    memory.retain(id)
-}
-
 /// Counts one handle less, where nothing refuses it.
 fn release(memory: &mut EngineState, id: u64) -> Result<()> {
     if let Some(error) = memory.release_refusal(id) {
@@ -133,25 +119,20 @@ fn empty(alloc: Global) -> EngineState {
     )
 }
 
-/// The keyspaces 1, "b", and 2, "a".
-fn two_empty(alloc: Global) -> Result<EngineState> {
+/// The keyspaces 1, "b", and 2, "a", where k=v in the first one.
+pub fn two(alloc: Global) -> Result<EngineState> {
     let mut memory = empty(alloc);
     create(alloc, &mut memory, b"b")?;
     create(alloc, &mut memory, b"a")?;
-    Ok(memory)
-}
-
-/// The same, where k=v in the first one.
-pub fn two(alloc: Global) -> Result<EngineState> {
-    let mut memory = two_empty(alloc)?;
-    write(alloc, &mut memory, &[(1, b"k", Change::Put(b"v"))])?;
+    let items = items_of(alloc, &[(1, b"k", Change::Put(b"v"))])?;
+    push(alloc, &mut memory, &items)?;
     Ok(memory)
 }
 
 /// The same, where the first one is deleted, and read by one handle.
 pub fn one_deleted(alloc: Global) -> Result<EngineState> {
     let mut memory = two(alloc)?;
-    retain(&mut memory, 1)?;
+    memory.retain(1)?;
     delete(alloc, &mut memory, 1)?;
     Ok(memory)
 }
@@ -195,31 +176,26 @@ fn take(alloc: Global, memory: &mut EngineState, step: Step) -> Result<u64> {
     match step {
         Step::New => *memory = empty(alloc),
         Step::Create(name) => return create(alloc, memory, name),
-        Step::Write(items) => write(alloc, memory, items)?,
+        Step::Write(items) => push(alloc, memory, &items_of(alloc, items)?)?,
         Step::Clear(id) => clear(alloc, memory, id)?,
         Step::Rotate(id) => return rotate(memory, id),
         Step::Delete(id) => delete(alloc, memory, id)?,
-        Step::Retain(id) => retain(memory, id)?,
+        Step::Retain(id) => memory.retain(id)?,
         Step::Release(id) => release(memory, id)?,
         _ => return take_ticket(memory, step),
     }
     Ok(0)
 }
 
-/// Whether these are just the wanted names, in their order, with their ids.
-fn are_wanted(memory: &EngineState, names: &[Slice], wanted: &[(&[u8], u64)]) -> bool {
-    for (name, (named, id)) in names.iter().zip(wanted) {
-        if name.as_slice() != *named || memory.resolve(named) != Some(*id) {
-            return false;
-        }
-    }
-    names.len() == wanted.len()
-}
-
 /// Whether just these names are there, in their order, with these ids, and no "c".
 fn are_named(alloc: Global, memory: &EngineState, wanted: &[(&[u8], u64)]) -> Result<bool> {
     let names = memory.list_keyspace_names(alloc)?;
-    Ok(are_wanted(memory, &names, wanted) && memory.resolve(b"c").is_none())
+    for (name, &(named, id)) in names.iter().zip(wanted) {
+        if name.as_slice() != named || memory.resolve(named) != Some(id) {
+            return Ok(false);
+        }
+    }
+    Ok(names.len() == wanted.len() && memory.resolve(b"c").is_none())
 }
 
 /// What is counted: keyspaces, the next id, the next number, and pairs of the meta keyspace.
@@ -246,42 +222,21 @@ fn state_of(memory: &EngineState, id: u64) -> State {
     )
 }
 
-fn page_of(
-    alloc: Global,
-    memory: &mut EngineState,
-    disk: &mut MemoryDisk,
-    id: u64,
-) -> Result<Vec<KvPair>> {
-    let everywhere = (Bound::Unbounded, Bound::Unbounded);
-    memory.page(alloc, disk, View::Present, id, &everywhere, false, 9)
-}
-
-/// The value of a key, and how many keys its keyspace has.
-fn read(
-    alloc: Global,
-    memory: &mut EngineState,
-    id: u64,
-    key: &[u8],
-) -> Result<(Option<Slice>, usize)> {
-    let mut disk = MemoryDisk::new(alloc);
-    let count = page_of(alloc, memory, &mut disk, id)?.len();
-    Ok((memory.get(&mut disk, View::Present, id, key)?, count))
-}
-
+/// What is read: the value of "k", and how many keys are there.
 type Bytes<'a> = Result<(Option<&'a [u8]>, usize)>;
 
-fn bytes_of(found: &Result<(Option<Slice>, usize)>) -> Bytes<'_> {
-    match found {
-        Ok((Some(value), count)) => Ok((Some(value.as_slice()), *count)),
-        Ok((None, count)) => Ok((None, *count)),
-        Err(error) => Err(*error),
-    }
-}
-
-/// Whether this is what is read in a keyspace at "k".
-fn is_read(alloc: Global, memory: &mut EngineState, id: u64, wanted: Bytes<'_>) -> bool {
-    let found = read(alloc, memory, id, b"k");
-    bytes_of(&found) == wanted
+/// Whether this is what is read in a keyspace.
+fn is_read(alloc: Global, memory: &mut EngineState, id: u64, wanted: Bytes<'_>) -> Result<bool> {
+    let mut disk = MemoryDisk::new(alloc);
+    let everywhere = (Unbounded, Unbounded);
+    let count = match memory.page(alloc, &mut disk, View::Present, id, &everywhere, false, 9) {
+        Ok(pairs) => pairs.len(),
+        Err(error) => return Ok(wanted == Err(error)),
+    };
+    Ok(match memory.get(&mut disk, View::Present, id, b"k")? {
+        Some(value) => wanted == Ok((Some(value.as_slice()), count)),
+        None => wanted == Ok((None, count)),
+    })
 }
 
 const PUT_V: Step = Step::Write(&[(1, b"k", Change::Put(b"v"))]);
@@ -524,25 +479,6 @@ const ROWS: &[Row] = &[
     ),
 ];
 
-#[test]
-fn a_memory_goes_by_its_steps(rt: HostRuntime) {
-    let alloc = rt.alloc();
-    let mut memory = empty(alloc);
-    for (row, &(step, answer, counted, names, id, stands, value)) in ROWS.iter().enumerate() {
-        assert_eq!(rt;
-            (
-                take(alloc, &mut memory, step),
-                counts_of(&memory),
-                are_named(alloc, &memory, names),
-                state_of(&memory, id),
-                is_read(alloc, &mut memory, id, value)
-            ),
-            (answer, counted, Ok(true), stands, true),
-            "row {row}"
-        );
-    }
-}
-
 const CLOSED: Result<Option<&[u8]>> = Err(Error::SnapshotClosed);
 
 // A step and its answer; how many tickets are open then; a ticket, and what is read by it in keyspace 1 at "k".
@@ -585,12 +521,6 @@ const VIEWS: &[(Step, Result<u64>, u64, u64, Result<Option<&[u8]>>)] = &[
     (Step::Clear(1), Ok(0), 2, 5, Ok(None)),
 ];
 
-/// What is read by a ticket in keyspace 1 at "k".
-fn seen_by(alloc: Global, memory: &mut EngineState, id: u64) -> Result<Option<Slice>> {
-    let mut disk = MemoryDisk::new(alloc);
-    memory.get(&mut disk, View::At(Ticket::of_call(id)), 1, b"k")
-}
-
 /// Whether this is what is read by a ticket.
 fn is_seen(
     alloc: Global,
@@ -598,12 +528,51 @@ fn is_seen(
     id: u64,
     wanted: Result<Option<&[u8]>>,
 ) -> bool {
-    let found = seen_by(alloc, memory, id);
-    match (&found, wanted) {
-        (Ok(Some(value)), Ok(Some(bytes))) => value.as_slice() == bytes,
-        (Ok(None), Ok(None)) => true,
-        (Err(error), Err(refusal)) => *error == refusal,
-        _ => false,
+    let mut disk = MemoryDisk::new(alloc);
+    match memory.get(&mut disk, View::At(Ticket::of_call(id)), 1, b"k") {
+        Ok(Some(value)) => wanted == Ok(Some(value.as_slice())),
+        Ok(None) => wanted == Ok(None),
+        Err(error) => wanted == Err(error),
+    }
+}
+
+const CHANGES: &[(Change, &[u8], ValueType)] = &[
+    (Change::Put(b"v"), b"v", ValueType::Value),
+    (Change::Remove, b"", ValueType::Tombstone),
+    (Change::RemoveWeak, b"", ValueType::WeakTombstone),
+];
+
+/// Whether a change has these bytes in a journal, and its type there.
+fn written(alloc: Global, change: Change, bytes: &[u8]) -> Result<(bool, ValueType)> {
+    let op = op_of(alloc, change)?;
+    Ok((op.bytes() == bytes, op.value_type()))
+}
+
+/// Whether a call, a reply and a view print their texts.
+fn are_printed(alloc: Global) -> Result<bool> {
+    let call = Call::Persist(PersistMode::SyncAll);
+    let reply = Reply::Refused(Error::KeyEmpty);
+    let view = View::Present;
+    let text = format!(in alloc; "{call:?}, {reply:?}, {view:?}")?;
+    Ok(text.as_str() == "Persist(SyncAll), Refused(KeyEmpty), Present")
+}
+
+#[test]
+fn a_memory_goes_by_its_steps(rt: HostRuntime) {
+    let alloc = rt.alloc();
+    let mut memory = empty(alloc);
+    for (row, &(step, answer, counted, names, id, stands, value)) in ROWS.iter().enumerate() {
+        assert_eq!(rt;
+            (
+                take(alloc, &mut memory, step),
+                counts_of(&memory),
+                are_named(alloc, &memory, names),
+                state_of(&memory, id),
+                is_read(alloc, &mut memory, id, value)
+            ),
+            (answer, counted, Ok(true), stands, Ok(true)),
+            "row {row}"
+        );
     }
 }
 
@@ -621,51 +590,11 @@ fn tickets_keep_their_views(rt: HostRuntime) {
             "row {row}"
         );
     }
-}
-
-const CHANGES: &[(Change, &[u8], ValueType)] = &[
-    (Change::Put(b"v"), b"v", ValueType::Value),
-    (Change::Remove, b"", ValueType::Tombstone),
-    (Change::RemoveWeak, b"", ValueType::WeakTombstone),
-];
-
-/// Whether a change has these bytes in a journal, and its type there.
-fn written(alloc: Global, change: Change, bytes: &[u8]) -> Result<(bool, ValueType)> {
-    let op = op_of(alloc, change)?;
-    Ok((op.bytes() == bytes, op.value_type()))
-}
-
-fn is_printed<T: Debug>(alloc: Global, value: &T, text: &str) -> Result<bool> {
-    let printed = format!(in alloc; "{value:?}")?;
-    Ok(printed.as_str() == text)
-}
-
-fn is_call_printed(alloc: Global) -> Result<bool> {
-    let call = Call::Persist(PersistMode::SyncAll);
-    is_printed(alloc, &call, "Persist(SyncAll)")
-}
-
-fn is_reply_printed(alloc: Global) -> Result<bool> {
-    let reply = Reply::Refused(Error::KeyEmpty);
-    is_printed(alloc, &reply, "Refused(KeyEmpty)")
-}
-
-/// Whether a call, a reply and a view print their texts.
-fn are_printed(alloc: Global) -> Result<(bool, bool, bool)> {
-    Ok((
-        is_call_printed(alloc)?,
-        is_reply_printed(alloc)?,
-        is_printed(alloc, &View::Present, "Present")?,
-    ))
-}
-
-#[test]
-fn changes_and_calls_say_what_they_are(rt: HostRuntime) {
-    let printed = are_printed(rt.alloc());
+    let are_printed = are_printed(rt.alloc());
     for &(change, bytes, value_type) in CHANGES {
         assert_eq!(rt;
-            (written(rt.alloc(), change, bytes), printed),
-            (Ok((true, value_type)), Ok((true, true, true)))
+            (written(rt.alloc(), change, bytes), are_printed),
+            (Ok((true, value_type)), Ok(true))
         );
     }
 }
