@@ -18,11 +18,11 @@ use Rattle.fjall_history.specs.declared.ticket.View.TheVariants.{At, Present}
 use Rattle.fjall_history.specs.declared.reply.Reply.{Reply}
 use Rattle.fjall_history.specs.declared.reply.Reply.TheVariants as replies
 use Rattle.fjall_history.specs.Queries.{Get, Page, Query, Tells}
-use Rattle.fjall_core.specs.Machine.{MayFail, Refuses, State, StepOf, due}
-use Rattle.fjall_core.specs.Reads as reads
-use Rattle.fjall_core.specs.Remembered.{Remembered, instant_in}
-use Rattle.fjall_core.specs.Shapes.{OfRead}
-use Rattle.fjall_core.proofs.SameTrees.{none_same, same_in}
+use Rattle.fjall_state.specs.Machine.{MayFail, Refuses, State, StepOf, due}
+use Rattle.fjall_state.specs.Reads as reads
+use Rattle.fjall_state.specs.Remembered.{Remembered, instant_in}
+use Rattle.fjall_state.specs.Shapes.{OfRead}
+use Rattle.fjall_state.proofs.SameTrees.{none_same, same_in}
 use Rattle.fjall_core.specs.Holding.{Held}
 use Rattle.fjall_core.specs.Standing.{GivesRead, Looks, LooksAt, Owes, OwesFailure, OwesRefusal, ReadsOn, Serves, StandsFor, held_due, pairs_reply, tables_of, value_reply}
 use Rattle.fjall_reader.specs.Shown.{IsReadRefusal, IsRefusedFor, Shows, read_due}

@@ -10,10 +10,10 @@ use Rattle.fjall_blocks.specs.Readers.{AreSameTables, Reader}
 use Rattle.fjall_trees.proofs.Same.{same_trees}
 use Rattle.fjall_history.specs.declared.ticket.View.{View}
 use Rattle.fjall_history.specs.declared.ticket.View.TheVariants.{At, Present}
-use Rattle.fjall_core.specs.Machine.{first_due, view_refusals}
-use Rattle.fjall_core.specs.Reads as reads
-use Rattle.fjall_core.specs.Remembered.{Remembered, facts_of}
-use Rattle.fjall_core.proofs.SameTrees.{along, same_in}
+use Rattle.fjall_state.specs.Machine.{first_due, view_refusals}
+use Rattle.fjall_state.specs.Reads as reads
+use Rattle.fjall_state.specs.Remembered.{Remembered, facts_of}
+use Rattle.fjall_state.proofs.SameTrees.{along, same_in}
 use Rattle.fjall_core.specs.Holding.{Held}
 use Rattle.fjall_core.specs.Standing.{Looks, tables_of}
 use Rattle.fjall_reader.specs.Shown.{IsReadRefusal, IsRefusedFor, Reads, read_due}

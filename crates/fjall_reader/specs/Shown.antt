@@ -7,9 +7,9 @@ use Rattle.fjall_base.specs.declared.error.Error.{Error}
 use Rattle.fjall_base.specs.declared.error.Error.TheVariants.{OutOfMemory}
 use Rattle.fjall_history.specs.declared.ticket.View.{View}
 use Rattle.fjall_maps.specs.Maps.{pairs_in}
-use Rattle.fjall_core.specs.Machine.{State, first_due, maps_in, view_refusals}
-use Rattle.fjall_core.specs.Reads as reads
-use Rattle.fjall_core.specs.Remembered.{facts_of, instant_in}
+use Rattle.fjall_state.specs.Machine.{State, first_due, maps_in, view_refusals}
+use Rattle.fjall_state.specs.Reads as reads
+use Rattle.fjall_state.specs.Remembered.{facts_of, instant_in}
 use Rattle.fjall_core.specs.Holding.{Held}
 use Rattle.fjall_core.specs.Standing.{Looks, ReadsOn, StandsFor, tables_of}
 

@@ -4,8 +4,8 @@ ghost use Rattle.std.specs.Prelude.{Bool, ◌≡◌, ◌⊎◌, ℕ, [], IsTrue,
 ghost use Rattle.fjall_base.specs.Store.{map_at};
 ghost use Rattle.fjall_history.specs.declared.ticket.View.{View as Seen};
 ghost use Rattle.fjall_history.specs.Queries.{Query};
-ghost use Rattle.fjall_core.specs.Machine.{State, due, maps_in};
-ghost use Rattle.fjall_core.specs.Shapes.{OfRead};
+ghost use Rattle.fjall_state.specs.Machine.{State, due, maps_in};
+ghost use Rattle.fjall_state.specs.Shapes.{OfRead};
 ghost use Rattle.fjall_core.specs.Holding.{Held};
 ghost use Rattle.fjall_core.specs.Standing.{ReadsOn, StandsFor, tables_of};
 ghost use Rattle.fjall_reader.specs.Shown.{Shows, read_due};

@@ -4,7 +4,7 @@ ghost use Rattle.std.specs.Prelude.{◌≡◌, ℕ, None, IsTrue, IfOk, IfErr, O
 ghost use Rattle.std.specs.Result.{result_err};
 ghost use Rattle.fjall_base.specs.Pairs.{Pairs, lookup, page, pairs_between};
 ghost use Rattle.fjall_history.specs.Queries.{Get, Page};
-ghost use Rattle.fjall_core.specs.Shapes.{OfRead};
+ghost use Rattle.fjall_state.specs.Shapes.{OfRead};
 ghost use Rattle.fjall_core.specs.Standing.{Owes, Serves, pairs_reply, value_reply};
 ghost use Rattle.fjall_reader.specs.Shown.{IsRefusedFor, Reads, Shows, read_due};
 ghost use Rattle.fjall_reader.specs.Going.{reads_go_on, reads_none, reads_short};

@@ -1,6 +1,6 @@
 use Rattle.std.proofs.Common.{inl, inr, refl, sym}
-use Rattle.fjall_core.specs.Shapes.{OfRead}
-use Rattle.fjall_core.proofs.Standing.{bare_agree, facts_agree}
+use Rattle.fjall_state.specs.Shapes.{OfRead}
+use Rattle.fjall_state.proofs.Standing.{bare_agree, facts_agree}
 use Rattle.fjall_reader.proofs.laws.readers_show_the_state.Goals as goal
 
 pub returns : goal.returns

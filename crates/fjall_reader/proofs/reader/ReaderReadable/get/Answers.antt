@@ -1,7 +1,7 @@
 use Rattle.std.proofs.Common.{◌≡◌, ℕ, IfErr, IfOk, IsTrue, refl, subst}
 use Rattle.fjall_base.specs.Pairs.{Pairs, lookup}
 use Rattle.fjall_history.specs.Queries.{Get}
-use Rattle.fjall_core.specs.Shapes.{OfRead}
+use Rattle.fjall_state.specs.Shapes.{OfRead}
 use Rattle.fjall_core.specs.Standing.{Owes, Serves, value_reply}
 use Rattle.fjall_reader.specs.Shown.{IsRefusedFor, Shows}
 use Rattle.fjall_reader.proofs.Reading.{shows_on, some_cause, value_cause, value_keeps, value_looks, value_shown}
