@@ -13,7 +13,7 @@ use Rattle.fjall_history.specs.declared.ticket.View.TheVariants.{At, Present}
 use Rattle.fjall_state.specs.Machine.{first_due, view_refusals}
 use Rattle.fjall_state.specs.Reads as reads
 use Rattle.fjall_state.specs.Remembered.{Remembered, facts_of}
-use Rattle.fjall_state.proofs.SameTrees.{along, same_in}
+use Rattle.fjall_reader.specs.Alike.{along, same_in}
 use Rattle.fjall_core.specs.Holding.{Held}
 use Rattle.fjall_core.specs.Standing.{Looks, tables_of}
 use Rattle.fjall_reader.specs.Shown.{IsReadRefusal, IsRefusedFor, Reads, read_due}
