@@ -4,7 +4,6 @@ use fjall_base::{Error, Result, Slice, StorageError};
 use fjall_meta::{MetaEntry, MetaKeyspace, is_valid_keyspace_name};
 use fjall_options::{KeyspaceCreateOptions, StoredOption, encode_config_key, encode_name_key};
 use std::alloc::Global;
-use std::test::Fail;
 
 // All options by name ascending, which is the order of their keys.
 const BY_NAME: &[StoredOption] = &[
@@ -246,14 +245,27 @@ fn is_listed(names: &[Slice], at: usize, wanted: &[u8]) -> bool {
     }
 }
 
-/// Whether a keyspace has a value of the option `version`.
-fn has_version(alloc: Global, keyspaces: &MetaKeyspace, id: u64) -> Result<bool> {
-    let value = keyspaces.get_kv_for_config(alloc, id, StoredOption::Version)?;
-    Ok(value.is_some())
+/// Whether two keyspaces say this of a name and of an id, this name is listed at a place, and there is no third one that
+/// has options.
+fn are_said(
+    alloc: Global,
+    (name, of_its, id, wanted): (&str, OfName, u64, OfId),
+    place: usize,
+    listed: &[u8],
+) -> Result<bool> {
+    let keyspaces = two(alloc)?;
+    let names = keyspaces.list_keyspace_names(alloc)?;
+    let third = keyspaces.get_kv_for_config(alloc, 3, StoredOption::Version)?;
+    Ok(
+        of_name(&keyspaces, name) == of_its
+            && of_id(&keyspaces, id) == wanted
+            && is_listed(&names, place, listed)
+            && third.is_none(),
+    )
 }
 
 #[test]
-fn keyspaces_go_by_their_steps(rt: HostRuntime) -> std::result::Result<(), Fail> {
+fn keyspaces_go_by_their_steps(rt: HostRuntime) {
     let mut keyspaces = MetaKeyspace::new(rt.alloc());
     for (row, &(step, answer, next_id, living)) in ROWS.iter().enumerate() {
         let taken = take(rt.alloc(), &mut keyspaces, step);
@@ -269,18 +281,17 @@ fn keyspaces_go_by_their_steps(rt: HostRuntime) -> std::result::Result<(), Fail>
             "row {row}"
         );
     }
-    let keyspaces = two(rt.alloc())?;
-    let names = keyspaces.list_keyspace_names(rt.alloc())?;
+}
+
+#[test]
+fn ids_and_names(rt: HostRuntime) {
     for (row, &(name, said, id, wanted, listed)) in ASKED.iter().enumerate() {
-        assert!(rt;
-            of_name(&keyspaces, name) == said
-                && of_id(&keyspaces, id) == wanted
-                && is_listed(&names, row, listed)
-                && has_version(rt.alloc(), &keyspaces, 3) == Ok(false),
-            "asked, row {row}"
+        assert_eq!(rt;
+            are_said(rt.alloc(), (name, said, id, wanted), row, listed),
+            Ok(true),
+            "row {row}"
         );
     }
-    Ok(())
 }
 
 /// How the pairs of the two keyspaces are changed before they are read back.
