@@ -483,6 +483,7 @@ class History:
         self.accepted = self.safe = count
         self.is_poisoned = False
         self.tickets = Tickets()
+        self.tickets.gc(count)
         self.work.open(self.commands, self.homes())
         self.tables.open()
 

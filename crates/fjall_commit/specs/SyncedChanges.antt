@@ -1,12 +1,12 @@
 -- What a sync of the journal, and a change of the keyspaces behind it, make of a disk that returns what it holds.
 use Rattle.std.specs.Prelude.{◌≡◌, ◌⊎◌, Bool, true, false, [], ◌∷◌, ◌++◌, codes, Result, Ok, Err}
-use Rattle.fjall_base.specs.Disk.{LeavesOnly, Meaning, state_in}
+use Rattle.fjall_base.specs.Disk.{LeavesOnly, Meaning, Took, state_in}
 use Rattle.fjall_base.specs.declared.error.Error.{Error}
 use Rattle.fjall_files.specs.Regions.{Within}
 use Rattle.fjall_files.specs.Tidy.{StaysTidy}
 use Rattle.fjall_journal.specs.declared.persist_mode.PersistMode.{PersistMode}
 use Rattle.fjall_journal.specs.declared.persist_mode.PersistMode.TheVariants.{SyncAll}
-use Rattle.fjall_journal.specs.Writer.{Journal}
+use Rattle.fjall_journal.specs.Writer.{Journal, PersistTook, persist_steps}
 use Rattle.fjall_catalog.specs.declared.update.Update.{Update}
 use Rattle.fjall_catalog.specs.Catalog.{fields}
 use Rattle.fjall_catalog.specs.Updates.{IsTableGone}
@@ -16,8 +16,8 @@ use Rattle.fjall_commit.specs.Journaling.{IsWriting, LeavesRoot, after_persist, 
 use Rattle.fjall_commit.specs.declared.creation.Creation.{Creation}
 use Rattle.fjall_commit.specs.Changes.{HasEither, HasRoom, ForCreation, ForCreationOn, ForDeletionOn, ForNewId, ForUpdate}
 
--- All that waited went out in that mode, and where it was done the writer goes on behind it; what stands in `keyspaces`
--- stayed, and so did the homes there wherever else the journal's file is.
+-- All that waited went out in that mode, in just these steps, and where it was done the writer goes on behind it; where it wasn't it
+-- stopped in one of them. What stands in `keyspaces` stayed, and so did the homes there wherever else the journal's file is.
 pub record Persisted (old new : Meaning) (before after : Journal) (mode : PersistMode) (done : Bool) : Type 0 where
   pub leaves : ForWriting old before (λ j. LeavesOnly old new (LeavesRoot (state_in old) j j.later))
   pub lies : done ≡ true → ForWriting old before (λ j. IsWriting (state_in new) after (after_persist mode j))
@@ -25,6 +25,8 @@ pub record Persisted (old new : Meaning) (before after : Journal) (mode : Persis
   pub homes : is_of_keyspaces before.name ≡ false → KeepsHomes old new
   pub served : ForWriting old before (λ j. new.misuses ≡ old.misuses)
   pub kinds : StaysTidy old new
+  pub took : done ≡ true → Took old new (persist_steps before mode)
+  pub left : done ≡ false → PersistTook before after mode old new
 
 -- A keyspace was made: a crash meanwhile leaves the tree before or the one with it, and where it was done, that one lies
 -- on the disk, and tree 0's table of before stands there no more. All other homes stayed.

@@ -1,5 +1,6 @@
 -- What closing leaves of the disk.
 use Rattle.std.proofs.Common.{◌≡◌, true, false, List, [], ◌∷◌, Some, Result, Ok, Err, refl, sym, ◌∙◌, ap, subst}
+use Rattle.std.proofs.lemmas.Bool.{true≢false}
 use Rattle.fjall_base.specs.Store.{Store, Command, fold}
 use Rattle.fjall_base.specs.Crash.{IsHoused}
 use Rattle.fjall_base.specs.Disk.{Meaning, Took, state_in}
@@ -47,6 +48,8 @@ synced_out old new hands took served = record {
   homes = λ out. persisted_homes old.journal old.disk new.disk out SyncAll took;
   served = λ j writing. served;
   kinds = persist_stays old.disk new.disk old.journal SyncAll took;
+  took = λ _. took;
+  left = λ e. absurd (true≢false e);
 }
 
 -- nothing waits for a sync any more, so that the disk holds what it stands for

@@ -122,7 +122,7 @@ no_more [] rest e = refl
 no_more (c ∷ front) rest e = cc
 
 -- where nothing is pending, each crash from now on leaves all that was tried so far
-safe_now : (d m : Durable) (new : Meaning) (tried more : List Command) → Passes d tried m → m.pending ≡ [] → LeavesOnly m.meaning new (StandsAmid m.base [] (m.pending ++ more)) → SafeSince d tried (tried ++ more) new
+pub safe_now : (d m : Durable) (new : Meaning) (tried more : List Command) → Passes d tried m → m.pending ≡ [] → LeavesOnly m.meaning new (StandsAmid m.base [] (m.pending ++ more)) → SafeSince d tried (tried ++ more) new
 safe_now d m new tried more p none later =
     let all : p.safe ≡ d.pending ++ tried = sym (append-nil p.safe) ∙ ap (λ (l : List Command). p.safe ++ l) (sym none) ∙ p.rest in
     record {

@@ -1,5 +1,5 @@
 -- What a creation makes of a core.
-use Rattle.std.proofs.Common.{◌≡◌, ◌≢◌, All, inl, inr, ⊎_elim, MatchOption, Option, ℕ, ◌<◌, ◌-◌, ◌^◌, Bool, true, false, if◌then◌else◌, List, [], ◌∷◌, None, Some, Result, Ok, Err, refl, sym, ◌∙◌, ap, subst, arith}
+use Rattle.std.proofs.Common.{◌≡◌, ◌≢◌, ◌⊎◌, All, codes, inl, inr, ⊎_elim, MatchOption, Option, ℕ, ◌<◌, ◌-◌, ◌^◌, Bool, true, false, if◌then◌else◌, List, [], ◌∷◌, None, Some, Result, Ok, Err, refl, sym, ◌∙◌, ap, subst, arith}
 use Rattle.std.proofs.lemmas.Bool.{true≢false}
 use Rattle.fjall_base.specs.Pairs.{Bytes}
 use Rattle.fjall_base.specs.Store.{Create, apply, fold, kept}
@@ -32,12 +32,14 @@ use Rattle.fjall_state.proofs.Facts.{named_is}
 use Rattle.fjall_state.proofs.Lawful.{creation_is_lawful}
 use Rattle.fjall_base.specs.Errors.{Rose}
 use Rattle.fjall_journal.specs.declared.persist_mode.PersistMode.TheVariants.{SyncAll}
+use Rattle.fjall_journal.specs.Writer.{PersistTook}
+use Rattle.fjall_files.specs.Regions.{Within}
 use Rattle.fjall_files.specs.Tidy.{IsTidy, StaysTidy}
 use Rattle.fjall_files.proofs.Tidying.{stays_both, stays_start}
 use Rattle.fjall_core.specs.Holding.{Held}
 use Rattle.fjall_core.specs.Durables.{Durable, Passes}
-use Rattle.fjall_core.specs.Crashes.{attempt, is_io}
-use Rattle.fjall_core.specs.Standing.{Creates, Owes, OwesRefusal, Poisons, ReadsOn, ReplacesTable, Serves, StandsFor, StandsOn, held_due, store_in, store_with_tables}
+use Rattle.fjall_core.specs.Crashes.{SafeSince, attempt, is_io}
+use Rattle.fjall_core.specs.Standing.{ChangeStopped, Creates, Owes, OwesRefusal, PersistFailed, Poisons, ReadsOn, ReplacesTable, Serves, StandsFor, StandsOn, held_due, store_in, store_with_tables}
 use Rattle.fjall_commit.specs.SyncedChanges.{SyncedThenChanged}
 use Rattle.fjall_core.specs.CallParts.{Makes}
 use Rattle.fjall_commit.specs.SyncedChanges as on_disk
@@ -50,7 +52,8 @@ use Rattle.fjall_core.proofs.TablesAtHome.{HomesStay, KeepsReads, LieThere, all_
 use Rattle.fjall_core.proofs.Syncs.{Persisted, StaysSame, sync_empty, sync_lies}
 use Rattle.fjall_core.proofs.CatalogTables.{created_table, long_option}
 use Rattle.fjall_commit.proofs.ChangesAfterSync.{not_done}
-use Rattle.fjall_core.proofs.KeyspaceCalls.{ChangesTo, alter_settles, unaltered_leads, unsynced_leads}
+use Rattle.fjall_core.proofs.KeyspaceCalls.{ChangesTo, alter_settles, unaltered_keeps, unaltered_leads, unsynced_leads}
+use Rattle.fjall_core.proofs.Persists.{part_of}
 
 -- a core that has the new keyspace in memory already
 abbrev pub raised : Bytes → List Bytes → Held → Held
@@ -216,12 +219,32 @@ module _ (old : Held) (name : Bytes) (options : List Bytes) (id number : ℕ) (i
     asked_one : (s : State) (kind : _) → StandsFor old s → attempt s (OfCreation name options) (Refused (Io kind)) ≡ Create name (option_pairs options) ∷ []
     asked_one s kind stands = asks_one s stands
 
+    -- what the disk took of it
+    uncreated_disk : (honest : Type 0) (made new : Held) (kind : _) → IsLawful old.memory → Makes honest (raised name options old) id number (Err (Io kind)) made → Back made new (Io kind) → honest
+        → PersistFailed old SyncAll new ⊎ ChangeStopped old (OfCreation name options) new
+    uncreated_disk honest made new kind lawful all back true_ =
+        let disk : new.disk ≡ made.disk = ap (λ (h : Held). h.disk) back in
+        ⊎_elim
+        (λ unsynced. inl (part_of old new new.journal SyncAll (subst (λ (h : Held). PersistTook old.journal h.journal SyncAll old.disk h.disk) (sym back) (unsynced.left refl))))
+        (λ turned. inr (record {
+          synced = turned.mid;
+          sync = turned.synced.took refl;
+          within = subst (λ (m : Meaning). Within (codes "keyspaces") turned.mid m) (sym disk) turned.changed.within;
+          pending = λ s d stands on.
+              subst (λ l. SafeSince d [] l new.disk) (sym (asks_one s stands))
+              (unaltered_keeps s.parts.entries old (between old made turned.mid) new d (Create name (option_pairs options)) room.well (stays old made turned.mid) turned.synced
+              (changes_by made new turned.mid all.0 false lawful all.1 (subst (λ m. on_disk.CreatedKeyspace turned.mid m all.0 false) (sym disk) turned.changed)
+              (record { memory_is = λ e. not_done e; catalog_is = λ e. not_done e; journal_is = λ e. not_done e })) on);
+        }))
+        (all.5 true_)
+
     pub uncreated_serves : (honest : Type 0) (made new : Held) (error : Error) → IsLawful old.memory → Makes honest (raised name options old) id number (Err error) made → Back made new error → honest → Serves old (OfCreation name options) (Refused error) new
     uncreated_serves honest made new (Io kind) lawful all back true_ =
         let fault = poisons_of honest made new kind all back in
         let disk : new.disk ≡ made.disk = ap (λ (h : Held). h.disk) back in
         let journal : new.journal ≡ made.journal = ap (λ (h : Held). h.journal) back in
-        serves_by old new (OfCreation name options) (Refused (Io kind)) (uncreated_owes honest made new (Io kind) lawful all back) (λ reads. reads) tt
+        serves_by old new (OfCreation name options) (Refused (Io kind)) (uncreated_owes honest made new (Io kind) lawful all back) (λ reads. reads)
+        (uncreated_disk honest made new kind lawful all back true_)
         (subst (λ (m : Meaning). StaysTidy old.disk m) (sym disk) (⊎_elim (λ unsynced. unsynced.kinds) (λ turned. kinds_by made turned.mid all.0 false all.1 turned.changed turned.synced.kinds) (all.5 true_)))
         (uncreated_keeps honest made new kind all back true_)
         (λ s d stands on tidy. record {

@@ -1,5 +1,5 @@
 -- What a deletion makes of a core.
-use Rattle.std.proofs.Common.{◌≡◌, inl, inr, ⊎_elim, MatchBool, ℕ, ◌<◌, ◌≤◌, ◌^◌, Bool, true, false, if◌then◌else◌, List, [], ◌∷◌, None, Ok, Err, refl, sym, ◌∙◌, ap, subst, arith}
+use Rattle.std.proofs.Common.{◌≡◌, ◌⊎◌, codes, inl, inr, ⊎_elim, MatchBool, ℕ, ◌<◌, ◌≤◌, ◌^◌, Bool, true, false, if◌then◌else◌, List, [], ◌∷◌, None, Ok, Err, refl, sym, ◌∙◌, ap, subst, arith}
 use Rattle.fjall_base.specs.Store.{Delete, apply, fold, kept}
 use Rattle.fjall_base.specs.Disk.{Meaning}
 use Rattle.fjall_base.specs.Errors.{Rose}
@@ -24,10 +24,12 @@ use Rattle.fjall_state.proofs.Dues.{may_delete}
 use Rattle.fjall_state.proofs.Lawful.{deletion_is_lawful}
 use Rattle.fjall_files.specs.Tidy.{StaysTidy}
 use Rattle.fjall_files.proofs.Tidying.{stays_both, stays_start}
+use Rattle.fjall_files.specs.Regions.{Within}
+use Rattle.fjall_journal.specs.Writer.{PersistTook}
 use Rattle.fjall_core.specs.Holding.{Held}
 use Rattle.fjall_core.specs.Durables.{Durable, Passes}
-use Rattle.fjall_core.specs.Crashes.{is_io}
-use Rattle.fjall_core.specs.Standing.{Deletes, Owes, OwesRefusal, Poisons, ReadsOn, ReplacesTable, Serves, StandsFor, StandsOn, held_due, store_in, store_with_tables}
+use Rattle.fjall_core.specs.Crashes.{SafeSince, is_io}
+use Rattle.fjall_core.specs.Standing.{ChangeStopped, Deletes, Owes, OwesRefusal, PersistFailed, Poisons, ReadsOn, ReplacesTable, Serves, StandsFor, StandsOn, held_due, store_in, store_with_tables}
 use Rattle.fjall_commit.specs.SyncedChanges.{SyncedThenChanged}
 use Rattle.fjall_core.specs.CallParts.{Unmakes}
 use Rattle.fjall_commit.specs.SyncedChanges as on_disk
@@ -42,7 +44,8 @@ use Rattle.fjall_core.proofs.Syncs.{Persisted, sync_empty, sync_lies}
 use Rattle.fjall_core.proofs.JournalWrites.{held_on}
 use Rattle.fjall_core.proofs.CatalogTables.{deleted_table, long_option, some_left}
 use Rattle.fjall_commit.proofs.ChangesAfterSync.{not_done}
-use Rattle.fjall_core.proofs.KeyspaceCalls.{ChangesTo, alter_settles, unaltered_leads, unsynced_leads}
+use Rattle.fjall_core.proofs.KeyspaceCalls.{ChangesTo, alter_settles, unaltered_keeps, unaltered_leads, unsynced_leads}
+use Rattle.fjall_core.proofs.Persists.{part_of}
 
 -- a core in its parts, from whose memory the keyspace went that was in it before
 pub deleted_whole : {view made : Held} → view ≡ made → (old : Held) → made.memory ≡ old.memory → (id : ℕ) → {new : Remembered} → new ≡ with_deletion id view.memory
@@ -170,11 +173,30 @@ module _ (old : Held) (id : ℕ) (none : held_due old (OfDeletion id) ≡ None) 
       (λ turned. homes_by made.disk s stands reads (others_by made.disk turned.mid all.0 false all.1 (turned.synced.homes (reads.writer room.well)) turned.changed)) (all.5 true_))))
       (outside_ill old new (ap (λ (h : Held). h.memory.poisoned) back))
 
+  -- what the disk took of it
+  undeleted_disk : (honest : Type 0) (made new : Held) (kind : _) → IsLawful old.memory → Unmakes honest old id (Err (Io kind)) made → Back made new (Io kind) → honest → PersistFailed old SyncAll new ⊎ ChangeStopped old (OfDeletion id) new
+  undeleted_disk honest made new kind lawful all back true_ =
+      let disk : new.disk ≡ made.disk = ap (λ (h : Held). h.disk) back in
+      ⊎_elim
+      (λ unsynced. inl (part_of old new new.journal SyncAll (subst (λ (h : Held). PersistTook old.journal h.journal SyncAll old.disk h.disk) (sym back) (unsynced.left refl))))
+      (λ turned. inr (record {
+        synced = turned.mid;
+        sync = turned.synced.took refl;
+        within = subst (λ (m : Meaning). Within (codes "keyspaces") turned.mid m) (sym disk) turned.changed.within;
+        pending = λ s d stands on.
+            subst (λ l. SafeSince d [] l new.disk) (sym (asks_one s stands))
+            (unaltered_keeps s.parts.entries old (between old made turned.mid) new d (Delete id) room.well (stays old made turned.mid) turned.synced
+            (changes_by made new turned.mid all.0 false lawful all.1 (subst (λ m. on_disk.DeletedKeyspace turned.mid m all.0 false) (sym disk) turned.changed)
+            (record { memory_is = λ e. not_done e; catalog_is = λ e. not_done e; journal_is = λ e. not_done e })) on);
+      }))
+      (all.5 true_)
+
   pub undeleted_serves : (honest : Type 0) (made new : Held) (error : Error) → IsLawful old.memory → Unmakes honest old id (Err error) made → Back made new error → honest → Serves old (OfDeletion id) (Refused error) new
   undeleted_serves honest made new (Io kind) lawful all back true_ =
       let fault = poisons_of honest made new kind all back in
       let disk : new.disk ≡ made.disk = ap (λ (h : Held). h.disk) back in
-      serves_by old new (OfDeletion id) (Refused (Io kind)) (undeleted_owes honest made new (Io kind) lawful all back) (λ reads. reads) tt
+      serves_by old new (OfDeletion id) (Refused (Io kind)) (undeleted_owes honest made new (Io kind) lawful all back) (λ reads. reads)
+      (undeleted_disk honest made new kind lawful all back true_)
       (subst (λ (m : Meaning). StaysTidy old.disk m) (sym disk) (⊎_elim (λ unsynced. unsynced.kinds) (λ turned. stays_both old.disk turned.mid made.disk turned.synced.kinds turned.changed.kinds) (all.5 true_)))
       (undeleted_keeps honest made new kind all back true_)
       (λ s d stands on tidy. record {

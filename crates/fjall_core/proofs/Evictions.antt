@@ -3,6 +3,7 @@ use Rattle.std.proofs.Common.{◌≡◌, ◌⊎◌, inl, inr, ℕ, ◌≤◌, �
 use Rattle.std.proofs.Common.{Result, Ok, Err, IfOk, IsOkUnless, Vec, refl, sym, ◌∙◌, ap, subst}
 use Rattle.std.specs.declared.alloc.Global.{Global}
 use Rattle.std.specs.List.{AllByRecursion}
+use Rattle.std.specs.List.Sorted.{IsStrictlyIncreasing}
 use Rattle.std.proofs.lemmas.Bool.{true≢false}
 use Rattle.std.proofs.lemmas.List.{append-nil}
 use Rattle.fjall_base.specs.Store.{Store, Command, fold, kept}
@@ -263,7 +264,7 @@ evicted_serves honest old new (Ok _) well e h =
     (λ s d stands on tidy. evicted_served s.parts.entries old new d true well (e.2 h) on)
     (λ s d stands on. led_by new s d OfMaintenance Done [] refl (λ sync. sync) (evicted_leads s.parts.entries old new d well e.0 (e.2 h) on))
 evicted_serves honest old new (Err (Io kind)) well (left, evicts, fault, away, later) h =
-    serves_by old new OfMaintenance (Refused (Io kind)) (evicted_owes honest old new (Err (Io kind)) well (left, evicts, fault, away, later)) (λ reads. reads) tt (away h).kinds (unevicted_keeps old new left evicts fault (away h))
+    serves_by old new OfMaintenance (Refused (Io kind)) (evicted_owes honest old new (Err (Io kind)) well (left, evicts, fault, away, later)) (λ reads. reads) ((away h).stopped refl) (away h).kinds (unevicted_keeps old new left evicts fault (away h))
     (λ s d stands on tidy. record { rose = fault.faults; served = evicted_served s.parts.entries old new d false well (away h) on })
     (λ s d stands on. led_by new s d OfMaintenance (Refused (Io kind)) [] refl (no_sync s OfMaintenance (Io kind)) (unevicted_leads s.parts.entries old new left d well evicts fault (away h) on))
 evicted_serves honest old new (Err error) well e h = absurd e
@@ -274,10 +275,13 @@ evicted_serves honest old new (Err error) well e h = absurd e
 abbrev pub TellsWaited : Held → Result (Vec ℕ Global) Error → Type 0
 TellsWaited core result = IfOk result (λ ids. ids.items ≡ waited_for (flushed_by core.memory.keyspaces core.memory.records) core.memory.journals.sealed)
 
-pub waited_owes : (core : Held) (result : Result (Vec ℕ Global) Error) → TellsWaited core result → IsOkUnless result OutOfMemory → Owes core (OfCount ToFlush) (ids_reply result) core
-waited_owes core (Ok ids) told only = (refl, ((ids, refl, told), refl))
-waited_owes core (Err error) told only = subst (λ (e : Error). Owes core (OfCount ToFlush) (Refused e) core) (sym only) (memory_owes core (OfCount ToFlush) tt refl)
+abbrev pub TellsAscending : Result (Vec ℕ Global) Error → Type 0
+TellsAscending result = IfOk result (λ ids. IsStrictlyIncreasing ids.items)
 
-pub waited_serves : (core : Held) (result : Result (Vec ℕ Global) Error) → TellsWaited core result → IsOkUnless result OutOfMemory → Serves core (OfCount ToFlush) (ids_reply result) core
-waited_serves core (Ok ids) told only = answer_serves core (OfCount ToFlush) (Ids ids) (λ reads. reads) (waited_owes core (Ok ids) told only) refl refl (λ s. refl) (λ s sync. sync)
-waited_serves core (Err error) told only = subst (λ (e : Error). Serves core (OfCount ToFlush) (Refused e) core) (sym only) (memory_serves core (OfCount ToFlush) tt refl)
+pub waited_owes : (core : Held) (result : Result (Vec ℕ Global) Error) → TellsWaited core result → TellsAscending result → IsOkUnless result OutOfMemory → Owes core (OfCount ToFlush) (ids_reply result) core
+waited_owes core (Ok ids) told ascend only = (refl, ((ids, refl, ascend, told), refl))
+waited_owes core (Err error) told ascend only = subst (λ (e : Error). Owes core (OfCount ToFlush) (Refused e) core) (sym only) (memory_owes core (OfCount ToFlush) tt refl)
+
+pub waited_serves : (core : Held) (result : Result (Vec ℕ Global) Error) → TellsWaited core result → TellsAscending result → IsOkUnless result OutOfMemory → Serves core (OfCount ToFlush) (ids_reply result) core
+waited_serves core (Ok ids) told ascend only = answer_serves core (OfCount ToFlush) (Ids ids) (λ reads. reads) (waited_owes core (Ok ids) told ascend only) refl refl (λ s. refl) (λ s sync. sync)
+waited_serves core (Err error) told ascend only = subst (λ (e : Error). Serves core (OfCount ToFlush) (Refused e) core) (sym only) (memory_serves core (OfCount ToFlush) tt refl)

@@ -459,7 +459,7 @@ module _ (honest : Type 0) (old new : Held) (made : FlushMade) (may : MayPut old
   -- a fault in the writing of the flush
   put_ill : (kind : _) → Poisons old.memory old new → WroteFlush old.memory made old.disk new.disk false → Serves old (finishing made) (Refused (Io kind)) new
   put_ill kind fault wrote = record {
-    disk = tt;
+    disk = inl wrote.within;
     goes_on = λ s stands reads.
         let kept_reads = unput_reads old new made may false s stands reads wrote fault in
         let out : is_flushing s.parts.trees job ≡ true = out_agrees old.memory old.catalog.next_table_id s stands.remembered job ∙ out_is in
@@ -488,7 +488,7 @@ module _ (honest : Type 0) (old new : Held) (made : FlushMade) (may : MayPut old
 
   unevicted_serves : (error : Error) (mid : Held) → Puts honest old made (Ok tt) mid → Evicts honest mid (Err error) new → honest → Serves old (finishing made) (Refused error) new
   unevicted_serves (Io kind) mid (put, becomes, wrote) (left, evicts, fault, away, later) h = record {
-    disk = tt;
+    disk = inr (record { mid = mid.disk; left = mid.memory; flushed = in_memory mid (finished_there mid put); within = (wrote h).within; evicted = (away h).stopped refl });
     goes_on = λ s stands reads. goes_ill mid (finished_there mid put) becomes s stands left evicts fault later kind (wrote h) (away h) reads;
   }
   unevicted_serves error mid put bad h = absurd bad

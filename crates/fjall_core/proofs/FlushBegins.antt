@@ -144,6 +144,8 @@ module _ (honest : Type 0) (old new : Held) (short : is_long old.journal ≡ fal
       homes = λ out. persisted_homes old.journal old.disk new.disk out SyncAll (took h);
       served = served h;
       kinds = kinds h;
+      took = λ _. took h;
+      left = λ e. absurd (true≢false e);
     }),
   )
   short_synced (Err (Io kind)) journal cause took left leaves lies elsewhere served kinds = (
@@ -158,6 +160,8 @@ module _ (honest : Type 0) (old new : Held) (short : is_long old.journal ≡ fal
       homes = λ out. unpersisted_homes old.journal old.disk new.disk out new.journal SyncAll (left h);
       served = served h;
       kinds = kinds h;
+      took = λ e. absurd (true≢false (sym e));
+      left = λ _. left h;
     }),
   )
   short_synced (Err error) journal cause took left leaves lies elsewhere served kinds = absurd cause.cause

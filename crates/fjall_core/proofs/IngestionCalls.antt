@@ -1,11 +1,13 @@
 -- What came of an ingestion is what the call owes, and a crash leaves what it may.
 use Rattle.std.proofs.Common.{◌≡◌, inl, inr, ℕ, ◌≤◌, ◌-◌, ◌^◌, ◌&&◌, nat_le, Bool, true, false, List, [], ◌∷◌, length, Result, Ok, Err, refl, sym, ◌∙◌, ap, subst, arith}
 use Rattle.std.specs.declared.io.ErrorKind.{ErrorKind}
-use Rattle.fjall_base.specs.Store.{Command, kept}
+use Rattle.fjall_base.specs.Store.{Command, Store, kept}
 use Rattle.fjall_base.specs.Disk.{LeavesOnly, Meaning, state_in}
 use Rattle.fjall_base.specs.Errors.{Rose}
 use Rattle.fjall_base.specs.declared.error.Error.{Error}
 use Rattle.fjall_base.specs.declared.error.Error.TheVariants.{Io}
+use Rattle.fjall_files.specs.Names.{keyspace_folder}
+use Rattle.fjall_files.specs.Regions.{Within}
 use Rattle.fjall_files.specs.Tidy.{IsTidy, StaysTidy}
 use Rattle.fjall_files.proofs.Tidying.{stays_both, tidy_on}
 use Rattle.fjall_history.specs.declared.reply.Reply.TheVariants.{Done, Refused}
@@ -30,13 +32,13 @@ use Rattle.fjall_core.specs.CallParts.{Evicts, PutsIngestion, SettlesIngestion, 
 use Rattle.fjall_core.specs.Durables.{Durable, StandsAmid, StaysFinished}
 use Rattle.fjall_core.specs.Standing.{Becomes, EvictionTook, EvictsInMemory, IngestedInMemory, IngestionPoisons, Owes, OwesRefusal, Poisons, Serves, StandsFor, StandsOn, SyncFailed, SyncTook}
 use Rattle.fjall_core.specs.Standing.{evicted_in_memory, is_long, journal_synced, reply_of, store_with_tables}
-use Rattle.fjall_core.proofs.CrashesInRuns.{passes_on}
+use Rattle.fjall_core.proofs.CrashesInRuns.{passes_on, safe_now}
 use Rattle.fjall_core.proofs.Evictions.{evicted_keeps, evicted_leads, evicted_served, unevicted_leads}
 use Rattle.fjall_core.proofs.FinishedFlushes.{rose_later}
 use Rattle.fjall_core.proofs.IngestionSettles.{away_too, evicted_too, evicts_too, ingested_on, recorded_on, settled, unsettled}
 use Rattle.fjall_core.proofs.IngestionSteps.{IsDue, ingests, leads_by, leads_synced, leads_taken, left_there, may_synced, next_left, none_after, reads_synced, reads_taken, stands_synced, stands_taken}
 use Rattle.fjall_core.proofs.IngestionSteps.{state_synced, state_taken}
-use Rattle.fjall_core.proofs.IngestionSyncs.{unsynced_keeps, unsynced_leads, went_kinds, went_served}
+use Rattle.fjall_core.proofs.IngestionSyncs.{StandsSynced, unsynced_keeps, unsynced_leads, went_kinds, went_served}
 use Rattle.fjall_core.proofs.IngestionTables.{all_lie}
 use Rattle.fjall_core.proofs.IngestionWrites.{MayWrite, record_planned, unwritten_leads, write_finished, write_leaves, write_served}
 use Rattle.fjall_core.proofs.JournalWrites.{held_on}
@@ -87,7 +89,7 @@ module _ (honest : Type 0) (old new : Held) (k : LivingKeyspace) (item : KeyOp) 
         let went = subst (λ (c : Held). WentSynced (is_long old.journal) false old c) (sym is) (went_with (is_long old.journal) false old failed (poisoned failed.memory) (synced.4 h)) in
         let numbered = next_left old due.left in
         record {
-          disk = tt;
+          disk = inl took;
           goes_on = λ s stands reads.
               let kept_reads = unsynced_keeps old new due.may.well numbered fault took went s stands reads in (
                 poisoned_state new s,
@@ -143,6 +145,10 @@ module _ (honest : Type 0) (old new : Held) (k : LivingKeyspace) (item : KeyOp) 
           (tidy_on old.disk synced.disk sync_kinds tidy)
           ∙ went_served old synced due.may.well (next_left old due.left) (is_long old.journal) true refl went s.parts.entries d on tidy
 
+    -- what was written stands within the keyspace's folder
+    written_within : (disk : Meaning) (done : Bool) → WroteIngestion p synced.disk disk done → Within (keyspace_folder k.id) synced.disk disk
+    written_within disk done wrote = wrote.within (shape_in k.id synced.memory.trees) k.id synced.memory.tickets.watermark synced.memory.next items (last_known synced.memory.records k) may.planned
+
     -- ---- a fault stopped the writing
 
     module _ (kind : ErrorKind) (writes : WritesIngestion honest synced p (Err (Io kind)) new) where
@@ -160,7 +166,19 @@ module _ (honest : Type 0) (old new : Held) (k : LivingKeyspace) (item : KeyOp) 
 
       unwritten_serves : SyncTook old synced → WentSynced (is_long old.journal) true old synced → honest → Serves old call (Refused (Io kind)) new
       unwritten_serves took went h = record {
-        disk = tt;
+        disk = inr (record {
+          synced = synced;
+          sync = took;
+          mid = new.disk;
+          within = written_within new.disk false (writes.2 h);
+          evicted = inl refl;
+          pending = λ s d stands on.
+              let held = stands_synced old synced k item rest p due at s stands in
+              let s1 = state_synced old synced k item rest p due at s stands in
+              let first = leads_synced old synced k item rest p due at s stands d went on in
+              safe_now d (held_on synced first.0 []) new.disk [] (command ∷ []) first.2 refl
+              (write_leaves synced k items p may held.remembered.lawful s1.parts.entries first.0 first.1 new.disk false (writes.2 h));
+        });
         goes_on = λ s stands reads.
             let fault = unwritten_fault in
             let wrote = writes.2 h in
@@ -238,7 +256,7 @@ module _ (honest : Type 0) (old new : Held) (k : LivingKeyspace) (item : KeyOp) 
             synced = synced;
             sync = took;
             mid = mid.disk;
-            within = (writes.2 h).within (shape_in k.id synced.memory.trees) k.id synced.memory.tickets.watermark synced.memory.next items (last_known synced.memory.records k) may.planned;
+            within = written_within mid.disk true (writes.2 h);
             left = m_taken;
             ingested = in_memory;
             evicted = evicted h;
@@ -338,13 +356,34 @@ module _ (honest : Type 0) (old new : Held) (k : LivingKeyspace) (item : KeyOp) 
         knowing_fault : Poisons left_taken on_disk knowing
         knowing_fault = record { memory_is = refl; faults = rose_mid }
 
+        gone_of : WentAway (recorded_on synced mid.disk k.id p).memory mid.disk after.disk false → WentAway m_taken mid.disk new.disk false
+        gone_of away = away_too synced mid.disk k.id p new.disk false (subst (λ (m : Meaning). WentAway (recorded_on synced mid.disk k.id p).memory mid.disk m false) (sym left_disk) away)
+
+        -- what a crash leaves from the sync on
+        unevicted_leaves : WroteIngestion p synced.disk mid.disk true → WentAway (recorded_on synced mid.disk k.id p).memory mid.disk after.disk false → (s : State) (stands : StandsFor old s) (base : Store)
+            → StandsSynced synced (state_synced old synced k item rest p due at s stands).parts.entries base → LeavesOnly synced.disk new.disk (StandsAmid base [] (command ∷ []))
+        unevicted_leaves wrote away s stands base lies =
+            let t1 = state_taken old synced k item rest p due at s stands in
+            let second = leads_taken old synced k item rest p due at s stands mid.disk base lies wrote in
+            let third = unevicted_leads t1.parts.entries on_disk knowing left_taken second.0 may.well evicts_taken knowing_fault (gone_of away) second.1 in
+            let later = passes_on (held_on synced base []) second.0 third.0 (command ∷ []) [] second.2 third.2 in
+            subst (λ (m : Meaning). LeavesOnly synced.disk m (StandsAmid base [] (command ∷ []))) third.1.same later.leaves
+
         unevicted_serves : SyncTook old synced → WentSynced (is_long old.journal) true old synced → WroteIngestion p synced.disk mid.disk true
             → WentAway (recorded_on synced mid.disk k.id p).memory mid.disk after.disk false → Serves old call (Refused (Io kind)) new
         unevicted_serves took went wrote away = record {
-          disk = tt;
+          disk = inr (record {
+            synced = synced;
+            sync = took;
+            mid = mid.disk;
+            within = written_within mid.disk true wrote;
+            evicted = inr (m_taken, in_memory, (gone_of away).stopped refl);
+            pending = λ s d stands on.
+                let first = leads_synced old synced k item rest p due at s stands d went on in
+                safe_now d (held_on synced first.0 []) new.disk [] (command ∷ []) first.2 refl (unevicted_leaves wrote away s stands first.0 first.1);
+          });
           goes_on = λ s stands reads.
-              let gone : WentAway m_taken mid.disk new.disk false =
-              away_too synced mid.disk k.id p new.disk false (subst (λ (m : Meaning). WentAway (recorded_on synced mid.disk k.id p).memory mid.disk m false) (sym left_disk) away) in
+              let gone = gone_of away in
               let s1 = state_synced old synced k item rest p due at s stands in
               let t1 = state_taken old synced k item rest p due at s stands in
               let held_synced = stands_synced old synced k item rest p due at s stands in
@@ -382,10 +421,9 @@ module _ (honest : Type 0) (old new : Held) (k : LivingKeyspace) (item : KeyOp) 
                     let first = leads_synced old synced k item rest p due at s stands d went on in
                     let second = leads_taken old synced k item rest p due at s stands mid.disk first.0 first.1 wrote in
                     let third = unevicted_leads t1.parts.entries on_disk knowing left_taken second.0 may.well evicts_taken knowing_fault gone second.1 in
-                    let later = passes_on (held_on synced first.0 []) second.0 third.0 (command ∷ []) [] second.2 third.2 in
                     let led = unwritten_leads synced k items p may held_synced.remembered.lawful s1.parts.entries first.0 first.1 new ill
                     (subst (λ (m : Meaning). StaysFinished (state_in m)) third.1.same third.1.finished)
-                    (subst (λ (m : Meaning). LeavesOnly synced.disk m (StandsAmid first.0 [] (command ∷ []))) third.1.same later.leaves)
+                    (unevicted_leaves wrote away s stands first.0 first.1)
                     (ap (λ (m : Remembered). kept (store_with_tables s1.parts.entries (record new { memory = m }))) (sym left_memory)) in
                     (led.0, led.1, passes_on d (held_on synced first.0 []) led.0 [] (command ∷ []) first.2 led.2, λ sync. absurd sync)),
               );

@@ -24,7 +24,7 @@ module _ (core : Held) (disk : Meaning) (id : ℕ) (p : PlannedIngestion) where
   ingested_on = record core { disk = disk; memory = with_ingestion id p.readers.items (view p.own.writes.record) core.memory }
 
   pub away_too : (new : Meaning) (done : Bool) → WentAway recorded_on.memory disk new done → WentAway ingested_on.memory disk new done
-  away_too new done away = record { leaves = away.leaves; lies = away.lies; elsewhere = away.elsewhere; homes = away.homes; served = away.served; kinds = away.kinds }
+  away_too new done away = record { leaves = away.leaves; lies = away.lies; elsewhere = away.elsewhere; homes = away.homes; served = away.served; kinds = away.kinds; stopped = away.stopped }
 
   pub evicted_too : (after new : Held) → Becomes recorded_on (evicted_in_memory recorded_on.memory) after → new ≡ record after { memory = with_tables id p.readers.items after.memory }
       → Becomes ingested_on (evicted_in_memory ingested_on.memory) new

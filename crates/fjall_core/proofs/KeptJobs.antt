@@ -304,7 +304,7 @@ count_begins core (DiskSpace id) job told = let bad : ⊥ = cc in bad
 count_begins core Flushes job told = let bad : ⊥ = cc in bad
 count_begins core MergesOut job told = let bad : ⊥ = cc in bad
 count_begins core MergesDone job told = let bad : ⊥ = cc in bad
-count_begins core ToFlush job (ids, told, is) = let bad : ⊥ = cc in bad
+count_begins core ToFlush job (ids, told, ascend, is) = let bad : ⊥ = cc in bad
 
 read_begins : (old : Held) (view : _) (id : ℕ) (query : Query) (job : JobId) (tables : List Reader) → GivesRead tables old view id query (Began (Some job)) → ⊥
 read_begins old view id (Get key) job [] told = let bad : ⊥ = cc in bad

@@ -16,10 +16,11 @@ use Rattle.fjall_commit.specs.Journaling.{IsWriting}
 use Rattle.fjall_state.specs.Remembered.{Remembered}
 use Rattle.fjall_table.specs.Blocks.{Entry}
 use Rattle.fjall_core.specs.Holding.{Held}
+use Rattle.fjall_core.specs.Crashes.{SafeSince}
 use Rattle.fjall_core.specs.Durables.{Durable, Knows, Lies, MakesPresent, Rests, StandsAmid, AreKnown}
 use Rattle.fjall_core.specs.Standing.{Poisons, StandsOn, store_with_tables}
 use Rattle.fjall_core.proofs.CatalogChanges.{AreUnused, Changed, change_leaves, changed_settles, ill_leads}
-use Rattle.fjall_core.proofs.CrashesInRuns.{amid_least, amid_more, amid_shift, passes_on, passes_still}
+use Rattle.fjall_core.proofs.CrashesInRuns.{amid_least, amid_more, amid_shift, passes_on, passes_still, safe_now}
 use Rattle.fjall_core.proofs.CatalogOnDisk.{removal_leaves}
 use Rattle.fjall_core.proofs.CrashImages.{leaves_finished, lies_rest}
 use Rattle.fjall_core.proofs.RootUnchanged.{within_finished, within_root, writing_along}
@@ -70,6 +71,21 @@ unaltered_leads entries old mid new d command well same out changes fault = ill_
     (λ base pending lies.
     let after = sync_lies old mid base pending same lies out in
     within_finished mid.disk new.disk after.journals after.writing.root (changes (fold base pending) after (sync_empty old mid base pending same lies out)).run)
+
+-- and from the sync on a crash leaves all that was pending
+pub unaltered_keeps : (entries : ℕ → List (List Entry)) (old mid new : Held) (d : Durable) (command : Command) → old.memory.poisoned ≡ false → StaysSame old mid → Persisted old mid SyncAll true → ChangesTo mid new command false → StandsOn old entries d
+    → SafeSince d [] (command ∷ []) new.disk
+unaltered_keeps entries old mid new d command well same out changes stands =
+    let here : d ≡ held_on old d.base d.pending = λ i. record { meaning = stands.same i; base = d.base; pending = d.pending } in
+    subst (λ (x : Durable). SafeSince x [] (command ∷ []) new.disk) (sym here) (keeps d.base d.pending ((subst (λ (x : Durable). StandsOn old entries x) here stands).lies well))
+  where
+    keeps : (base : Store) (pending : List Command) → Lies old (held_on old base pending) → SafeSince (held_on old base pending) [] (command ∷ []) new.disk
+    keeps base pending lies =
+        let after = sync_lies old mid base pending same lies out in
+        let c = changes (fold base pending) after (sync_empty old mid base pending same lies out) in
+        let first = synced_passes old mid base pending (hand_leaves old mid SyncAll true base pending lies out) (lies_rest mid (held_on mid (fold base pending) []) after) in
+        safe_now (held_on old base pending) (held_on mid (fold base pending) []) new.disk [] (command ∷ []) first refl
+        (change_leaves (fold base pending) mid.disk new.disk after.journals after.tree c.next command after.made c.after (sync_empty old mid base pending same lies out) after.writing.root c.run c.leaves)
 
 -- ---- handles
 

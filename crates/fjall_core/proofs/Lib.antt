@@ -1,5 +1,6 @@
 mod Refusals
 mod CrashesInRuns
+mod ApproximateLengths
 mod AttemptedCommands
 pub mod RunsOverCrashes
 mod ResolvedRuns
@@ -14,6 +15,7 @@ mod Syncs
 mod TablesAtHome
 mod KeptEntries
 mod LookedDisks
+mod QuietReads
 mod ReadCalls
 mod RootUnchanged
 mod CatalogChanges

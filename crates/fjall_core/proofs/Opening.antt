@@ -48,6 +48,7 @@ use Rattle.fjall_state.specs.Remembered.{AreBeside, IsBegun, IsMergeBegun, Remem
 use Rattle.fjall_history.proofs.Values.{all_none}
 use Rattle.fjall_state.specs.Remembered as memory
 use Rattle.fjall_state.specs.Machine.{is_among, opened_state}
+use Rattle.fjall_state.proofs.Lawful.{remembered_is_lawful}
 use Rattle.fjall_state.proofs.Standing.{an_opening_stands}
 use Rattle.fjall_core.specs.Holding.{Held}
 use Rattle.fjall_core.specs.Durables.{Durable, Knows, Lies}
@@ -68,7 +69,7 @@ core_of disk o = held_of disk o (memory_of o)
 
 -- what was opened is lawful
 lawful_of : (o : Opened) → repair.IsLawful o → memory.IsLawful (memory_of o)
-lawful_of o lawful = record {
+lawful_of o lawful = remembered_is_lawful o.keyspaces (forest_of o.trees) o.number (journals_of o.sealed o.active o.watermarks) o.records (record {
   keyspaces = lawful.keyspaces;
   made = lawful.made;
   forest = lawful.forest;
@@ -84,7 +85,7 @@ lawful_of o lawful = record {
   begun = λ i d lt. subst (IsBegun 0 0) (sym (lawful.still i d lt).0) tt;
   merging = λ i d lt. subst (IsMergeBegun 0 0) (sym (lawful.still i d lt).1) tt;
   jobs = omega arith;
-}
+})
 
 -- what is said of each keyspace's last record
 same_record : (found : Option Fields) (a b : Fields) → is_some found ≡ true → unwrap_or found a ≡ unwrap_or found b

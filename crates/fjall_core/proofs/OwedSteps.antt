@@ -445,7 +445,7 @@ same_counts old s (DiskSpace None) reply told stands =
 same_counts old s Flushes reply told stands = told ∙ ap Number (sym (waits_agree old.memory old.catalog.next_table_id s stands.remembered))
 same_counts old s MergesOut reply told stands = told ∙ ap Number (sym (merges_counted old.memory old.catalog.next_table_id s stands.remembered))
 same_counts old s MergesDone reply told stands = told ∙ ap Number (sym stands.remembered.merges_done)
-same_counts old s ToFlush reply (ids, told, is) stands = (ids, told, is ∙ sym (awaited_agree old.memory old.catalog.next_table_id s stands.remembered))
+same_counts old s ToFlush reply (ids, told, ascend, is) stands = (ids, told, ascend, is ∙ sym (awaited_agree old.memory old.catalog.next_table_id s stands.remembered))
 
 creation_steps : (old new : Held) (s : State) (name : Bytes) (options : List Bytes) (id : ℕ) → held_due old (OfCreation name options) ≡ None → OwesCreation old name options id new → StandsFor old s → Steps new s (OfCreation name options) (Number id)
 creation_steps old new s name options id none (inl (found, same)) stands = found_steps old new s name options id none found same stands

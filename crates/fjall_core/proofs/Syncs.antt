@@ -1,5 +1,6 @@
 -- Where a sync of the journal leads a core and its disk.
 use Rattle.std.proofs.Common.{◌≡◌, ◌≤◌, inl, ℕ, Bool, true, false, List, [], ◌∷◌, ◌++◌, max, map, refl, sym, ◌∙◌, ap, subst}
+use Rattle.std.proofs.lemmas.Bool.{true≢false}
 use Rattle.std.proofs.lemmas.List.{append-nil}
 use Rattle.fjall_base.specs.Store.{Store, Command, fold, kept}
 use Rattle.fjall_base.specs.Disk.{LeavesOnly, state_in}
@@ -162,7 +163,7 @@ persist_leads entries old new Buffer d well hands out stands =
     let led = buffer_leads entries old new d well hands out stands in
     (led.0, led.1, led.2, λ s none. absurd none)
 persist_leads entries old new SyncData d well hands out stands =
-    let led = sync_settles entries old new d well hands (record { leaves = out.leaves; lies = out.lies; elsewhere = out.elsewhere; homes = out.homes; served = out.served; kinds = out.kinds }) stands in
+    let led = sync_settles entries old new d well hands (record { leaves = out.leaves; lies = out.lies; elsewhere = out.elsewhere; homes = out.homes; served = out.served; kinds = out.kinds; took = out.took; left = λ e. absurd (true≢false e) }) stands in
     (led.0, led.1, led.2, λ s _. led.3)
 persist_leads entries old new SyncAll d well hands out stands =
     let led = sync_settles entries old new d well hands out stands in

@@ -48,7 +48,7 @@ use Rattle.fjall_state.specs.Planned.{ForIngestion, ForIngestionOn, HasNoTableFo
 use Rattle.fjall_state.specs.Ingesting.{with_record, with_tables}
 use Rattle.fjall_core.specs.Crashes.{is_io}
 use Rattle.fjall_core.specs.Holding.{Held}
-use Rattle.fjall_core.specs.Standing.{Becomes, BeginsAt, EvictionTook, EvictsInMemory, Poisons, RotatesJournal, SyncFailed, SyncTook, are_jobs_used_up, evicted_in_memory, is_long, job_of, journal_synced, next_name}
+use Rattle.fjall_core.specs.Standing.{Becomes, BeginsAt, EvictionStopped, EvictionTook, EvictsInMemory, Poisons, RotatesJournal, SyncFailed, SyncTook, are_jobs_used_up, evicted_in_memory, is_long, job_of, journal_synced, next_name}
 use Rattle.fjall_commit.specs.SyncedChanges.{CreatedKeyspace, DeletedKeyspace, SyncedThenChanged, SyncsThenChanges}
 
 -- What came of making a keyspace that stands in memory already: it is on the disk, and the catalog knows it; or the disk
@@ -205,7 +205,7 @@ Puts honest old made (Err error) new =
     (λ k out. IsPlanRefusal (last_known old.memory.records k) (flush_with (shape_in (keyspace_of made) old.memory.trees) out made.tables.items) error)
 
 -- What an eviction did to the disk: a crash leaves all but some of the journals that go, the oldest ones; where it was done the writer
--- goes on behind the others; and what stands in `keyspaces` stayed, in sight wherever the writer goes on.
+-- goes on behind the others, and where it wasn't it stopped; and what stands in `keyspaces` stayed, in sight wherever the writer goes on.
 pub record WentAway (m : Remembered) (old new : Meaning) (done : Bool) : Type 0 where
   pub leaves : ForEvicting old m.journals.sealed (λ writer j. LeavesOnly old new (LeavesEviction (state_in old) j (length (going_in m))))
   pub lies : done ≡ true → ForEvicting old m.journals.sealed (λ writer j. IsWriting (state_in new) writer (evicted (length (going_in m)) j))
@@ -213,6 +213,7 @@ pub record WentAway (m : Remembered) (old new : Meaning) (done : Bool) : Type 0 
   pub homes : KeepsHomes old new
   pub served : ForEvicting old m.journals.sealed (λ writer j. new.misuses ≡ old.misuses)
   pub kinds : StaysTidy old new
+  pub stopped : done ≡ false → EvictionStopped m old new
 
 -- the oldest sealed journals are gone that nobody wants; or a fault of the disk has poisoned the core, and some of them are gone
 abbrev pub Evicts : Type 0 → Held → Result Unit Error → Held → Type 0

@@ -1,6 +1,7 @@
 -- What a core stands for, and what its calls owe.
 use Rattle.std.specs.Prelude.{All, Bool, ◌==◌, ◌||◌, ◌^◌, ◌-◌, count_by, map, nat_lt, ◌≡◌, ◌⊎◌, ℕ, ◌+◌, ◌<◌, ◌≤◌, ◌&&◌, true, false, nat_le, not, if◌then◌else◌, List, [], ◌∷◌, ◌++◌, length, codes, IfSome, MatchBool, MatchOption, Option, Some, None, is_none, take, Result, Ok, Err, OnOk, IsPermutation, IsSorted, Vec}
 use Rattle.std.specs.FinMap.{len, values}
+use Rattle.std.specs.List.Sorted.{IsStrictlyIncreasing}
 use Rattle.std.specs.declared.alloc.Global.{Global}
 use Rattle.fjall_base.specs.Pairs.{Bytes, byte_order}
 use Rattle.fjall_base.specs.Store.{Store, Command, kept}
@@ -48,7 +49,7 @@ use Rattle.fjall_recovery.specs.Folders.{Contents}
 use Rattle.fjall_recovery.specs.Held.{Holds, store_held}
 use Rattle.fjall_repair.specs.Opened.{ComesBack}
 use Rattle.fjall_commit.specs.Removals.{RemovesOwn}
-use Rattle.fjall_manager.specs.Evictions.{StoppedBehind, evicting}
+use Rattle.fjall_manager.specs.Evictions.{StoppedBehind, TookEvictions, evicting}
 use Rattle.fjall_manager.specs.Journals.{Sealed, bytes_of, names_of, staying, waited_for}
 use Rattle.fjall_journal.specs.Rotations.{RotationTook, empty_journal, rotating}
 use Rattle.fjall_trees.specs.Tables.{AreSameTrees, shape_in}
@@ -71,7 +72,7 @@ use Rattle.fjall_state.specs.Ingesting as ingesting
 use Rattle.fjall_state.specs.Whole.{LacksIds, LacksRecordRoom}
 use Rattle.fjall_writes.specs.Ingestions.{KeyOp}
 use Rattle.fjall_core.specs.Durables.{Durable, Knows, StandsAmid, Passes, Rests, Lies, MakesPresent, StaysFinished}
-use Rattle.fjall_core.specs.Crashes.{BlamesDevice, CallPasses, RunOn, Tried, IsSyncAt, SafeAt}
+use Rattle.fjall_core.specs.Crashes.{BlamesDevice, CallPasses, RunOn, SafeSince, Tried, IsSyncAt, SafeAt, asked}
 use Rattle.fjall_core.specs.Holding.{Held}
 
 -- the keyspaces that stand in memory, with their names and options, and what their trees show without tables
@@ -534,7 +535,7 @@ HeldCount core (DiskSpace id) reply = reply ≡ Number (space_in core id)
 HeldCount core Flushes reply = reply ≡ Number (flush_count (store_in core) core.memory.trees)
 HeldCount core MergesOut reply = reply ≡ Number (merge_count core.memory.trees)
 HeldCount core MergesDone reply = reply ≡ Number core.memory.merges_done
-HeldCount core ToFlush reply = (ids : Vec ℕ Global) × (reply ≡ Ids ids) × (ids.items ≡ waited_for (flushed_by core.memory.keyspaces core.memory.records) core.memory.journals.sealed)
+HeldCount core ToFlush reply = (ids : Vec ℕ Global) × (reply ≡ Ids ids) × IsStrictlyIncreasing ids.items × (ids.items ≡ waited_for (flushed_by core.memory.keyspaces core.memory.records) core.memory.journals.sealed)
 
 -- an answer to such a query
 abbrev pub IsOfKind : Query → Reply → Type 0
@@ -587,36 +588,72 @@ abbrev pub DiskRead : List Reader → Held → Held → Type 0
 DiskRead [] old new = new.disk ≡ old.disk
 DiskRead (t ∷ tables) old new = Took old.disk new.disk []
 
+-- what the disk took of a persist in this mode, where it failed
+abbrev pub PersistFailed : Held → PersistMode → Held → Type 0
+PersistFailed old mode new = TookPart old.disk new.disk old.journal.name old.journal.buffer ⊎ Took old.disk new.disk (persist_steps old.journal mode)
+
 -- what the disk took of a sync of the journal before a flush, where it failed
 abbrev pub SyncFailed : Held → Held → Type 0
-SyncFailed old new =
-    MatchBool (is_long old.journal) (RotationTook old.disk new.disk old.journal new.journal (next_name old))
-    (TookPart old.disk new.disk old.journal.name old.journal.buffer ⊎ Took old.disk new.disk (persist_steps old.journal SyncAll))
+SyncFailed old new = MatchBool (is_long old.journal) (RotationTook old.disk new.disk old.journal new.journal (next_name old)) (PersistFailed old SyncAll new)
 
 -- and where it was done
 abbrev pub SyncTook : Held → Held → Type 0
 SyncTook old new =
     MatchBool (is_long old.journal) (Took old.disk new.disk (rotating old.disk old.journal (next_name old))) (Took old.disk new.disk (persist_steps old.journal SyncAll))
 
--- What the disk took of a call where it failed; of a creation and a deletion, of an ingestion, of a flush that is finished and of what
--- follows it the clause on crashes tells.
+-- what the disk took of an eviction that stopped: the oldest journals are gone, and of the next one the file may be
+abbrev pub EvictionStopped : Remembered → Meaning → Meaning → Type 0
+EvictionStopped m old new = (left gone : List Sealed) × (stopped : StoppedBehind (flushed_by m.keyspaces m.records) m.journals.sealed left gone) × TookEvictions old new gone stopped.next
+
+-- Wherever the core stood, there was a moment of the call at which a crash left just what was pending, and from then on a crash leaves all of it.
+abbrev pub KeepsPending : Held → Shape → Held → Type 0
+KeepsPending old shape new = (s : State) (d : Durable) → StandsFor old s → StandsOn old s.parts.entries d → SafeSince d [] (asked s shape) new.disk
+
+-- What the disk took of a creation or a deletion that failed behind its sync of the journal: that sync, and then what changed in `keyspaces`
+-- alone. All that was pending is safe.
+pub record ChangeStopped (old : Held) (shape : Shape) (new : Held) : Type 0 where
+  pub synced : Meaning
+  pub sync : Took old.disk synced (persist_steps old.journal SyncAll)
+  pub within : Within (codes "keyspaces") synced new.disk
+  pub pending : KeepsPending old shape new
+
+-- What the disk took of a flush that was finished, where the eviction behind it stopped.
+pub record FlushStopped (old : Held) (id : ℕ) (new : Held) : Type 0 where
+  pub mid : Meaning
+  pub left : Remembered
+  pub flushed : FlushedInMemory old.memory id left
+  pub within : Within (keyspace_folder id) old.disk mid
+  pub evicted : EvictionStopped left mid new.disk
+
+-- What the disk took of an ingestion that failed behind its sync of the journal: that sync, and then what changed within the keyspace's folder
+-- alone; or all that, and an eviction that stopped. All that was pending is safe.
+pub record IngestionStopped (old : Held) (id : ℕ) (items : List KeyOp) (new : Held) : Type 0 where
+  pub synced : Held
+  pub sync : SyncTook old synced
+  pub mid : Meaning
+  pub within : Within (keyspace_folder id) synced.disk mid
+  pub evicted : (new.disk ≡ mid) ⊎ ((left : Remembered) × IngestedInMemory (journal_synced old) id items left × EvictionStopped left mid new.disk)
+  pub pending : KeepsPending old (OfIngestion id items) new
+
+-- What the disk took of a call where it failed: some of what it takes of one that was done, in the same order. So nothing that was in the
+-- journal is cut off it.
 abbrev pub DiskFailed : Held → Shape → Held → Type 0
 DiskFailed old (OfChange change how) new = BatchTook (mode_of old how) old.disk new.disk old.journal (text_of old change)
-DiskFailed old (OfIngestion id items) new = Unit {0}
-DiskFailed old (OfCreation name options) new = Unit {0}
-DiskFailed old (OfDeletion id) new = Unit {0}
+DiskFailed old (OfIngestion id items) new = SyncFailed old new ⊎ IngestionStopped old id items new
+DiskFailed old (OfCreation name options) new = PersistFailed old SyncAll new ⊎ ChangeStopped old (OfCreation name options) new
+DiskFailed old (OfDeletion id) new = PersistFailed old SyncAll new ⊎ ChangeStopped old (OfDeletion id) new
 DiskFailed old (OfHandle OneMore id) new = ⊥
 DiskFailed old (OfHandle OneLess id) new = Within (codes "keyspaces") old.disk new.disk
 DiskFailed old (OfRotation id) new = ⊥
 DiskFailed old OfJournalRotation new = RotationTook old.disk new.disk old.journal new.journal (next_name old)
 DiskFailed old (OfFlushBegin id) new = SyncFailed old new
-DiskFailed old (OfFlushFinish job) new = Unit {0}
+DiskFailed old (OfFlushFinish job) new = Within (keyspace_folder job.keyspace_id) old.disk new.disk ⊎ FlushStopped old job.keyspace_id new
 DiskFailed old (OfMergeBegin kind id) new = Took old.disk new.disk []
 DiskFailed old (OfMergeFinish job) new = Within (keyspace_folder job.keyspace_id) old.disk new.disk
-DiskFailed old OfMaintenance new = Unit {0}
+DiskFailed old OfMaintenance new = EvictionStopped old.memory old.disk new.disk
 DiskFailed old (OfRead view id query) new = Took old.disk new.disk []
 DiskFailed old (OfTickets call) new = ⊥
-DiskFailed old (OfPersist mode) new = TookPart old.disk new.disk old.journal.name old.journal.buffer ⊎ Took old.disk new.disk (persist_steps old.journal mode)
+DiskFailed old (OfPersist mode) new = PersistFailed old mode new
 DiskFailed old (OfCount count) new = ⊥
 
 -- the table that the catalog names is safe in tree 0's folder

@@ -1,7 +1,8 @@
 //! What holds of the disks that the engine opens.
 
-ghost use Rattle.std.specs.Prelude.{◌≡◌, ◌++◌, ℕ, List, []};
-ghost use Rattle.fjall_base.specs.Store.{Command, Store, fold, kept};
+ghost use Rattle.std.specs.Prelude.{◌≡◌, ◌≤◌, ◌++◌, ℕ, List, [], None};
+ghost use Rattle.std.specs.FinMap.{len};
+ghost use Rattle.fjall_base.specs.Store.{Command, Store, fold, kept, map_at};
 ghost use Rattle.std.specs.List.{AllByRecursion};
 ghost use Rattle.fjall_base.specs.Disk.{Image, IsImage, Leaves, Meaning, Missing, Name, State, Step, Took, disk_of, state_in};
 ghost use Rattle.fjall_files.specs.Tidy.{IsTidy, IsTidyStep, StaysTidy};
@@ -13,11 +14,14 @@ ghost use Rattle.fjall_core.specs.Durables.{IsBeginning, StandsAmid, Durable};
 ghost use Rattle.fjall_table.specs.Blocks.{Entry};
 ghost use Rattle.fjall_core.specs.Holding.{Held};
 ghost use Rattle.fjall_core.specs.Lives.{AreLeftOf, GoesOn, HoldsFold, LastSync, Life, Lived, Lives, Served, all_left, begun, start_of};
-ghost use Rattle.fjall_core.specs.Standing.{HoldsStore, Owes, ReadsOn, RestsOnTables, RunsOn, RunsSafely, StandsOn, Steps};
+ghost use Rattle.fjall_core.specs.Standing.{HoldsStore, LeadsOn, Owes, ReadsOn, RestsOnTables, RunsOn, RunsSafely, Serves, StandsOn, Steps};
 ghost use Rattle.fjall_state.specs.declared.call.Call.{Call};
-ghost use Rattle.fjall_state.specs.Shapes.{Shape};
+ghost use Rattle.fjall_state.specs.Shapes.{OfRead, Shape};
 ghost use Rattle.fjall_history.specs.declared.reply.Reply.{Reply};
+ghost use Rattle.fjall_history.specs.declared.ticket.View.{View};
+ghost use Rattle.fjall_history.specs.Queries.{Query};
 ghost use Rattle.fjall_base.specs.Crash.{IsHoused};
+ghost use Rattle.fjall_trees.specs.Tables.{shape_in};
 ghost use Rattle.fjall_core.specs.Crashes.{BlamesEach, RunOn};
 ghost use Rattle.fjall_core.specs.Openings.{OpensAmid, OpensAs};
 ghost use Rattle.fjall_state.specs.Machine as machine;
@@ -151,4 +155,22 @@ pub fn a_run_blames_the_device()
 pub fn an_owed_call_steps()
     ensures { (old new : Held) (shape : Shape) (reply : Reply) → Owes old shape reply new → (RestsOnTables old shape reply → ⊥)
         → Steps old shape reply new }
+{}
+
+/// Whatever a read tells, over any disk, what the core stood for it stands for behind it; and over a disk that returns what it holds,
+/// its tables are there as before, and it stands on the disk with no more pending.
+pub fn a_read_leaves_all()
+    ensures owes { (old new : Held) (view : View) (id : ℕ) (query : Query) (reply : Reply) → Owes old (OfRead view id query) reply new
+        → (s : machine.State) → memory.StandsFor old s → memory.StandsFor new s }
+    ensures serves { (old new : Held) (view : View) (id : ℕ) (query : Query) (reply : Reply) → Serves old (OfRead view id query) reply new
+        → (s : machine.State) → memory.StandsFor old s → ReadsOn old s
+        → memory.StandsFor new s × ReadsOn new s × LeadsOn old s (OfRead view id query) reply new s }
+{}
+
+/// No view of a keyspace that can be read has more pairs than versions are counted of it, which is what
+/// [`approximate_len`](crate::Core::approximate_len) tells, up to the greatest `u64`.
+pub fn no_view_is_longer()
+    ensures { (core : Held) (s : machine.State) → memory.StandsFor core s → ReadsOn core s
+        → (view : View) (id : ℕ) (query : Query) → machine.due s (OfRead view id query) ≡ None
+        → len (map_at (machine.maps_in s view) id) ≤ machine.version_count (shape_in id s.parts.trees) }
 {}

@@ -14,6 +14,7 @@ use Rattle.fjall_base.specs.Pairs.{Bytes}
 use Rattle.fjall_base.specs.declared.error.Error.{Error}
 use Rattle.fjall_journal.specs.Changes.{Change, Emptied, Items}
 use Rattle.fjall_journal.specs.Ops.{BatchItem, items_refusal}
+use Rattle.fjall_manager.specs.Journals.{Journals}
 use Rattle.fjall_meta.specs.declared.living.LivingKeyspace.{LivingKeyspace}
 use Rattle.fjall_meta.specs.Keyspaces.{AreKeyspaces, Keyspaces, id_of, is_name, keyspace_at}
 use Rattle.fjall_meta.proofs.Changes.{none_named, one_more_are, some_are}
@@ -30,11 +31,11 @@ use Rattle.fjall_lsm.specs.Puts.{bare_tree}
 use Rattle.fjall_trees.specs.Writes.{MayPush, pushed, with_tree}
 use Rattle.fjall_maps.specs.Maps.{store_of}
 use Rattle.fjall_history.specs.declared.ticket.Ticket.{Ticket}
-use Rattle.fjall_history.specs.Tickets.{Tickets, Tracked, closed, collected, least, opened}
+use Rattle.fjall_history.specs.Tickets.{Tickets, Tracked, closed, collected, least, no_tickets, opened}
 use Rattle.fjall_history.proofs.Values.{all_inserted, all_removed, of_value}
 use Rattle.fjall_state.specs.Allowed.{FitsBatch}
 use Rattle.fjall_state.specs.Machine.{handles_of, is_living, one_less, without}
-use Rattle.fjall_state.specs.Remembered.{IsBegun, IsLawful, IsMergeBegun, IsReadAt, Remembered, is_last, let_go, poisoned, released, retained, rotated, with_change, with_creation, with_deletion, with_tickets, with_trees}
+use Rattle.fjall_state.specs.Remembered.{IsBegun, IsLawful, IsMergeBegun, IsReadAt, Remembered, is_last, let_go, poisoned, released, remembered, retained, rotated, with_change, with_creation, with_deletion, with_tickets, with_trees}
 use Rattle.fjall_state.proofs.Facts.{living_names, some_there}
 use Rattle.fjall_trees.specs.Tables.{AreSameTrees}
 use Rattle.fjall_state.proofs.SameTrees.{all_alike, all_same, altered_flushes, altered_merges, pushed_flushes, pushed_merges}
@@ -544,6 +545,12 @@ module _ (m : Remembered) (is : IsLawful m) (new : Tracked) where
 
   pub collecting_is_lawful : new ≡ record { visible = m.next; tickets = collected m.next m.tickets } → IsLawful (with_tracked new m)
   collecting_is_lawful done = at_tickets (collected m.next m.tickets) (time_collected m is) done
+
+-- what was just opened is lawful where it is with a watermark of 0
+pub remembered_is_lawful : (keyspaces : Keyspaces) (trees : Forest) (next : ℕ) (journals : Journals) (records : LastFields)
+    → IsLawful (record (remembered keyspaces trees next journals records) { tickets = no_tickets }) → IsLawful (remembered keyspaces trees next journals records)
+remembered_is_lawful keyspaces trees next journals records is =
+    collecting_is_lawful (record (remembered keyspaces trees next journals records) { tickets = no_tickets }) is (record { visible = next; tickets = collected next no_tickets }) refl
 
 -- ---- a release
 

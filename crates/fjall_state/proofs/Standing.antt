@@ -716,7 +716,7 @@ opened_map m entries older is lasting id (it_waits le) =
     ap (λ slot. unwrap_or slot empty) (stored_by (λ q. pairs_with entries q (2 ^ 63) m.trees) m.keyspaces id ∙ ap (λ found. option_map (λ (k : LivingKeyspace). pairs_with entries id (2 ^ 63) m.trees) found) none)
     ∙ sym (waits_empty m entries m.trees is.given id m.next le)
 
-pub an_opening_stands : (m : Remembered) → IsLawful m → m.handles ≡ empty → m.lasting ≡ [] → m.poisoned ≡ false → m.tickets ≡ no_tickets → m.next_job ≡ 0 → m.merges_done ≡ 0
+pub an_opening_stands : (m : Remembered) → IsLawful m → m.handles ≡ empty → m.lasting ≡ [] → m.poisoned ≡ false → m.tickets ≡ collected m.next no_tickets → m.next_job ≡ 0 → m.merges_done ≡ 0
     → (table : ℕ) (parts : Parts) → parts.table ≡ table → parts.trees ≡ m.trees → parts.journals ≡ m.journals → All (λ k. parts.records k.id ≡ last_known m.records k) m.keyspaces.living
     → AreBeside m parts.entries → (damaged : List ℕ) → StandsFor m table (opened_state (store_with parts.entries m.keyspaces m.trees) damaged m.next parts)
 an_opening_stands m is handles lasting well tickets none begins table parts at trees journals records beside damaged = record {

@@ -2,6 +2,7 @@
 use Rattle.std.specs.Prelude.{◌≡◌, ◌≢◌, ◌⊎◌, ℕ, ◌+◌, ◌-◌, ◌<◌, ◌≤◌, Any, Bool, IsTrue, count_by, map, take, true, false, nat_le, nat_lt, not, ◌==◌, ◌||◌, ◌&&◌, ◌^◌, if◌then◌else◌, List, [], ◌∷◌, ◌++◌, codes, drop, filter, is_some, length, Option, None}
 use Rattle.std.specs.Prelude.{Some, is_none, unwrap_or, IsPermutation, IsSorted, Vec}
 use Rattle.std.specs.List.{list_all, list_any, sum_by}
+use Rattle.std.specs.List.Sorted.{IsStrictlyIncreasing}
 use Rattle.byteorder.specs.Endian.{little_number}
 use Rattle.std.specs.Str.{bytes_eq}
 use Rattle.std.specs.Ordering.{is_lt, nat_cmp}
@@ -95,7 +96,7 @@ pub record State : Type 0 where
   pub merges_done : ℕ
   pub parts : Parts
 
--- just opened, where these keyspaces have a table with a wrong block
+-- Just opened, where these keyspaces have a table with a wrong block: no ticket was given out, and the watermark is that of none.
 abbrev pub opened_state : Store → List ℕ → ℕ → Parts → State
 opened_state store damaged base parts = record {
   history = record { opened = store; base = base; accepted = [] };
@@ -103,7 +104,7 @@ opened_state store damaged base parts = record {
   handles = empty;
   lasting = [];
   damaged = damaged;
-  tickets = no_tickets;
+  tickets = collected base no_tickets;
   next_job = 0;
   merges_done = 0;
   parts = parts;
@@ -864,7 +865,7 @@ CountIs s (DiskSpace id) reply = reply ≡ Number (space_of s id)
 CountIs s Flushes reply = reply ≡ Number (flush_count (present s) s.parts.trees)
 CountIs s MergesOut reply = reply ≡ Number (merge_count s.parts.trees)
 CountIs s MergesDone reply = reply ≡ Number s.merges_done
-CountIs s ToFlush reply = (ids : Vec ℕ Global) × (reply ≡ Ids ids) × (ids.items ≡ waited_for (is_flushed s) s.parts.journals.sealed)
+CountIs s ToFlush reply = (ids : Vec ℕ Global) × (reply ≡ Ids ids) × IsStrictlyIncreasing ids.items × (ids.items ≡ waited_for (is_flushed s) s.parts.journals.sealed)
 
 -- What comes of an ingestion: of no items nothing; of some, once all that waited was synced, the next command, and journals that nobody
 -- wants any more are removed.

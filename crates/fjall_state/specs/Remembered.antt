@@ -133,7 +133,7 @@ pub record StandsFor (m : Remembered) (table : ℕ) (s : State) : Type 0 where
   pub journals : s.parts.journals ≡ m.journals
   pub lawful : IsLawful m
 
--- just opened
+-- just opened, with the watermark of no ticket
 abbrev pub remembered : Keyspaces → Forest → ℕ → Journals → LastFields → Remembered
 remembered keyspaces trees next journals records = record {
   keyspaces = keyspaces;
@@ -142,7 +142,7 @@ remembered keyspaces trees next journals records = record {
   poisoned = false;
   handles = empty;
   lasting = [];
-  tickets = no_tickets;
+  tickets = collected next no_tickets;
   journals = journals;
   records = records;
   next_job = 0;

@@ -113,7 +113,8 @@ fn count_less(handles: &mut BTreeMap<u64, u64>, id: u64)
 
 impl EngineState {
     /// These keyspaces, with these trees, no job of which is out, and these last records, whose next change takes this number.
-    /// Before the active journal, of this number and with these watermarks, there are these sealed ones.
+    /// Before the active journal, of this number and with these watermarks, there are these sealed ones. No ticket was given
+    /// out, so that the watermark is one below the visible number: what an opening brought back nobody reads at an older instant.
     pub fn new(
         alloc: Global,
         keyspaces: MetaKeyspace,
@@ -134,11 +135,13 @@ impl EngineState {
         requires still { All (λ k. (k.shape.flush ≡ None) × (k.shape.merge ≡ None)) (forest_of trees) }
         ensures { result ≡ remembered keyspaces (forest_of trees) next (journals_of sealed active watermarks) records }
     {
+        let mut tickets = Tickets::new(alloc, next);
+        tickets.gc();
         EngineState {
             alloc,
             keyspaces,
             trees,
-            tickets: Tickets::new(alloc, next),
+            tickets,
             poisoned: false,
             handles: BTreeMap::new(alloc),
             lasting: Vec::new(alloc),

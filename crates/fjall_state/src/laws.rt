@@ -278,7 +278,7 @@ pub fn options_agree()
 
 /// What was just opened stands for the state just opened, whatever older entries tables hold, and whichever keyspaces are damaged.
 pub fn an_opening_stands()
-    ensures { (m : Remembered) → IsLawful m → m.handles ≡ empty → m.lasting ≡ [] → m.poisoned ≡ false → m.tickets ≡ no_tickets → m.next_job ≡ 0 → m.merges_done ≡ 0
+    ensures { (m : Remembered) → IsLawful m → m.handles ≡ empty → m.lasting ≡ [] → m.poisoned ≡ false → m.tickets ≡ collected m.next no_tickets → m.next_job ≡ 0 → m.merges_done ≡ 0
         → (table : ℕ) (parts : Parts) → parts.table ≡ table → parts.trees ≡ m.trees → parts.journals ≡ m.journals
         → All (λ k. parts.records k.id ≡ last_known m.records k) m.keyspaces.living → AreBeside m parts.entries → (damaged : List ℕ) → StandsFor m table (opened_state (store_with parts.entries m.keyspaces m.trees) damaged m.next parts) }
 {}

@@ -20,6 +20,7 @@ returns-in-Err g c =
             homes = let part = c.in-Err.ensures.part h in stopped_homes old.memory old.disk new.disk c.evict.new.self.journals.sealed part.0 part.1 part.2;
             served = c.in-Err.ensures.served h;
             kinds = c.in-Err.ensures.kinds h;
+            stopped = λ _. let part = c.in-Err.ensures.part h in (c.evict.new.self.journals.sealed, part.0, part.1, part.2);
           }));
     }
 
@@ -39,6 +40,7 @@ returns g c =
           homes = done_homes old.memory old.disk new.disk (c.in_default.ensures.took h);
           served = c.in_default.ensures.served h;
           kinds = c.in_default.ensures.kinds h;
+          stopped = λ e. let bad : ⊥ = cc in absurd bad;
         },
       );
     }

@@ -22,7 +22,7 @@ returns-in-Ok-clause-serves g c = λ h.
     let new : Held = record { disk = m c.sync_journal.new.disk; journal = c.sync_journal.new.journal; catalog = c.self.inside.catalog; memory = c.self.inside.memory } in
     subst (λ (core : Held). Serves core (OfPersist c.args.mode) Done new) c.self.view_is
     (persisted_serves old new c.args.mode (sym c.is_poisoned.ensures ∙ c.if-is_poisoned.false) (record { memory_is = refl; catalog = refl; journal = c.in-Ok.ensures.ok; faults = c.in-Ok.ensures.cause.later }) (c.in-Ok.ensures.took h)
-    (record { leaves = c.in-Ok.ensures.any_moment h; lies = λ _. c.in-Ok.ensures.lies h; elsewhere = c.in-Ok.ensures.elsewhere h; homes = λ out. persisted_homes old.journal old.disk new.disk out c.args.mode (c.in-Ok.ensures.took h); served = c.in-Ok.ensures.served h; kinds = c.in-Ok.ensures.kinds h }))
+    (record { leaves = c.in-Ok.ensures.any_moment h; lies = λ _. c.in-Ok.ensures.lies h; elsewhere = c.in-Ok.ensures.elsewhere h; homes = λ out. persisted_homes old.journal old.disk new.disk out c.args.mode (c.in-Ok.ensures.took h); served = c.in-Ok.ensures.served h; kinds = c.in-Ok.ensures.kinds h; took = λ _. c.in-Ok.ensures.took h; left = λ e. let bad : ⊥ = cc in absurd bad }))
 
 pub returns-in-Err-clause-serves : goal.returns-in-Err-clause-serves
 returns-in-Err-clause-serves g c = λ h.
@@ -31,7 +31,7 @@ returns-in-Err-clause-serves g c = λ h.
     let new : Held = record { disk = m c.sync_journal.new.disk; journal = c.sync_journal.new.journal; catalog = c.self.inside.catalog; memory = c.poison.new.self } in
     subst (λ (core : Held). Serves core (OfPersist c.args.mode) (Refused c.in-Err.error) new) c.self.view_is
     (unpersisted_serves old new c.args.mode c.in-Err.error (sym c.is_poisoned.ensures ∙ c.if-is_poisoned.false) c.poison.ensures c.in-Err.ensures.cause.cause (c.in-Err.ensures.left h)
-    (record { leaves = c.in-Err.ensures.any_moment h; lies = λ e. let bad : ⊥ = cc in absurd bad; elsewhere = c.in-Err.ensures.elsewhere h; homes = λ out. unpersisted_homes old.journal old.disk new.disk out new.journal c.args.mode (c.in-Err.ensures.left h); served = c.in-Err.ensures.served h; kinds = c.in-Err.ensures.kinds h }))
+    (record { leaves = c.in-Err.ensures.any_moment h; lies = λ e. let bad : ⊥ = cc in absurd bad; elsewhere = c.in-Err.ensures.elsewhere h; homes = λ out. unpersisted_homes old.journal old.disk new.disk out new.journal c.args.mode (c.in-Err.ensures.left h); served = c.in-Err.ensures.served h; kinds = c.in-Err.ensures.kinds h; took = λ e. let bad : ⊥ = cc in absurd bad; left = λ _. c.in-Err.ensures.left h }))
 
 -- ---- which calls the disk could serve
 
