@@ -38,7 +38,7 @@ use Rattle.fjall_trees.specs.Tables.{shape_in}
 use Rattle.fjall_state.specs.Finishing.{IsFinished, keyspace_of}
 use Rattle.fjall_state.specs.Machine.{FinishesFlush, Flushed, LacksRoom, Parts, State, StepOf, WorkFails, flush_with, is_flushing, is_living}
 use Rattle.fjall_state.specs.Machine as machine
-use Rattle.fjall_state.specs.Remembered.{Remembered, flush_gone, with_flush}
+use Rattle.fjall_state.specs.Remembered.{KnowsTask, Remembered, flush_gone, with_flush}
 use Rattle.fjall_state.specs.Remembered as memory
 use Rattle.fjall_state.specs.Shapes.{OfFlushFinish, Shape}
 use Rattle.fjall_state.proofs.Flushing.{a_finished_flush_stands, an_eviction_stands, some_evicted, with_sealed_stands}
@@ -199,6 +199,25 @@ takes_is core job lives due lives_is out due_is =
     let same = sym (due_takes job.number flush out) ∙ due_is in
     λ i. lives_is i && same i
 
+-- one that is due may be put, where memory knows its task
+both_of : (a b : Bool) → (a && b) ≡ true → (a ≡ true) × (b ≡ true)
+both_of true b is = (refl, is)
+both_of false b is = absurd (true≢false (sym is))
+
+pub may_finish : (core : Held) (made : FlushMade) → KnowsTask core.memory (flush_task made.job) → IsDueToFinish core (job_of (flush_task made.job)) → core.memory.poisoned ≡ false → MayPut core made
+may_finish core made known (out, takes) well =
+    let job = job_of (flush_task made.job) in
+    let flush = (shape_in job.keyspace_id core.memory.trees).flush in
+    let both = both_of (is_living (store_in core) job.keyspace_id) (nat_lt 0 (count_out flush)) takes in
+    record { well = well; living = both.0; out = known.1 (due_takes job.number flush out ∙ both.1); some = known.2 }
+
+-- so where it was looked for by its job's name, and nothing has changed
+pub may_go_on : (old mid : Held) (made : FlushMade) (number id : ℕ) → number ≡ (flush_task made.job).id → id ≡ keyspace_of made → KnowsTask old.memory (flush_task made.job)
+    → IsDueToFinish old (record { number = number; keyspace_id = id }) × (old.memory.poisoned ≡ false) × (mid ≡ old) → MayPut mid made
+may_go_on old mid made number id numbered at known (due, well, same) =
+    subst (λ (h : Held). MayPut h made) (sym same)
+    (may_finish old made known (subst (λ (job : JobId). IsDueToFinish old job) (λ i. record { number = numbered i; keyspace_id = at i }) due) well)
+
 false_behind : (b : Bool) → (b && false) ≡ false
 false_behind true = refl
 false_behind false = refl
@@ -277,7 +296,7 @@ module _ (honest : Type 0) (old new : Held) (made : FlushMade) (may : MayPut old
 
   unput_owes : (error : Error) → Puts honest old made (Err error) new → Owes old (finishing made) (Refused error) new
   unput_owes (Io kind) (fault, wrote) = inr (inr (due, may.well, inl fault))
-  unput_owes OutOfMemory (same, why) = (tt, same)
+  unput_owes OutOfMemory (same, why) = ((due, may.well), same)
   unput_owes NumbersUsedUp (same, why) =
       ((due, may.well, (living_there old made may, lives_there old made may, (why (living_there old made may) may.out.out (lives_there old made may) may.out.is).1)), same)
   unput_owes TooManyItems (same, why) =

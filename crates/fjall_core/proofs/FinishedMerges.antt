@@ -46,7 +46,7 @@ use Rattle.fjall_trees.proofs.Outstanding.{merging_same, merging_tree}
 use Rattle.fjall_core.specs.Holding.{Held}
 use Rattle.fjall_core.specs.CallParts.{MergedAsMade, Merges, PutsMerge, TakesAway, TookAway, WroteMerge}
 use Rattle.fjall_core.specs.Crashes.{BlamesDevice, IsSync, attempt, is_io}
-use Rattle.fjall_core.specs.Standing.{Becomes, IsDueToMerge, LacksAt, LeadsOn, MergeTook, MergedInMemory, OnDisk, Owes, OwesMerge, Poisons, ReadsOn, ServesWhere, StandsFor, job_of, store_in, store_with_tables, AreRecorded}
+use Rattle.fjall_core.specs.Standing.{Becomes, IsDueToMerge, LacksAt, LeadsOn, MergeTook, MergedInMemory, OnDisk, Owes, OwesMerge, Poisons, ReadsOn, Serves, ServesWhere, StandsFor, job_of, store_in, store_with_tables, AreRecorded}
 use Rattle.fjall_core.proofs.CrashesInRuns.{passes_still}
 use Rattle.fjall_core.proofs.DeviceFaults.{refusal_blames}
 use Rattle.fjall_core.proofs.FinishedFlushes.{becomes_both, both_true, done_reply, led_on, rose_later}
@@ -87,10 +87,10 @@ refuses core s shape error other = stays core s shape (Refused error) (no_attemp
 pub stale_owes : (core : Held) (job : JobId) → is_merging core.memory.trees job ≡ false → Owes core (OfMergeFinish job) (Flag false) core
 stale_owes core job none = (refl, subst (λ (b : Bool). OwesMerge b (is_living (store_in core) job.keyspace_id) core job (Flag false) core) (sym none) (refl, refl))
 
-pub stale_serves : (Meets : State → Type 0) (core : Held) (job : JobId) → is_merging core.memory.trees job ≡ false → ServesWhere Meets core (OfMergeFinish job) (Flag false) core
-stale_serves Meets core job none = record {
+pub stale_serves : (core : Held) (job : JobId) → is_merging core.memory.trees job ≡ false → Serves core (OfMergeFinish job) (Flag false) core
+stale_serves core job none = record {
   disk = subst (λ (b : Bool). MatchBool (b && is_living (store_in core) job.keyspace_id) (MergeTook core job.keyspace_id core) (core.disk ≡ core.disk)) (sym none) refl;
-  goes_on = λ s stands reads meets.
+  goes_on = λ s stands reads.
       let out = merges_are_out core.memory core.catalog.next_table_id s stands.remembered job ∙ none in
       stays core s (OfMergeFinish job) (Flag false) refl (λ sync. sync) refl stands reads
       (refl, subst (λ (b : Bool). FinishesMerge b (is_living (present s) job.keyspace_id) s job (Flag false) s) (sym out) (refl, refl));
@@ -104,14 +104,14 @@ pub gone_owes : (core : Held) (job : JobId) → is_merging core.memory.trees job
 gone_owes core job out deleted =
     (refl, subst (λ (b : Bool × Bool). OwesMerge b.0 b.1 core job (Flag false) (gone_from core job.keyspace_id)) (sym (λ i. (out i, deleted i))) (refl, refl))
 
-pub gone_serves : (Meets : State → Type 0) (core : Held) (job : JobId) → is_merging core.memory.trees job ≡ true → is_living (store_in core) job.keyspace_id ≡ false
-    → ServesWhere Meets core (OfMergeFinish job) (Flag false) (gone_from core job.keyspace_id)
-gone_serves Meets core job out deleted =
+pub gone_serves : (core : Held) (job : JobId) → is_merging core.memory.trees job ≡ true → is_living (store_in core) job.keyspace_id ≡ false
+    → Serves core (OfMergeFinish job) (Flag false) (gone_from core job.keyspace_id)
+gone_serves core job out deleted =
     let id = job.keyspace_id in
     let new = gone_from core id in
     record {
       disk = subst (λ (b : Bool). MatchBool b (MergeTook core id new) (core.disk ≡ core.disk)) (sym (ap (λ (b : Bool). b && is_living (store_in core) id) out ∙ deleted)) refl;
-      goes_on = λ s stands reads meets.
+      goes_on = λ s stands reads.
           let table = core.catalog.next_table_id in
           let t = machine.merge_gone s id in
           let out_there = merges_are_out core.memory table s stands.remembered job ∙ out in
@@ -132,10 +132,10 @@ gone_serves Meets core job out deleted =
 pub late_owes : (core : Held) (job : JobId) → IsDueToMerge core job → core.memory.poisoned ≡ true → Owes core (OfMergeFinish job) (Refused Poisoned) core
 late_owes core job due ill = ((due, ill), refl)
 
-pub late_serves : (Meets : State → Type 0) (core : Held) (job : JobId) → IsDueToMerge core job → core.memory.poisoned ≡ true → ServesWhere Meets core (OfMergeFinish job) (Refused Poisoned) core
-late_serves Meets core job (out, lives) ill = record {
+pub late_serves : (core : Held) (job : JobId) → IsDueToMerge core job → core.memory.poisoned ≡ true → Serves core (OfMergeFinish job) (Refused Poisoned) core
+late_serves core job (out, lives) ill = record {
   disk = refl;
-  goes_on = λ s stands reads meets.
+  goes_on = λ s stands reads.
       let table = core.catalog.next_table_id in
       refuses core s (OfMergeFinish job) Poisoned refl stands reads
       (((merges_are_out core.memory table s stands.remembered job ∙ out, living_agree core.memory table s stands.remembered job.keyspace_id ∙ lives), stands.remembered.poisoned ∙ ill), refl);
@@ -198,7 +198,7 @@ module _ (honest : Type 0) (old new : Held) (made : MergeMade) (may : MayMerge o
 
   unput_owes : (error : Error) → PutsMerge honest old made (Err error) new → Owes old (finishing made) (Refused error) new
   unput_owes (Io kind) (fault, wrote) = inr (inr (due, may.well, inl fault))
-  unput_owes OutOfMemory (same, why) = (tt, same)
+  unput_owes OutOfMemory (same, why) = ((due, may.well), same)
   unput_owes NumbersUsedUp (same, why) = (lacks LacksMergeIds (why k out at was), same)
   unput_owes TooManyItems (same, why) = (lacks LacksMergeRoom (why k out at was), same)
   unput_owes error (same, why) = absurd (why k out at was)
@@ -288,7 +288,7 @@ module _ (honest : Type 0) (old new : Held) (made : MergeMade) (may : MayMerge o
 
     unput_step : (error : Error) → PutsMerge honest old made (Err error) new → is_io error ≡ false → StepOf s (finishing made) (Refused error) s
     unput_step (Io kind) unput other = let bad : ⊥ = cc in absurd bad
-    unput_step OutOfMemory (same, why) other = (tt, refl)
+    unput_step OutOfMemory (same, why) other = (((out_there, lives_there), well_there), refl)
     unput_step NumbersUsedUp (same, why) other = (lacks_there LacksMergeIds (why there out_of lives_so_there has.begun.is), refl)
     unput_step TooManyItems (same, why) other = (lacks_there LacksMergeRoom (why there out_of lives_so_there has.begun.is), refl)
     unput_step error (same, why) other = absurd (why there out_of lives_so_there has.begun.is)

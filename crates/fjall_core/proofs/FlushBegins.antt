@@ -234,7 +234,7 @@ module _ (honest : Type 0) (old : Held) (id : ℕ) (free : are_jobs_used_up old 
       subst (λ (h : Held). Begins honest old id (Err (Io kind)) h) (sym is)
       (free, record { memory_is = refl; faults = synced.2 }, synced.3, λ h. went_before (is_long old.journal) false left (poisoned old.memory) (synced.4 h))
   begin_failed NumbersUsedUp left new synced is = let only : NumbersUsedUp ≡ OutOfMemory = synced.1 in absurd cc
-  begin_failed error left new synced is = (is ∙ ap (λ (h : Held). record h { memory = old.memory }) synced.0, synced.1)
+  begin_failed error left new synced is = (is ∙ ap (λ (h : Held). record h { memory = old.memory }) synced.0, synced.1, free)
 
 -- ---- where it leads
 
@@ -398,7 +398,7 @@ module _ (honest : Type 0) (old new : Held) (id : ℕ) (none : held_due old (OfF
   begun_owes (Err NumbersUsedUp) b = subst (λ (h : Held). Owes old (OfFlushBegin id) (Refused NumbersUsedUp) h) (sym b.0) (used_owes b.1)
   begun_owes (Err error) b =
       subst (λ (h : Held). Owes old (OfFlushBegin id) (Refused error) h) (sym b.0)
-      (subst (λ e. Owes old (OfFlushBegin id) (Refused e) old) (sym b.1) (memory_owes old (OfFlushBegin id) tt none))
+      (subst (λ e. Owes old (OfFlushBegin id) (Refused e) old) (sym b.1) (memory_owes old (OfFlushBegin id) (begins, b.2) none))
 
   pub begun_serves : (result : Result FlushJob Error) → Begins honest old id result new → honest → Serves old (OfFlushBegin id) (begun_reply result) new
   begun_serves (Ok job) b h =
@@ -423,7 +423,7 @@ module _ (honest : Type 0) (old new : Held) (id : ℕ) (none : held_due old (OfF
       (refusal_serves old (OfFlushBegin id) NumbersUsedUp refl (λ s stands. owes_step old old (OfFlushBegin id) (Refused NumbersUsedUp) s (λ reads. reads) (used_owes b.1) stands))
   begun_serves (Err error) b h =
       subst (λ (x : Held). Serves old (OfFlushBegin id) (Refused error) x) (sym b.0)
-      (subst (λ e. Serves old (OfFlushBegin id) (Refused e) old) (sym b.1) (memory_serves old (OfFlushBegin id) tt none))
+      (subst (λ e. Serves old (OfFlushBegin id) (Refused e) old) (sym b.1) (memory_serves old (OfFlushBegin id) (begins, b.2) none))
 
   pub begun_known_task : (job : FlushJob) → Begins honest old id (Ok job) new → KnowsTask new.memory (flush_task job)
   begun_known_task job b = b.1

@@ -30,7 +30,7 @@ use Rattle.fjall_core.specs.Crashes.{BlamesDevice, IsSync, attempt}
 use Rattle.fjall_core.specs.Holding.{Held}
 use Rattle.fjall_core.specs.Jobs.{Finds, KeepsMerges, KeepsOtherMerges, KnowsMerges, is_merge_named}
 use Rattle.fjall_core.specs.Durables.{Passes}
-use Rattle.fjall_core.specs.Standing.{MergeTook, OnDisk, Owes, OwesMerge, ReadsOn, Serves, ServesWhere, StandsFor, job_of, store_in}
+use Rattle.fjall_core.specs.Standing.{IsDueToMerge, MergeTook, OnDisk, Owes, OwesMerge, ReadsOn, Serves, ServesWhere, StandsFor, job_of, store_in}
 use Rattle.fjall_core.proofs.CrashesInRuns.{passes_still}
 use Rattle.fjall_core.proofs.FoundJobs.{at_place, without_one}
 use Rattle.fjall_core.proofs.KeptJobs.{merge_gave_back}
@@ -158,14 +158,14 @@ is_memory OutOfMemory = inl refl
 is_memory error = inr (λ is. let bad : ⊥ = cc in bad)
 
 -- One that is refused: for want of memory, where what it reads is in order; and else, as a disk that lies may have it, what it reads is in none.
-module _ (core : Held) (job : MergeJob) (error told : Error) (out : is_merging core.memory.trees (job_of (merge_task job)) ≡ true) (memory : error ≡ OutOfMemory → told ≡ OutOfMemory)
+module _ (core : Held) (job : MergeJob) (error told : Error) (due : IsDueToMerge core (job_of (merge_task job))) (well : core.memory.poisoned ≡ false) (memory : error ≡ OutOfMemory → told ≡ OutOfMemory)
     (one : error ≢ OutOfMemory → told ≡ Storage TableDamaged) where
   pub run_owes : Owes core (OfMergeFinish (job_of (merge_task job))) (Refused told) core
   run_owes = by (is_memory error)
     where
       by : (error ≡ OutOfMemory) ⊎ (error ≢ OutOfMemory) → Owes core (OfMergeFinish (job_of (merge_task job))) (Refused told) core
-      by (inl is) = subst (λ (e : Error). Owes core (OfMergeFinish (job_of (merge_task job))) (Refused e) core) (sym (memory is)) (memory_owes core (OfMergeFinish (job_of (merge_task job))) tt refl)
-      by (inr other) = subst (λ (e : Error). Owes core (OfMergeFinish (job_of (merge_task job))) (Refused e) core) (sym (one other)) (refl, inr (out, refl))
+      by (inl is) = subst (λ (e : Error). Owes core (OfMergeFinish (job_of (merge_task job))) (Refused e) core) (sym (memory is)) (memory_owes core (OfMergeFinish (job_of (merge_task job))) (due, well) refl)
+      by (inr other) = subst (λ (e : Error). Owes core (OfMergeFinish (job_of (merge_task job))) (Refused e) core) (sym (one other)) (refl, inr (due.0, refl))
 
   pub run_serves : (AreSorted (merge_task job).runs → error ≡ OutOfMemory) → ServesWhere (λ s. KnowsMerge s job.target (merge_task job)) core (OfMergeFinish (job_of (merge_task job))) (Refused told) core
   run_serves sorted = by (is_memory error)
@@ -174,8 +174,8 @@ module _ (core : Held) (job : MergeJob) (error told : Error) (out : is_merging c
       by (inl is) =
           let shape = OfMergeFinish (job_of (merge_task job)) in
           subst (λ (e : Error). ServesWhere (λ s. KnowsMerge s job.target (merge_task job)) core shape (Refused e) core) (sym (memory is))
-          (serves_where (λ s. KnowsMerge s job.target (merge_task job)) core core shape (Refused OutOfMemory) (memory_serves core shape tt refl))
+          (serves_where (λ s. KnowsMerge s job.target (merge_task job)) core core shape (Refused OutOfMemory) (memory_serves core shape (due, well) refl))
       by (inr other) =
           let shape = OfMergeFinish (job_of (merge_task job)) in
           subst (λ (e : Error). ServesWhere (λ s. KnowsMerge s job.target (merge_task job)) core shape (Refused e) core) (sym (one other))
-          (record { disk = refl; goes_on = λ s stands reads knows. absurd (other (sorted (merge_sorted core s stands reads job.target (merge_task job) knows out))) })
+          (record { disk = refl; goes_on = λ s stands reads knows. absurd (other (sorted (merge_sorted core s stands reads job.target (merge_task job) knows due.0))) })

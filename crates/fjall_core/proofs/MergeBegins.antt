@@ -144,7 +144,7 @@ module _ (honest : Bool) (old new : Held) (kind : MergeKind) (id : ℕ) (none : 
 
   refusal_owes : (error : Error) → IsRefused (Unit {0}) old.disk.faults new.disk.faults error → Looks old new → OwesRefusal None old (OfMergeBegin kind id) error new
   refusal_owes (Io kind) rose looked = inr (inr (begins, left, looked, rose))
-  refusal_owes OutOfMemory out looked = (tt, (begins, looked))
+  refusal_owes OutOfMemory out looked = ((begins, left), (begins, looked))
   refusal_owes (Storage told) wrong looked = (wrong.0, inr (begins, left, looked))
   refusal_owes error bad looked = absurd bad
 

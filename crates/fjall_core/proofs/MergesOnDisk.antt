@@ -56,7 +56,7 @@ use Rattle.fjall_versions.proofs.Slots.{get_put, same_id}
 use Rattle.fjall_core.specs.Holding.{Held}
 use Rattle.fjall_core.specs.CallParts.{TookAway, WroteMerge}
 use Rattle.fjall_core.specs.Durables.{AreKnown, Durable, Knows, Lies, Rests, StandsAmid, StaysFinished}
-use Rattle.fjall_core.specs.Standing.{Becomes, Poisons, StandsOn, job_of, store_in, store_with_tables}
+use Rattle.fjall_core.specs.Standing.{Becomes, IsDueToMerge, Poisons, StandsOn, job_of, store_in, store_with_tables}
 use Rattle.fjall_core.proofs.CatalogOnDisk.{removal_leaves}
 use Rattle.fjall_core.proofs.FlushesOnDisk.{leads_over}
 use Rattle.fjall_core.proofs.JournalWrites.{Leads, held_on, leads_on, present_of, stands_ill, stands_well}
@@ -85,6 +85,11 @@ may_merge view core made number id same numbered at out lives well = record {
   living = (λ i. is_living (store_in (sym same i)) (sym at i)) ∙ lives;
   out = ap (λ (h : Held). is_merging h.memory.trees (job_of (merge_task made.job))) (sym same) ∙ sym (named_by made view.memory.trees number id numbered at) ∙ out;
 }
+
+-- so where it was looked for by its job's name, and nothing has changed
+pub may_go_on : (old mid : Held) (made : MergeMade) (number id : ℕ) → number ≡ (merge_task made.job).id → id ≡ keyspace_of made
+    → IsDueToMerge old (record { number = number; keyspace_id = id }) × (old.memory.poisoned ≡ false) × (mid ≡ old) → MayMerge mid made
+may_go_on old mid made number id numbered at (due, well, same) = subst (λ (h : Held). MayMerge h made) (sym same) (may_merge old old made number id refl numbered at due.0 due.1 well)
 
 -- the keyspace, which lives
 module _ (core : Held) (id : ℕ) (lives : is_living (store_in core) id ≡ true) where

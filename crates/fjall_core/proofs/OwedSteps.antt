@@ -26,7 +26,7 @@ use Rattle.fjall_state.specs.declared.call.Call.{Call}
 use Rattle.fjall_state.specs.Shapes.{AsKeyspace, ByMode, Clone, Close, Collect, Count, DiskSpace, Exists, Flushes, JournalSpace, Keyspaces, MergesDone, MergesOut, Next, OfChange, OfCount, OfCreation, OfDeletion, OfFlushBegin, OfFlushFinish, OfHandle, OfIngestion, OfJournalRotation, OfMaintenance, OfMergeBegin, OfMergeFinish, OfPersist, OfRead, OfRotation, OfTickets, OneLess, OneMore, Open, OpenTickets, Persistence, Entries, SealedMemtables, Shape, Tables, TablesL0, TicketCall, ToFlush, Visible, WriteBuffer, shape_of}
 use Rattle.fjall_state.specs.Shapes as shapes
 use Rattle.fjall_state.specs.Allowed.{MayChange}
-use Rattle.fjall_state.specs.Machine.{ChangesDisk, CountIs, MayFail, Parts, ReadsTables, Refuses, State, TakesMemory, TooLong, TurnsTickets, accepted, begins_flush, created, creation_refusals, deleted, due, facts, first_due, has_name, is_flushing, is_living, is_merging, leaves_buffer, mode_in, present, rotates, written, written_out}
+use Rattle.fjall_state.specs.Machine.{ChangesDisk, CountIs, MayFail, Parts, ReadsTables, Refuses, State, TooLong, TurnsTickets, accepted, begins_flush, created, creation_refusals, deleted, due, facts, first_due, has_name, is_flushing, is_living, is_merging, leaves_buffer, mode_in, present, rotates, written, written_out}
 use Rattle.fjall_state.specs.Machine as machine
 use Rattle.fjall_state.specs.Remembered.{IsLawful, Remembered, facts_of, instant_in, poisoned}
 use Rattle.fjall_state.specs.Remembered as memory
@@ -40,8 +40,8 @@ use Rattle.fjall_core.specs.Holding.{Held}
 use Rattle.fjall_blocks.specs.Readers.{Reader}
 use Rattle.fjall_core.proofs.OwedStates.{Answered, Steps, looked_stands, none_more, poisoned_stands, poisoned_state, same_due, still}
 use Rattle.fjall_core.proofs.OwedMerges.{finish_merge_steps, merge_begin_steps}
-use Rattle.fjall_core.proofs.OwedWork.{begin_steps, finish_steps, ingestion_steps, maintenance_steps, same_late, same_room, same_used, work_steps}
-use Rattle.fjall_core.specs.Standing.{StandsFor, at_fault, tables_of, LooksAt, GivesRead, Gives, Owes, OwesAll, RotatesJournal, OwesChange, OwesCreation, OwesDeletion, OwesRefusal, OwesFailure, RanOut, Grows, HandsOver, HeldCount, Alters, Counts, Creates, Deletes, FindsDisorder, RestsOnTables, begins_merge_in, held_due, mode_of, store_in, takes_effect, text_of}
+use Rattle.fjall_core.proofs.OwedWork.{begin_steps, finish_steps, ingestion_steps, maintenance_steps, same_asks, same_late, same_room, same_used, work_steps}
+use Rattle.fjall_core.specs.Standing.{AsksMemory, StandsFor, at_fault, tables_of, LooksAt, GivesRead, Gives, Owes, OwesAll, RotatesJournal, OwesChange, OwesCreation, OwesDeletion, OwesRefusal, OwesFailure, RanOut, Grows, HandsOver, HeldCount, Alters, Counts, Creates, Deletes, FindsDisorder, RestsOnTables, begins_merge_in, held_due, mode_of, store_in, takes_effect, text_of}
 
 -- ---- refusals
 
@@ -161,7 +161,7 @@ failure_steps old new s shape (Io kind) due_is none stands (inl (changes, fault)
     )
 failure_steps old new s shape (Io kind) due_is none stands (inr (inl (reads, looks, rose))) = absurd (none (reads_rest old shape (Refused (Io kind)) reads))
 failure_steps old new s shape (Io kind) due_is none stands (inr (inr poisons)) = let left = work_steps old new s stands shape (Io kind) due_is none poisons in (left.0, left.1, inr (inr left.2))
-failure_steps old new s shape OutOfMemory due_is none stands (takes, out) = (s, ran_out_still old new s shape out stands, (takes, refl))
+failure_steps old new s shape OutOfMemory due_is none stands (asks, out) = (s, ran_out_still old new s shape out stands, (same_asks old s stands shape due_is asks, refl))
 failure_steps old new s shape (Storage told) due_is none stands (is, inl (reads, looks)) = absurd (none (reads_rest old shape (Refused (Storage told)) reads))
 failure_steps old new s shape (Storage told) due_is none stands (is, inr found) = absurd (none (disorder_rests old new shape told found))
 failure_steps old new s shape ValueTooLong due_is none stands (long, same) = (s, still old new s same stands, (same_long old s shape stands long, refl))
@@ -179,9 +179,9 @@ pub due_step : (core : Held) (s : State) (shape : Shape) (error : Error) → hel
 due_step core s shape error due stands = (s, stands, subst (λ first. Refuses first shape error s s) (sym (same_due core s shape stands ∙ due)) (refl, refl))
 
 -- want of memory, where none is due
-pub memory_step : (old new : Held) (s : State) (shape : Shape) → TakesMemory shape → held_due old shape ≡ None → RanOut old shape new → StandsFor old s → Steps new s shape (Refused OutOfMemory)
-memory_step old new s shape takes none out stands =
-    (s, ran_out_still old new s shape out stands, subst (λ first. Refuses first shape OutOfMemory s s) (sym (same_due old s shape stands ∙ none)) (takes, refl))
+pub memory_step : (old new : Held) (s : State) (shape : Shape) → AsksMemory old shape → held_due old shape ≡ None → RanOut old shape new → StandsFor old s → Steps new s shape (Refused OutOfMemory)
+memory_step old new s shape asks none out stands =
+    (s, ran_out_still old new s shape out stands, subst (λ first. Refuses first shape OutOfMemory s s) (sym (same_due old s shape stands ∙ none)) (same_asks old s stands shape none asks, refl))
 
 -- ---- changes
 

@@ -38,7 +38,7 @@ use Rattle.fjall_state.proofs.Sizes.{beginning_agrees, out_agrees}
 use Rattle.fjall_state.proofs.Standing as law
 use Rattle.fjall_writes.specs.Ingestions.{KeyOp}
 use Rattle.fjall_core.specs.Holding.{Held}
-use Rattle.fjall_core.specs.Standing.{Becomes, BeginsAt, EvictsInMemory, FinishesLate, FlushedInMemory, HasNoRoom, IngestedInMemory, IngestionPoisons, IsDueToFinish, OwesBegin, OwesFinish, OwesIngestion, Poisons, RestsOnTables, StandsFor, UsesUp, WorkPoisons, are_jobs_used_up, are_journals_used_up, evicted_in_memory, held_due, is_long, journal_synced, next_name, store_in, takes_effect}
+use Rattle.fjall_core.specs.Standing.{AsksMemory, Becomes, BeginsAt, EvictsInMemory, FinishesLate, FlushedInMemory, HasNoRoom, IngestedInMemory, IngestionPoisons, IsDueToFinish, OwesBegin, OwesFinish, OwesIngestion, Poisons, RestsOnTables, StandsFor, UsesUp, WorkPoisons, are_jobs_used_up, are_journals_used_up, evicted_in_memory, held_due, is_long, journal_synced, next_name, store_in, takes_effect}
 use Rattle.fjall_core.proofs.OwedMerges.{merge_begins_there, merge_due_there, merge_number_there}
 use Rattle.fjall_core.proofs.OwedStates.{Answered, Steps, looked_stands, none_more, poisoned_stands, poisoned_state, same_due, still}
 
@@ -327,6 +327,24 @@ module _ (old : Held) (s : State) (stands : StandsFor old s) where
 
   is_due : (job : JobId) → IsDueToFinish old job → machine.IsDueToFinish s job
   is_due job (out, takes) = (out_agrees old.memory at s stands.remembered job ∙ out, takes_there old old s stands job ∙ takes)
+
+  pub same_asks : (shape : Shape) → held_due old shape ≡ None → AsksMemory old shape → machine.AsksMemory s shape
+  same_asks (OfFlushBegin id) none (begins, free) = (beginning_agrees old.memory at s stands.remembered id ∙ begins, used_up_agrees old old s stands ∙ free)
+  same_asks (OfFlushFinish job) none (due, well) = (is_due job due, stands.remembered.poisoned ∙ well)
+  same_asks (OfMergeBegin kind id) none (begins, left) = (merge_begins_there old s stands kind id none ∙ begins, subst (λ (n : ℕ). n < 2 ^ 64 - 1) (sym stands.remembered.next_job) left)
+  same_asks (OfMergeFinish job) none (due, well) = (merge_due_there old s stands job due, stands.remembered.poisoned ∙ well)
+  same_asks (OfChange change how) none takes = takes
+  same_asks (OfIngestion id items) none takes = takes
+  same_asks (OfCreation name options) none takes = takes
+  same_asks (OfDeletion id) none takes = takes
+  same_asks (OfHandle call id) none takes = takes
+  same_asks (OfRotation id) none takes = takes
+  same_asks OfJournalRotation none takes = takes
+  same_asks OfMaintenance none takes = takes
+  same_asks (OfRead view id query) none takes = takes
+  same_asks (OfTickets call) none takes = takes
+  same_asks (OfPersist mode) none takes = takes
+  same_asks (OfCount count) none takes = takes
 
   pub same_late : (shape : Shape) → FinishesLate old shape → machine.FinishesLate s shape
   same_late (OfFlushFinish job) (due, ill) = (is_due job due, stands.remembered.poisoned ∙ ill)

@@ -22,12 +22,12 @@ use Rattle.fjall_blocks.specs.Readers.{Reader}
 use Rattle.fjall_trees.proofs.Same.{same_trees}
 use Rattle.fjall_history.specs.declared.reply.Reply.{Reply}
 use Rattle.fjall_history.specs.declared.reply.Reply.TheVariants.{Refused}
-use Rattle.fjall_state.specs.Machine.{HasTables, State, StepOf, TakesMemory, TooLong}
+use Rattle.fjall_state.specs.Machine.{HasTables, State, StepOf, TooLong}
 use Rattle.fjall_state.specs.Remembered.{IsDueOrMemory, facts_of}
 use Rattle.fjall_core.specs.Holding.{Held}
 use Rattle.fjall_core.specs.Durables.{Durable, Passes}
 use Rattle.fjall_core.specs.Crashes.{BlamesDevice, CallLeaves, IsSync, attempt, is_io}
-use Rattle.fjall_core.specs.Standing.{DiskLooked, DiskRead, HasTable, LooksAt, OnDisk, Owes, OwesRefusal, RanOut, ReadsOn, ReplacesTable, RestsOnTables, Serves, StandsFor, StandsOn, begins_merge_in, held_due, store_in, tables_of}
+use Rattle.fjall_core.specs.Standing.{AsksMemory, DiskLooked, DiskRead, HasTable, LooksAt, OnDisk, Owes, OwesRefusal, RanOut, ReadsOn, ReplacesTable, RestsOnTables, Serves, StandsFor, StandsOn, begins_merge_in, held_due, store_in, tables_of}
 use Rattle.fjall_core.proofs.CrashesInRuns.{passes_still}
 use Rattle.fjall_core.proofs.Refusals.{is_fault, never_due, no_attempt, no_sync}
 use Rattle.fjall_core.proofs.KeptEntries.{Finishes, HasGiven, KeepsTables, no_fault_keeps, step_keeps}
@@ -192,16 +192,16 @@ pub due_serves : (core : Held) (shape : Shape) (error : Error) → held_due core
 due_serves core shape error due = refusal_serves core shape error (ap is_fault (sym due) ∙ never_due (facts_of core.memory core.catalog.next_table_id) shape) (λ s stands. due_step core s shape error due stands)
 
 -- a call that memory may run out in before it looks at the disk
-abbrev pub RunsOut : Shape → Type 0
-RunsOut (OfMergeBegin kind id) = ⊥
-RunsOut shape = TakesMemory shape
+abbrev pub RunsOut : Held → Shape → Type 0
+RunsOut core (OfMergeBegin kind id) = ⊥
+RunsOut core shape = AsksMemory core shape
 
-takes_out : (shape : Shape) → RunsOut shape → TakesMemory shape
-takes_out (OfMergeBegin kind id) runs = absurd runs
-takes_out shape runs = runs
+asks_out : (core : Held) (shape : Shape) → RunsOut core shape → AsksMemory core shape
+asks_out core (OfMergeBegin kind id) runs = absurd runs
+asks_out core shape runs = runs
 
 -- want of memory
-ran_out : (core : Held) (shape : Shape) → RunsOut shape → RanOut core shape core
+ran_out : (core : Held) (shape : Shape) → RunsOut core shape → RanOut core shape core
 ran_out core (OfHandle OneLess id) runs = (refl, omega arith)
 ran_out core (OfMergeBegin kind id) runs = absurd runs
 ran_out core (OfMergeFinish job) runs = refl
@@ -220,11 +220,11 @@ ran_out core (OfTickets call) runs = refl
 ran_out core (OfPersist mode) runs = refl
 ran_out core (OfCount count) runs = refl
 
-pub memory_owes : (core : Held) (shape : Shape) → RunsOut shape → held_due core shape ≡ None → Owes core shape (Refused OutOfMemory) core
-memory_owes core shape runs due = subst (λ first. OwesRefusal first core shape OutOfMemory core) (sym due) (takes_out shape runs, ran_out core shape runs)
+pub memory_owes : (core : Held) (shape : Shape) → RunsOut core shape → held_due core shape ≡ None → Owes core shape (Refused OutOfMemory) core
+memory_owes core shape runs due = subst (λ first. OwesRefusal first core shape OutOfMemory core) (sym due) (asks_out core shape runs, ran_out core shape runs)
 
-pub memory_serves : (core : Held) (shape : Shape) → RunsOut shape → held_due core shape ≡ None → Serves core shape (Refused OutOfMemory) core
-memory_serves core shape runs due = refusal_serves core shape OutOfMemory refl (λ s stands. memory_step core core s shape (takes_out shape runs) due (ran_out core shape runs) stands)
+pub memory_serves : (core : Held) (shape : Shape) → RunsOut core shape → held_due core shape ≡ None → Serves core shape (Refused OutOfMemory) core
+memory_serves core shape runs due = refusal_serves core shape OutOfMemory refl (λ s stands. memory_step core core s shape (asks_out core shape runs) due (ran_out core shape runs) stands)
 
 -- an option that is too long
 pub long_owes : (core : Held) (shape : Shape) → TooLong (store_in core) shape → held_due core shape ≡ None → Owes core shape (Refused ValueTooLong) core
@@ -234,14 +234,14 @@ pub long_serves : (core : Held) (shape : Shape) → (RestsOnTables core shape (R
 long_serves core shape bare long due = refusal_serves core shape ValueTooLong refl (λ s stands. owes_step core core shape (Refused ValueTooLong) s bare (long_owes core shape long due) stands)
 
 -- the refusal that is due, or want of memory where none is
-pub either_owes : (core : Held) (shape : Shape) (error : Error) → RunsOut shape → IsDueOrMemory (held_due core shape) error → Owes core shape (Refused error) core
+pub either_owes : (core : Held) (shape : Shape) (error : Error) → RunsOut core shape → IsDueOrMemory (held_due core shape) error → Owes core shape (Refused error) core
 either_owes core shape error takes is = by_due (held_due core shape) refl is
   where
     by_due : (first : Option Error) → held_due core shape ≡ first → IsDueOrMemory first error → Owes core shape (Refused error) core
     by_due (Some first) due same = subst (λ e. Owes core shape (Refused e) core) (sym same) (due_owes core shape first due)
     by_due None due same = subst (λ e. Owes core shape (Refused e) core) (sym same) (memory_owes core shape takes due)
 
-pub either_serves : (core : Held) (shape : Shape) (error : Error) → RunsOut shape → IsDueOrMemory (held_due core shape) error → Serves core shape (Refused error) core
+pub either_serves : (core : Held) (shape : Shape) (error : Error) → RunsOut core shape → IsDueOrMemory (held_due core shape) error → Serves core shape (Refused error) core
 either_serves core shape error takes is = by_due (held_due core shape) refl is
   where
     by_due : (first : Option Error) → held_due core shape ≡ first → IsDueOrMemory first error → Serves core shape (Refused error) core

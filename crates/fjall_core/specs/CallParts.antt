@@ -174,7 +174,7 @@ Begins honest old id (Err (Io kind)) new =
     (are_jobs_used_up old ≡ false) × Poisons old.memory old new
     × (honest → SyncFailed old new) × (honest → WentSynced (is_long old.journal) false old new)
 Begins honest old id (Err NumbersUsedUp) new = (new ≡ old) × (are_jobs_used_up old ≡ true)
-Begins honest old id (Err error) new = (new ≡ old) × (error ≡ OutOfMemory)
+Begins honest old id (Err error) new = (new ≡ old) × (error ≡ OutOfMemory) × (are_jobs_used_up old ≡ false)
 
 -- What the writing of a flush did to the disk: nothing outside the keyspace's folder; a crash leaves the tree before or the one after;
 -- where it was done the one after lies there. The keyspace's tables, but for the new one, stand in sight as they did, and where it was done the

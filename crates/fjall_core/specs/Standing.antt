@@ -459,6 +459,15 @@ FinishesLate old (OfFlushFinish job) = IsDueToFinish old job × (old.memory.pois
 FinishesLate old (OfMergeFinish job) = IsDueToMerge old job × (old.memory.poisoned ≡ true)
 FinishesLate old shape = ⊥
 
+-- A call that asks for memory: a worker's step only where there is one to make, no fault has poisoned the core, and the numbers of jobs and
+-- journals that it takes are left.
+abbrev pub AsksMemory : Held → Shape → Type 0
+AsksMemory core (OfFlushBegin id) = (begins_flush core.memory.trees id ≡ true) × (are_jobs_used_up core ≡ false)
+AsksMemory core (OfFlushFinish job) = IsDueToFinish core job × (core.memory.poisoned ≡ false)
+AsksMemory core (OfMergeBegin kind id) = (begins_merge_in core kind id ≡ true) × (core.memory.next_job < 2 ^ 64 - 1)
+AsksMemory core (OfMergeFinish job) = IsDueToMerge core job × (core.memory.poisoned ≡ false)
+AsksMemory core shape = TakesMemory shape
+
 -- A merge that was to begin met a wrong block, or the blocks of one that is out, as a disk that lies gave them, are in no order.
 abbrev pub FindsDisorder : Held → Shape → Held → Type 0
 FindsDisorder old (OfMergeBegin kind id) new = (begins_merge_in old kind id ≡ true) × (old.memory.next_job < 2 ^ 64 - 1) × Looks old new
@@ -482,7 +491,7 @@ abbrev pub OwesFailure : Held → Shape → Error → Held → Type 0
 OwesFailure old shape (Io kind) new =
     (ChangesDisk (facts_of old.memory old.catalog.next_table_id) (length old.journal.buffer) shape × Poisons (at_fault shape old.memory) old new)
     ⊎ ((ReadsTables old.memory.trees shape × Looks old new × Rose old.disk.faults new.disk.faults) ⊎ WorkPoisons old shape new)
-OwesFailure old shape OutOfMemory new = TakesMemory shape × RanOut old shape new
+OwesFailure old shape OutOfMemory new = AsksMemory old shape × RanOut old shape new
 OwesFailure old shape (Storage told) new = (told ≡ TableDamaged) × ((ReadsTables old.memory.trees shape × Looks old new) ⊎ FindsDisorder old shape new)
 OwesFailure old shape ValueTooLong new = TooLong (store_in old) shape × (new ≡ old)
 OwesFailure old shape Poisoned new = FinishesLate old shape × (new ≡ old)

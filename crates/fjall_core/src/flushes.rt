@@ -1,6 +1,6 @@
 //! Flushes: memtables that are brought to tables, and journals that nobody wants any more.
 
-ghost use Rattle.std.specs.Prelude.{◌≡◌, ◌<◌, ◌-◌, ◌^◌, None, IfErr, IfOk, IfSome, IsTrue, true};
+ghost use Rattle.std.specs.Prelude.{◌≡◌, ◌<◌, ◌-◌, ◌^◌, false, None, IfErr, IfNone, IfOk, IfSome, IsTrue, true};
 ghost use Rattle.fjall_jobs.specs.Flushes.{flush_task};
 ghost use Rattle.fjall_lsm.specs.Jobs.{IsFlushing};
 ghost use Rattle.fjall_state.specs.Finishing.{keyspace_of};
@@ -9,11 +9,12 @@ ghost use Rattle.fjall_state.specs.Remembered.{KnowsTask};
 ghost use Rattle.fjall_state.specs.Shapes.{OfCount, OfFlushBegin, OfFlushFinish, OfMaintenance, ToFlush};
 ghost use Rattle.fjall_trees.specs.Tables.{shape_in};
 ghost use Rattle.fjall_core.specs.CallParts.{Begins, Evicts, Finishes, Puts, SyncsAll};
-ghost use Rattle.fjall_core.specs.Standing.{Owes, Serves, finish_reply, flag_reply, held_due, ids_reply, is_long, job_of, job_reply, reply_of, store_in};
+ghost use Rattle.fjall_core.specs.Standing.{IsDueToFinish, Owes, Serves, finish_reply, flag_reply, held_due, ids_reply, is_long, job_of, job_reply, reply_of, store_in};
 
 use crate::engine::Core;
 use fjall_base::{Disk, Error, Refused, Result};
 use fjall_commit::sync_journal;
+use fjall_history::JobId;
 use fjall_jobs::{FlushJob, FlushMade};
 use fjall_journal::PersistMode;
 
@@ -115,22 +116,39 @@ impl<D: Disk> Core<D> {
         self.evict()
     }
 
+    // What a finish of this flush comes to before what its job made is looked at: false where it is stale, and then it is out no more; and
+    // refused in a poisoned core. None where it is to be finished, and then nothing has changed.
+    pub(crate) fn settle_early(&mut self, job: JobId) -> Option<Result<bool>>
+        ensures serves { IsTrue D.honest → IfSome result (λ early. Serves self.old (OfFlushFinish job) (flag_reply early) self.new) }
+        ensures owes { IfSome result (λ early. Owes self.old (OfFlushFinish job) (flag_reply early) self.new) }
+        ensures due { IfNone result (IsDueToFinish self.old job × (self.old.memory.poisoned ≡ false) × (self.new ≡ self.old)) }
+    {
+        if !self.memory.is_out(job) {
+            return Some(Ok(false));
+        }
+        let id = job.keyspace_id;
+        if !self.memory.is_living(id) || !self.memory.is_flush_due(job) {
+            self.memory.drop_flush(id);
+            return Some(Ok(false));
+        }
+        if self.memory.is_poisoned() {
+            return Some(Err(Error::Poisoned));
+        }
+        None
+    }
+
     // Whether the flush was finished, where it isn't stale.
     fn settle(&mut self, made: &FlushMade) -> Result<bool>
         requires known { KnowsTask self.old.memory (flush_task made.now.job) }
         ensures serves { IsTrue D.honest → Serves self.old (OfFlushFinish (job_of (flush_task made.now.job))) (flag_reply result) self.new }
         ensures owes { Owes self.old (OfFlushFinish (job_of (flush_task made.now.job))) (flag_reply result) self.new }
     {
-        let id = made.keyspace_id();
-        if !self.memory.is_flushing(made) {
-            return Ok(false);
-        }
-        if !self.memory.is_living(id) || !self.memory.is_flush_due(made) {
-            self.memory.drop_flush(id);
-            return Ok(false);
-        }
-        if self.memory.is_poisoned() {
-            return Err(Error::Poisoned);
+        let job = JobId {
+            number: made.id(),
+            keyspace_id: made.keyspace_id(),
+        };
+        if let Some(early) = self.settle_early(job) {
+            return early;
         }
         self.finish(made)?;
         Ok(true)
@@ -141,9 +159,9 @@ impl<D: Disk> Core<D> {
     /// then sealed journals are removed that no keyspace wants any more. No view changes.
     ///
     /// False where the flush is stale, since it isn't out any more, its keyspace was deleted, or an ingestion took its memtables:
-    /// then nothing changes but that it is out no more. Refusals hand back what was made, the first that has its cause: `Poisoned`; `TooManyItems` where the
-    /// keyspace's record has no room; `NumbersUsedUp` where no id of a table is left; `OutOfMemory`; and `Io`, after which the
-    /// core is poisoned. After each of the others nothing has changed.
+    /// then nothing changes but that it is out no more. Refusals hand back what was made: `Poisoned`; and then, the first that is met,
+    /// `NumbersUsedUp` where no id of a table is left, `TooManyItems` where the keyspace's record has no room, `OutOfMemory`; and `Io`,
+    /// after which the core is poisoned. After each of the others nothing has changed.
     pub fn flush_finish(&mut self, made: FlushMade) -> std::result::Result<bool, Refused<FlushMade>>
         requires known { KnowsTask self.old.memory (flush_task made.job) }
         ensures serves { IsTrue D.honest → Serves self.old (OfFlushFinish (job_of (flush_task made.job))) (finish_reply result) self.new }

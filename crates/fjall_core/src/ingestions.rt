@@ -75,8 +75,9 @@ impl<D: Disk> Core<D> {
     /// items are done at once, whatever the keyspace.
     ///
     /// Refusals, the first that has its cause, over all items: `KeyEmpty`, `KeyTooLong`, `ValueTooLong`, `KeyOrder` where a key is not
-    /// above the one before it, `UnknownKeyspace`, `KeyspaceDeleted`, `Poisoned`, `TooManyItems` (of items, or where the keyspace's record
-    /// has no room), `NumbersUsedUp`, `OutOfMemory`; and `Io`, after which the core is poisoned. After each of them no view has changed.
+    /// above the one before it, `UnknownKeyspace`, `KeyspaceDeleted`, `Poisoned`, `TooManyItems`, `NumbersUsedUp`; and then, the first that
+    /// is met, `NumbersUsedUp` where no id of a table or number of a journal is left, `TooManyItems` where the keyspace's record has no
+    /// room, `OutOfMemory`; and `Io`, after which the core is poisoned. After each of them no view has changed.
     pub fn ingest(&mut self, id: u64, items: Vec<(UserKey, Op)>) -> Result<()>
         ensures serves { IsTrue D.honest → Serves self.old (OfIngestion id items.items) (reply_of result) self.new }
         ensures owes { Owes self.old (OfIngestion id items.items) (reply_of result) self.new }

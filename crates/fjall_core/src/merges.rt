@@ -1,6 +1,6 @@
 //! Merges: tables that become others, at level 1, without the versions that nobody reads any more.
 
-ghost use Rattle.std.specs.Prelude.{◌≡◌, IfErr, IfOk, IfSome, IsTrue, true};
+ghost use Rattle.std.specs.Prelude.{◌≡◌, false, IfErr, IfNone, IfOk, IfSome, IsTrue, true};
 ghost use Rattle.fjall_jobs.specs.Merges.{merge_task};
 ghost use Rattle.fjall_lsm.specs.Jobs.{is_merge_out};
 ghost use Rattle.fjall_state.specs.declared.merges.MergeKind.TheVariants.{Due, Major};
@@ -9,7 +9,7 @@ ghost use Rattle.fjall_state.specs.Merging.{KnowsMerge, keyspace_of};
 ghost use Rattle.fjall_state.specs.Shapes.{OfMergeBegin, OfMergeFinish};
 ghost use Rattle.fjall_trees.specs.Tables.{shape_in};
 ghost use Rattle.fjall_core.specs.CallParts.{Merges, PutsMerge, TakesAway};
-ghost use Rattle.fjall_core.specs.Standing.{Owes, ReadsOn, Serves, ServesWhere, StandsFor, flag_reply, job_of, merge_job_reply, merge_reply, store_in};
+ghost use Rattle.fjall_core.specs.Standing.{IsDueToMerge, Owes, ReadsOn, Serves, ServesWhere, StandsFor, flag_reply, job_of, merge_job_reply, merge_reply, store_in};
 
 use crate::engine::Core;
 use fjall_base::{Disk, Error, Refused, Result};
@@ -108,26 +108,39 @@ impl<D: Disk> Core<D> {
         Ok(())
     }
 
+    // What a finish of this merge comes to before what its job made is looked at: false where it is stale, and then it is out no more; and
+    // refused in a poisoned core. None where it is to be finished, and then nothing has changed.
+    pub(crate) fn settle_merge_early(&mut self, job: JobId) -> Option<Result<bool>>
+        ensures serves { IsTrue D.honest → IfSome result (λ early. Serves self.old (OfMergeFinish job) (flag_reply early) self.new) }
+        ensures owes { IfSome result (λ early. Owes self.old (OfMergeFinish job) (flag_reply early) self.new) }
+        ensures due { IfNone result (IsDueToMerge self.old job × (self.old.memory.poisoned ≡ false) × (self.new ≡ self.old)) }
+    {
+        if !self.memory.is_merge_out(job) {
+            return Some(Ok(false));
+        }
+        let id = job.keyspace_id;
+        if !self.memory.is_living(id) {
+            self.memory.drop_merge(id);
+            return Some(Ok(false));
+        }
+        if self.memory.is_poisoned() {
+            return Some(Err(Error::Poisoned));
+        }
+        None
+    }
+
     // Whether the merge was finished, where it isn't stale.
     fn settle_merge(&mut self, made: &MergeMade) -> Result<bool>
         ensures serves { IsTrue D.honest → ServesWhere (λ s. KnowsMerge s made.now.job.target (merge_task made.now.job))
             self.old (OfMergeFinish (job_of (merge_task made.now.job))) (flag_reply result) self.new }
         ensures owes { Owes self.old (OfMergeFinish (job_of (merge_task made.now.job))) (flag_reply result) self.new }
     {
-        let id = made.keyspace_id();
-        let name = JobId {
+        let job = JobId {
             number: made.id(),
-            keyspace_id: id,
+            keyspace_id: made.keyspace_id(),
         };
-        if !self.memory.is_merge_out(name) {
-            return Ok(false);
-        }
-        if !self.memory.is_living(id) {
-            self.memory.drop_merge(id);
-            return Ok(false);
-        }
-        if self.memory.is_poisoned() {
-            return Err(Error::Poisoned);
+        if let Some(early) = self.settle_merge_early(job) {
+            return early;
         }
         self.merge(made)?;
         Ok(true)
@@ -139,8 +152,8 @@ impl<D: Disk> Core<D> {
     /// removed. No view changes that is open, or that may be opened.
     ///
     /// False where the merge is stale, since it isn't out any more, or its keyspace was deleted: then nothing changes but that it is out no
-    /// more. Refusals hand back what was made, the first that has its cause: `Poisoned`; `NumbersUsedUp` where too few ids of tables are
-    /// left; `TooManyItems` where the keyspace's record has no room; `OutOfMemory`; and `Io`, after which the core is poisoned. After each of
+    /// more. Refusals hand back what was made: `Poisoned`; and then, the first that is met, `NumbersUsedUp` where too few ids of tables are
+    /// left, `TooManyItems` where the keyspace's record has no room, `OutOfMemory`; and `Io`, after which the core is poisoned. After each of
     /// the others nothing has changed.
     pub fn merge_finish(&mut self, made: MergeMade) -> std::result::Result<bool, Refused<MergeMade>>
         // Whichever state the core stood for that knows the merge, the call steps on from it.

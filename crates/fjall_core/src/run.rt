@@ -56,13 +56,23 @@ impl<D: Disk> Core<D> {
         }
     }
 
-    // Runs a job and finishes it, and gives the job back where it is refused.
+    // Runs a job and finishes it, and gives the job back where it is refused. One that is stale isn't run.
     fn run_and_finish(&mut self, job: FlushJob) -> (Reply, Option<FlushJob>)
         requires { KnowsTask self.old.memory (flush_task job) }
         ensures serves { IsTrue D.honest → Serves self.old (OfFlushFinish (job_of (flush_task job))) result.0 self.new }
         ensures owes { Owes self.old (OfFlushFinish (job_of (flush_task job))) result.0 self.new }
         ensures back { IsGivenBack job result.0 result.1 }
     {
+        let name = JobId {
+            number: job.id(),
+            keyspace_id: job.keyspace_id(),
+        };
+        if let Some(early) = self.settle_early(name) {
+            return match early {
+                Ok(done) => (Reply::Flag(done), None),
+                Err(error) => (Reply::Refused(error), Some(job)),
+            };
+        }
         let made = match job.run(self.alloc) {
             Ok(made) => made,
             Err(refused) => {
@@ -141,11 +151,20 @@ impl<D: Disk> Core<D> {
 
     // Runs a merge that is out and finishes it, and gives its job back where it is refused.
     fn run_and_merge(&mut self, job: MergeJob) -> (Reply, Option<MergeJob>)
-        requires out { is_merging self.old.memory.trees (job_of (merge_task job)) ≡ true }
         ensures serves { IsTrue D.honest → ServesWhere (λ s. KnowsMerge s job.target (merge_task job)) self.old (OfMergeFinish (job_of (merge_task job))) result.0 self.new }
         ensures owes { Owes self.old (OfMergeFinish (job_of (merge_task job))) result.0 self.new }
         ensures back { IsMergeGivenBack job result.0 result.1 }
     {
+        let name = JobId {
+            number: job.id(),
+            keyspace_id: job.keyspace_id(),
+        };
+        if let Some(early) = self.settle_merge_early(name) {
+            return match early {
+                Ok(done) => (Reply::Flag(done), None),
+                Err(error) => (Reply::Refused(error), Some(job)),
+            };
+        }
         let made = match job.run(self.alloc) {
             Ok(made) => made,
             Err(refused) => {

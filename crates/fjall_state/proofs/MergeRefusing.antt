@@ -51,7 +51,7 @@ module _ (m : Remembered) (table : ℕ) (s : State) (stands : StandsFor m table 
       )
 
   pub refusal_steps : s.poisoned ≡ false → (error : Error) → IsPlanRefusal (last_known m.records k) (counting.merge_out is.out tables clears) error → StepOf s (OfMergeFinish job) (Refused error) s
-  refusal_steps well OutOfMemory is = (tt, refl)
+  refusal_steps well OutOfMemory is = ((due_to_merge, well), refl)
   refusal_steps well NumbersUsedUp few = (lacks well LacksMergeIds few, refl)
   refusal_steps well TooManyItems long = (lacks well LacksMergeRoom long, refl)
   refusal_steps well error none = absurd none

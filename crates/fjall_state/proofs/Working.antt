@@ -59,7 +59,7 @@ module _ (m : Remembered) (table : ℕ) (s : State) (stands : StandsFor m table 
 
   pub refusal_steps : (made : FlushMade) → s.poisoned ≡ false → (error : Error) → IsPlanRefusal (last_known m.records k) (flush_with (shape_in job.keyspace_id m.trees) out made.tables.items) error
       → StepOf s (OfFlushFinish job) (Refused error) s
-  refusal_steps made well OutOfMemory is = (tt, refl)
+  refusal_steps made well OutOfMemory is = ((due_to_finish, well), refl)
   refusal_steps made well NumbersUsedUp (some, last) = ((due_to_finish, well, ap (λ (r : Fields). r.next_table_id) record_there ∙ last), refl)
   refusal_steps made well TooManyItems long = ((due_to_finish, well, lacks_room made long), refl)
   refusal_steps made well error is = absurd is

@@ -1051,13 +1051,22 @@ FinishesLate s (OfFlushFinish job) = IsDueToFinish s job × (s.poisoned ≡ true
 FinishesLate s (OfMergeFinish job) = IsDueToMerge s job × (s.poisoned ≡ true)
 FinishesLate s shape = ⊥
 
+-- A call that asks for memory: a worker's step only where there is one to make, no fault has poisoned the engine, and the numbers of jobs
+-- and journals that it takes are left.
+abbrev pub AsksMemory : State → Shape → Type 0
+AsksMemory s (OfFlushBegin id) = (begins_flush s.parts.trees id ≡ true) × (are_jobs_used_up s ≡ false)
+AsksMemory s (OfFlushFinish job) = IsDueToFinish s job × (s.poisoned ≡ false)
+AsksMemory s (OfMergeBegin kind id) = (begins_merge (present s) s.parts.trees kind id ≡ true) × (s.next_job < 2 ^ 64 - 1)
+AsksMemory s (OfMergeFinish job) = IsDueToMerge s job × (s.poisoned ≡ false)
+AsksMemory s shape = TakesMemory shape
+
 -- Where none is due, the disk may fail, memory run out, a read meet a wrong block, an option's value be too long to be stored, or a
 -- worker's step find the engine poisoned, or no number or no room left. A fault in a call that changes the disk poisons the engine; one
 -- in a read changes nothing.
 abbrev pub MayFail : Shape → Error → State → State → Type 0
 MayFail shape (Io kind) old new =
     (ChangesDisk (facts old) old.parts.buffer shape × IsPoisoned (at_fault old shape) new) ⊎ ((ReadsTables old.parts.trees shape × (new ≡ let_go old shape)) ⊎ WorkFails shape old new)
-MayFail shape OutOfMemory old new = TakesMemory shape × (new ≡ let_go old shape)
+MayFail shape OutOfMemory old new = AsksMemory old shape × (new ≡ let_go old shape)
 MayFail shape (Storage told) old new = (told ≡ TableDamaged) × ReadsDamaged old shape × (new ≡ let_go old shape)
 MayFail shape ValueTooLong old new = TooLong (present old) shape × (new ≡ let_go old shape)
 MayFail shape Poisoned old new = FinishesLate old shape × (new ≡ let_go old shape)

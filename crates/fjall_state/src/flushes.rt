@@ -12,7 +12,7 @@ ghost use Rattle.fjall_merge.specs.FlushPlans.{HaveFiles, IsPlan, IsPlanRefusal,
 ghost use Rattle.fjall_jobs.specs.Flushes.{flush_task};
 ghost use Rattle.fjall_journal.specs.Writer.{IsIo};
 ghost use Rattle.fjall_loading.specs.Known.{last_known};
-ghost use Rattle.fjall_lsm.specs.Jobs.{IsFlushing, flush_finished, flush_of, is_flush_out};
+ghost use Rattle.fjall_lsm.specs.Jobs.{IsFlushing, flush_finished, flush_of};
 ghost use Rattle.fjall_lsm.specs.Trees.{Flushing};
 ghost use Rattle.fjall_maps.specs.Maps.{store_of};
 ghost use Rattle.fjall_recovery.specs.Halves.{HasTree};
@@ -75,13 +75,6 @@ impl EngineState {
     {
         self.trees.drop_flush(id);
         self.next_job -= 1;
-    }
-
-    /// Whether the flush of this job is out.
-    pub fn is_flushing(&self, made: &FlushMade) -> bool
-        ensures { result ≡ is_flush_out (flush_task made.now.job).id (shape_in (flush_task made.now.job).keyspace self.now.trees).flush }
-    {
-        self.trees.is_flushing(made.keyspace_id(), made.id())
     }
 
     /// Whether no number of a job is left or, where the active journal is to be sealed before a flush, none of a journal.

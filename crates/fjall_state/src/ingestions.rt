@@ -5,7 +5,6 @@ ghost use Rattle.std.specs.FinMap.{contains_key, get};
 ghost use Rattle.std.specs.Ordering.{is_lt};
 ghost use Rattle.fjall_base.specs.Pairs.{byte_order};
 ghost use Rattle.fjall_ingest.specs.Planned.{IsIngestionRefusal};
-ghost use Rattle.fjall_jobs.specs.Flushes.{flush_task};
 ghost use Rattle.fjall_loading.specs.Known.{last_known};
 ghost use Rattle.fjall_lsm.specs.Ingestions.{is_flush_due};
 ghost use Rattle.fjall_lsm.specs.Trees.{clears_of};
@@ -22,8 +21,8 @@ ghost use Rattle.fjall_state.specs.Remembered.{IsLawful, facts_of};
 use crate::engine_state::EngineState;
 use crate::refusals::JOURNAL_LIMIT;
 use fjall_base::{Error, Result, UserKey};
+use fjall_history::JobId;
 use fjall_ingest::{PlannedIngestion, plan_ingestion};
-use fjall_jobs::FlushMade;
 use fjall_journal::Op;
 use std::alloc::Global;
 
@@ -169,9 +168,9 @@ impl EngineState {
     }
 
     /// Whether the flush of this job is out, and takes effect once it is finished: no ingestion has made it stale.
-    pub fn is_flush_due(&self, made: &FlushMade) -> bool
-        ensures { result ≡ is_flush_due (flush_task made.now.job).id (shape_in (flush_task made.now.job).keyspace self.now.trees).flush }
+    pub fn is_flush_due(&self, job: JobId) -> bool
+        ensures { result ≡ is_flush_due job.number (shape_in job.keyspace_id self.now.trees).flush }
     {
-        self.trees.is_flush_due(made.keyspace_id(), made.id())
+        self.trees.is_flush_due(job.keyspace_id, job.number)
     }
 }

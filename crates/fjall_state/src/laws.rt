@@ -41,7 +41,7 @@ ghost use Rattle.fjall_state.specs.Shapes.{OfFlushFinish, OfRead, OneLess, Persi
 ghost use Rattle.fjall_state.specs.Ingesting.{with_ingestion};
 ghost use Rattle.fjall_state.specs.Machine as machine;
 ghost use Rattle.fjall_state.specs.Machine.{EvictsSome, Flushed, begins_flush, flush_count, flush_with, is_flushed, is_flushing, table_space, tables_space};
-ghost use Rattle.fjall_state.specs.Machine.{Facts, HasTables, IsPoisoned, Parts, Run, State, Step, StepOf, TakesMemory, accepted, change_refusals, created, creation_refusals, deleted, deletion_refusals};
+ghost use Rattle.fjall_state.specs.Machine.{AsksMemory, Facts, HasTables, IsPoisoned, Parts, Run, State, Step, StepOf, accepted, change_refusals, created, creation_refusals, deleted, deletion_refusals};
 ghost use Rattle.fjall_state.specs.Machine.{buffer_size, due, due_in, first_due, handle_refusals, handles_of, has_name, is_among, is_living, journal_refusals, maps_in, one_more, opened_state, persists_by_hand, present, rotates, times};
 ghost use Rattle.fjall_state.specs.Machine.{version_count, view_refusals, wants_rotation};
 ghost use Rattle.fjall_state.specs.Remembered.{KnowsTask, flush_gone, flush_out, flushed_by, with_flush, with_sealed};
@@ -58,7 +58,7 @@ pub fn facts_agree()
 pub fn a_refusal_is_a_step()
     ensures due { (m : Remembered) (table : ℕ) (s : State) → StandsFor m table s → (shape : Shape) (error : Error) → due_in (facts_of m table) shape ≡ Some error
         → StepOf s shape (Refused error) s }
-    ensures memory { (m : Remembered) (table : ℕ) (s : State) → StandsFor m table s → (shape : Shape) (error : Error) → TakesMemory shape
+    ensures memory { (m : Remembered) (table : ℕ) (s : State) → StandsFor m table s → (shape : Shape) (error : Error) → AsksMemory s shape
         → IsDueOrMemory (due_in (facts_of m table) shape) error → StepOf s shape (Refused error) s }
     // So is a read's, where the disk failed, or where a block is wrong of a table of a keyspace that is damaged.
     ensures read { (m : Remembered) (table : ℕ) (s : State) → StandsFor m table s → (view : Seen) (id : ℕ) (query : Query) (old new : Meaning) (error : Error)

@@ -35,11 +35,6 @@ unreachable-requires g c =
     let out = sym c.if-not-is_merge_out.ensures.out in
     true≢false (sym (kept _ c.self.view_is (merge_out_given c.self.inside.memory c.args.job c.if-not-is_merge_out.ensures.lawful out) out) ∙ c.in_default.ensures.finds.0)
 
-pub run_and_merge-reply-requires : goal.run_and_merge-reply-requires
-run_and_merge-reply-requires g c =
-    let out = ap (λ (h : Held). is_merging h.memory.trees c.args.job) (sym c.self.view_is) ∙ sym c.if-not-is_merge_out.ensures.out in
-    record { out = ap (is_merging c.args.self.now.memory.trees) (named_job c.args.job (merge_task c.in-Some.kept) c.in-Some.ensures.finds.0) ∙ out }
-
 pub returns-in-Some-back-clause-serves : goal.returns-in-Some-back-clause-serves
 returns-in-Some-back-clause-serves g c = λ h.
     let r = c.run_and_merge-reply in
