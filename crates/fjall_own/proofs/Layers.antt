@@ -32,7 +32,7 @@ altered_get pairs k (Some v) key = get-insert nat_list_cmp_total pairs k v key
 altered_get pairs k None key = get-remove nat_list_cmp_total pairs k key
 
 -- the maps after a write of one key of a keyspace
-one_get : (maps : FinMap nat_cmp Pairs) (i : ℕ) (k : Bytes) (v : Option Bytes) (id : ℕ) (key : Bytes)
+pub one_get : (maps : FinMap nat_cmp Pairs) (i : ℕ) (k : Bytes) (v : Option Bytes) (id : ℕ) (key : Bytes)
     → get (map_at (insert maps i (altered (map_at maps i) k v)) id) key ≡ cond (eq_by_cmp key_order (key_of id key) (key_of i k)) v (get (map_at maps id) key)
 one_get maps i k v id key = ap (λ (p : Option Pairs). get (unwrap_or p empty) key) (get-insert nat_cmp_total maps i (altered (map_at maps i) k v) id) ∙ by (nat_cmp id i) refl
   where

@@ -4,3 +4,5 @@ pub mod Keys
 pub mod Layers
 pub mod Merges
 pub mod Writable
+mod Growing
+mod TakingBack

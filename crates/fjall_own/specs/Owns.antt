@@ -1,11 +1,11 @@
 -- What a transaction wrote itself, and what it sees of a view for it.
-use Rattle.std.specs.Prelude.{ℕ, ◌+◌, ◌-◌, ◌^◌, ◌==◌, ◌&&◌, Bool, true, false, List, [], Option, Some, None, count_by, filter, is_some, map, min, not, refl, ◌≡◌}
+use Rattle.std.specs.Prelude.{ℕ, ◌+◌, ◌-◌, ◌^◌, ◌==◌, ◌&&◌, Bool, true, false, List, [], ◌∷◌, IfSome, IsSome, Option, Some, None, count_by, filter, is_some, map, min, not, refl, ◌≡◌}
 use Rattle.std.specs.declared.cmp.Ordering.{Ordering}
 use Rattle.std.specs.declared.ops.Bound.{Bound}
 use Rattle.std.specs.declared.ops.Bound.TheVariants.{Included, Excluded, Unbounded}
 use Rattle.std.specs.Ordering.{nat_cmp, ordering_then}
 use Rattle.std.specs.Coded.{Coded, code_by, coded×, coded_bool, coded_list, coded_option, coded_ℕ}
-use Rattle.std.specs.FinMap.{FinMap, code, entries}
+use Rattle.std.specs.FinMap.{FinMap, code, entries, get, insert, remove}
 use Rattle.fjall_base.specs.Limits.{item_refusal}
 use Rattle.fjall_base.specs.Pairs.{Bytes, KeyRange, Pairs, byte_order, is_within}
 use Rattle.fjall_base.specs.Store.{written}
@@ -76,6 +76,32 @@ items_of own = map item_of (entries own)
 -- an entry that a batch can have: its key and its value have lengths that can be written
 abbrev pub IsWritable : Key × Op → Type 0
 IsWritable entry = item_refusal entry.0.key (bytes_in entry.1) ≡ None
+
+-- with these items written one behind another, so that the last of equal keys counts
+abbrev pub with_writes : Own → List BatchItem → Own
+with_writes own [] = own
+with_writes own (item ∷ items) = with_writes (insert own (key_of item.0 item.1) item.2) items
+
+-- ---- what is taken back
+
+-- a key, and what was written there before a write that is to be taken back
+abbrev pub Earlier : Type 0
+Earlier = Key × Option Op
+
+-- what it had before: this again, or nothing
+abbrev pub put_back : Own → Earlier → Own
+put_back own (key, Some op) = insert own key op
+put_back own (key, None) = remove own key
+
+-- without the last writes of these keys, the last of all taken back first
+abbrev pub taken_back : Own → List Earlier → Own
+taken_back own [] = own
+taken_back own (last ∷ others) = taken_back (put_back own last) others
+
+-- Each of these keys was written, the last of all first, and what it had before can be written again.
+abbrev pub CanTakeBack : Own → List Earlier → Type 0
+CanTakeBack own [] = Unit {0}
+CanTakeBack own (last ∷ others) = IsSome (get own last.0) × IfSome last.1 (λ op. IsWritable (last.0, op)) × CanTakeBack (put_back own last) others
 
 -- ---- what is seen
 

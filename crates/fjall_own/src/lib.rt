@@ -8,5 +8,5 @@ mod own_writes;
 mod pairs;
 
 pub use key::Key;
-pub use laws::{items_are_the_own_writes, own_writes_are_seen};
+pub use laws::{items_are_the_own_writes, own_writes_are_seen, own_writes_grow};
 pub use own_writes::OwnWrites;

@@ -1,24 +1,25 @@
 //! What a transaction wrote itself.
 
-ghost use Rattle.std.specs.Prelude.{◌≡◌, ◌↔◌, ◌<◌, ◌^◌, ℕ, Bool, Option, Some, None, IfOk, IsOkUnless, IsTrue, MatchOption, OnErr, OnOk, Err, false, [], ◌≤◌, length, map, vec_capacity};
+ghost use Rattle.std.specs.Prelude.{◌≡◌, ◌↔◌, ◌+◌, ◌<◌, ◌^◌, ℕ, Bool, Option, Some, None, IfOk, IfSome, IsOkUnless, IsSome, IsTrue, MatchOption, OnErr, OnOk, Err, false, [], ◌≤◌, length, map, vec_capacity};
 ghost use Rattle.std.specs.Option.{option_copied};
 ghost use Rattle.std.specs.FinMap as fin;
 ghost use Rattle.std.specs.FinMap.{FinMap, empty, entries};
 ghost use Rattle.std.specs.Ordering.{nat_cmp};
 ghost use Rattle.std.specs.BTreeMap.{IsOrdered};
 ghost use Rattle.std.specs.BTreeMap.Range.{entries_between};
+ghost use Rattle.std.specs.VecDeque.{deque_capacity, deque_len};
 ghost use Rattle.std.specs.declared.ops.Bound.TheVariants.{Unbounded};
 ghost use Rattle.fjall_base.specs.Limits.{item_refusal};
 ghost use Rattle.fjall_base.specs.Pairs.{Pairs, lookup, page, pairs_between};
 ghost use Rattle.fjall_base.specs.Store.{map_at};
 ghost use Rattle.fjall_base.specs.declared.error.Error.TheVariants.{OutOfMemory};
-ghost use Rattle.fjall_journal.specs.Ops.{bytes_in, some_key_empty, some_key_too_long, some_value_too_long, value_in};
-ghost use Rattle.fjall_own.specs.Owns.{item_of, items_of, key_of, key_order, own_written, removals, start_at, wanted};
+ghost use Rattle.fjall_journal.specs.Ops.{bytes_in, items_refusal, some_key_empty, some_key_too_long, some_value_too_long, value_in};
+ghost use Rattle.fjall_own.specs.Owns.{CanTakeBack, IsWritable, item_of, items_of, key_of, key_order, own_written, put_back, removals, start_at, taken_back, wanted, with_writes};
 
 use crate::key::{Key, start_of};
 use crate::pairs::{cut, pop_up_to};
 use fjall_base::{KvPair, Result, UserKey, UserValue, check_item};
-use fjall_journal::{BatchItem, Op};
+use fjall_journal::{BatchItem, Op, check_items};
 use fjall_reading::KeyRange;
 use std::alloc::Global;
 use std::collections::btree_map::Range;
@@ -48,6 +49,9 @@ impl Model for OwnWrites {
 
     ghost invariant = { λ o. (o.room.items ≡ []) × (length o.writes.entries ≤ vec_capacity o.room) × AllByRecursion IsWritable o.writes.entries };
 }
+
+// A key, and what was written there before a write that may be taken back.
+type Earlier = (Key, Option<Op>);
 
 // The value that a key has after a write, where it has one.
 fn value_of(op: &Op) -> Result<Option<UserValue>>
@@ -85,6 +89,19 @@ impl OwnWrites {
         }
     }
 
+    // Writes a key that nothing refuses, and answers what was written there before.
+    fn exchange(&mut self, place: Key, op: Op) -> Result<Option<Op>>
+        requires fits { IsWritable (place, op) }
+        ensures ok { OnOk result (self.new ≡ fin.insert self.old place op) }
+        ensures before { IfOk result (λ before. before ≡ fin.get self.old place) }
+        ensures writable { IfOk result (λ before. IfSome before (λ op. IsWritable (place, op))) }
+        ensures unchanged { OnErr result (self.new ≡ self.old) }
+        ensures only { IsOkUnless result OutOfMemory }
+    {
+        self.room.reserve(self.writes.len() + 1)?;
+        Ok(self.writes.insert(place, op)?)
+    }
+
     /// Writes a key of a keyspace; what was written there before counts no more.
     ///
     /// Refusals, after which all is as before: `KeyEmpty`, `KeyTooLong` above 65,535 bytes, `ValueTooLong` above
@@ -95,12 +112,95 @@ impl OwnWrites {
         ensures refused { MatchOption (item_refusal key (bytes_in op)) (IsOkUnless result OutOfMemory) (λ e. result ≡ Err e) }
     {
         check_item(key.as_slice(), op.bytes())?;
-        self.room.reserve(self.writes.len() + 1)?;
         let place = Key {
             keyspace_id: id,
             key,
         };
-        self.writes.insert(place, op)?;
+        self.exchange(place, op)?;
+        Ok(())
+    }
+
+    // Writes an item that nothing refuses, and puts what its key had before in front of others, for which there is room.
+    fn write_noting(&mut self, item: BatchItem, earlier: &mut VecDeque<Earlier>) -> Result<()>
+        requires fits { IsWritable (key_of item.0 item.1, item.2) }
+        requires room { deque_len earlier.old < deque_capacity earlier.old }
+        requires can { CanTakeBack self.old earlier.old.items }
+        ensures ok { OnOk result (self.new ≡ fin.insert self.old (key_of item.0 item.1) item.2) }
+        ensures can { CanTakeBack self.new earlier.new.items }
+        ensures back { taken_back self.new earlier.new.items ≡ taken_back self.old earlier.old.items }
+        ensures capacity { deque_capacity earlier.new ≡ deque_capacity earlier.old }
+        ensures len { deque_len earlier.new ≤ deque_len earlier.old + 1 }
+        ensures only { IsOkUnless result OutOfMemory }
+    {
+        let (keyspace_id, key, op) = item;
+        let noted = Key {
+            keyspace_id,
+            key: key.clone()?,
+        };
+        let before = self.exchange(Key { keyspace_id, key }, op)?;
+        earlier.push_front_reserved((noted, before));
+        Ok(())
+    }
+
+    // Writes a key again that is there, which takes no memory, and answers what it had.
+    fn write_again(&mut self, place: Key, op: Op) -> Option<Op>
+        requires there { IsSome (fin.get self.old place) }
+        requires writable { IsWritable (place, op) }
+        ensures { self.new ≡ fin.insert self.old place op }
+    {
+        let Ok(had) = self.writes.insert(place, op) else {
+            unreachable!()
+        };
+        had
+    }
+
+    // Takes a key and what was written there away, and answers that.
+    fn forget(&mut self, place: &Key) -> Option<Op>
+        ensures { self.new ≡ fin.remove self.old place.now }
+    {
+        self.writes.remove(place)
+    }
+
+    // Gives a key back what it had before it was written.
+    fn put_back(&mut self, place: Key, before: Option<Op>)
+        requires there { IsSome (fin.get self.old place) }
+        requires writable { IfSome before (λ op. IsWritable (place, op)) }
+        ensures { self.new ≡ put_back self.old (place, before) }
+    {
+        let _last = match before {
+            Some(op) => self.write_again(place, op),
+            None => self.forget(&place),
+        };
+    }
+
+    // Takes the last writes back, of which this is what their keys had before.
+    fn take_back(&mut self, mut earlier: VecDeque<Earlier>)
+        requires can { CanTakeBack self.old earlier.items }
+        ensures { self.new ≡ taken_back self.old earlier.items }
+    {
+        while let Some((place, before)) = earlier.pop_front() {
+            self.put_back(place, before);
+        }
+    }
+
+    /// Writes these items, one behind another, all of them or none: where one key has several the last one counts.
+    ///
+    /// Refusals, after which all is as before, each looked for in all items before the next: `KeyEmpty`, `KeyTooLong` above 65,535
+    /// bytes, `ValueTooLong` above 4,294,967,295; `TooManyItems`, above 4,294,967,295; `OutOfMemory`.
+    pub fn write_all(&mut self, items: Vec<BatchItem>) -> Result<()>
+        ensures ok { OnOk result (self.new ≡ with_writes self.old items.items) }
+        ensures unchanged { OnErr result (self.new ≡ self.old) }
+        ensures refused { MatchOption (items_refusal items.items) (IsOkUnless result OutOfMemory) (λ e. result ≡ Err e) }
+    {
+        check_items(&items)?;
+        let mut earlier = VecDeque::with_capacity(*items.allocator(), items.len())?;
+        let mut rest = VecDeque::from_vec(items);
+        while let Some(item) = rest.pop_front() {
+            if let Err(error) = self.write_noting(item, &mut earlier) {
+                self.take_back(earlier);
+                return Err(error);
+            }
+        }
         Ok(())
     }
 
