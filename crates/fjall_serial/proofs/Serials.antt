@@ -13,7 +13,7 @@ use Rattle.fjall_tx.specs.declared.oracle.Committed.{Committed}
 use Rattle.fjall_tx.specs.Places.{place}
 use Rattle.fjall_tx.specs.Marks.{IsCovered, Mark}
 use Rattle.fjall_tx.specs.Oracles.{Conflicts, commit_of}
-use Rattle.fjall_history.specs.Histories.{Accepted, Commit, History, commands_of, commits_from, latest, with_commit_at}
+use Rattle.fjall_history.specs.Histories.{Accepted, Commit, History, commands_of, commits, commits_from, latest, view, with_commit_at}
 use Rattle.fjall_history.proofs.Views.{commands_append, fold_append}
 use Rattle.fjall_serial.specs.Checked.{IsChecked, IsWithin}
 use Rattle.fjall_serial.specs.Serial.{ChangesByTransactions, IsSerial, ReadsChangeByTransactions, serial_store, transactions_of, value_at}
@@ -159,3 +159,31 @@ checked_is_serial h checked premise k a c at is id key covered =
     (marked_drop i front marked)
     (apart_from c.instant c.marks.reads id key covered i h.base front late may.apart)
     ∙ ap (λ l. value_at (after h.opened l) id key) (take-append-drop i front)
+
+-- ---- what meets none
+
+changes_drop : (n : ℕ) (s : Store) (accepted : List Accepted) (id : ℕ) → ChangesByTransactions s accepted id → ChangesByTransactions (fold s (commands_of (take n accepted))) (drop n accepted) id
+changes_drop zero s accepted id all = all
+changes_drop (suc n) s [] id all = tt
+changes_drop (suc n) s (a ∷ accepted) id all = changes_drop n (apply s a.command) accepted id all.1
+
+stays_step : (s : Store) (a : Accepted) (middle : List Accepted) (id : ℕ) (key : Bytes) (o : Option Commit) → a.commit ≡ o → ChangesByTransactions s (a ∷ middle) id → AreMarked (a ∷ middle) → AreApart (a ∷ middle) id key
+    → value_at (apply s a.command) id key ≡ value_at s id key
+stays_step s a middle id key (Some c) e alone marked apart = command_apart a.command c.marks.writes (marked.0 c e) s id key (apart.0 c e)
+stays_step s a middle id key None e alone marked apart = ap (λ m. lookup m key) (alone.0 e)
+
+-- those that wrote no such key leave what it has, and so do other commands
+stays : (s : Store) (middle : List Accepted) (id : ℕ) (key : Bytes) → ChangesByTransactions s middle id → AreMarked middle → AreApart middle id key → value_at (fold s (commands_of middle)) id key ≡ value_at s id key
+stays s [] id key alone marked apart = refl
+stays s (a ∷ middle) id key alone marked apart = stays (apply s a.command) middle id key alone.1 marked.1 apart.1 ∙ stays_step s a middle id key a.commit refl alone marked apart
+
+-- what reads that meet none since their instant saw then is what stands there now
+pub present_of : (h : History) → IsChecked h → (id : ℕ) → ChangesByTransactions h.opened h.accepted id → (instant : ℕ) (reads : List Mark) → (Conflicts instant reads (commits h) → ⊥) → (key : Bytes) → IsCovered reads id key
+    → value_at (view h instant) id key ≡ value_at (latest h) id key
+present_of h checked id alone instant reads none key covered =
+    let i = instant - h.base in
+    let late : instant ≤ h.base + i = omega arith in
+    sym (stays (view h instant) (drop i h.accepted) id key (changes_drop i h.opened h.accepted id alone) (marked_drop i h.accepted (all_marked h checked)) (apart_from instant reads id key covered i h.base h.accepted late none))
+    ∙ ap (λ t. value_at t id key) (sym (fold_append h.opened (commands_of (take i h.accepted)) (commands_of (drop i h.accepted))))
+    ∙ ap (λ l. value_at (fold h.opened l) id key) (sym (commands_append (take i h.accepted) (drop i h.accepted)))
+    ∙ ap (λ l. value_at (fold h.opened (commands_of l)) id key) (take-append-drop i h.accepted)

@@ -15,7 +15,7 @@ ghost use Rattle.fjall_history.specs.Queries.{Get, Page, Query, Tells};
 ghost use Rattle.fjall_history.specs.declared.reply.Reply.{Reply};
 ghost use Rattle.fjall_serial.specs.Asks.{Asks, IsMarked};
 ghost use Rattle.fjall_serial.specs.Checked.{IsChecked, MayCommit, before};
-ghost use Rattle.fjall_serial.specs.Serial.{ChangesByTransactions, IsSerial, ReadsChangeByTransactions, serial_store};
+ghost use Rattle.fjall_serial.specs.Serial.{ChangesByTransactions, IsSerial, ReadsChangeByTransactions, serial_store, value_at};
 
 /// Transactions that were checked when they committed act one after another, where the maps that they read change through
 /// such transactions alone.
@@ -82,4 +82,12 @@ pub fn conflicts_rest_on_commits()
     ensures kept { (h : History) (command : Command) (c : Commit) (watermark : ℕ) → watermark ≤ number h
         → with_commit (pruned (commits h) watermark) (commit_of (number h) c.marks.writes)
         ≡ pruned (commits (grown h (record { command = command; commit = Some c }))) watermark }
+{}
+
+/// Reads that met no transaction which committed at or above their instant saw then what stands there now, in each keyspace whose
+/// map changes through checked transactions alone.
+pub fn what_meets_none_is_of_the_present()
+    ensures { (h : History) → IsChecked h → (id : ℕ) → ChangesByTransactions h.opened h.accepted id
+        → (instant : ℕ) (reads : List Mark) → (Conflicts instant reads (commits h) → ⊥) → (key : Bytes) → IsCovered reads id key
+        → value_at (view h instant) id key ≡ value_at (latest h) id key }
 {}
