@@ -1,6 +1,6 @@
 -- What a commit makes of a state.
-use Rattle.std.proofs.Common.{◌≡◌, ◌≤◌, ◌<◌, inl, inr, ℕ, List, [], ◌∷◌, ◌++◌, All, Option, None, Some, map, length, drop, refl, sym, ap, subst, ◌∙◌, arith}
-use Rattle.std.specs.FinMap.{get}
+use Rattle.std.proofs.Common.{◌≡◌, ◌≤◌, ◌<◌, inl, inr, ℕ, List, [], ◌∷◌, ◌++◌, All, OnErr, OnOk, Option, None, Some, Result, Ok, Err, map, length, drop, refl, sym, ap, subst, ◌∙◌, arith}
+use Rattle.std.specs.FinMap.{empty, get}
 use Rattle.std.proofs.Math.Seq.{drop-append_seam, drop-length}
 use Rattle.std.proofs.lemmas.List.{append-nil}
 use Rattle.std.proofs.lemmas.List.Elements.{All-weaker}
@@ -12,26 +12,30 @@ use Rattle.fjall_journal.specs.Ops.{BatchItem, write_of}
 use Rattle.fjall_tx.specs.Marks.{Marks}
 use Rattle.fjall_tx.specs.declared.oracle.Committed.{Committed}
 use Rattle.fjall_tx.specs.declared.outcome.CommitOutcome.{CommitOutcome}
+use Rattle.fjall_tx.specs.declared.outcome.CommitOutcome.TheVariants as outcomes
 use Rattle.fjall_tx.specs.Oracles.{Conflicts, commit_of, pruned, with_commit}
 use Rattle.fjall_tx.proofs.Commits.{pruned_twice, with_last_commit}
 use Rattle.fjall_own.specs.Owns.{items_of}
+use Rattle.fjall_history.specs.declared.reply.Reply.{Reply}
 use Rattle.fjall_history.specs.declared.reply.Reply.TheVariants.{Done, Refused}
 use Rattle.fjall_history.specs.Histories.{Accepted, Commit, History, commands_of, commits, grown, number, plain}
-use Rattle.fjall_history.specs.Tickets.{Tickets}
+use Rattle.fjall_history.specs.Tickets.{IsDueOrMemory, Tickets}
 use Rattle.fjall_history.proofs.Moving.{never_lower, sound_move}
 use Rattle.fjall_history.proofs.Views.{commands_append}
 use Rattle.fjall_serial.specs.Checked.{IsChecked, MayCommit}
 use Rattle.fjall_serial.proofs.Growing.{checked_commit, still_pruned}
-use Rattle.fjall_core.specs.Shapes.{ByMode, Close, OfChange, OfTickets, Persistence}
-use Rattle.fjall_core.specs.Machine.{MayFail, Refuses, State, StepOf, TakesMemory, accepted, due, times}
+use Rattle.fjall_core.specs.Shapes.{ByMode, Close, OfChange, OfTickets, Persistence, Shape}
+use Rattle.fjall_core.specs.Machine.{MayFail, Refuses, State, StepOf, accepted, due, times}
 use Rattle.fjall_core.proofs.Moving.{shape_moves}
-use Rattle.fjall_core.proofs.Refusing.{memory_steps}
+use Rattle.fjall_core.proofs.OwedSteps.{owes_step}
+use Rattle.fjall_core.proofs.ServedCalls.{RunsOut, either_owes, either_serves}
 use Rattle.fjall_core.specs.Holding.{Held}
-use Rattle.fjall_core.specs.Standing.{ReadsOn, Serves, StandsFor}
+use Rattle.fjall_core.specs.Standing.{LeadsOn, Owes, ReadsOn, RestsOnTables, Serves, StandsFor, held_due}
 use Rattle.fjall_transactions.specs.Commits.{Comes, Commits, Ends, Fails, Gone, Idle, Lets, Meets, change_of}
-use Rattle.fjall_transactions.specs.Standing.{CommitStep, IsCommitted, IsGone, IsIdle, IsMet, IsRefused, StandFor, Told, accepted_of, gone_on, history_of}
+use Rattle.fjall_transactions.specs.Standing.{CommitGoesOn, CommitStep, IsCommitted, IsGone, IsIdle, IsMet, IsRefused, StandFor, Told, accepted_of, gone_on, history_of}
 use Rattle.fjall_transactions.specs.Transactions.{Kept, MeetsSome, Tx, committed, with_items}
 use Rattle.fjall_transactions.proofs.Items.{items_within, same_reads, some_items}
+use Rattle.fjall_transactions.proofs.Leading.{IsBoth, IsClosing, IsStill, Through, leads_through}
 use Rattle.fjall_transactions.proofs.Standing.{exact, kept_of_core, same_number, shape_stands, upto_within}
 
 -- ---- what steps make of the history
@@ -67,8 +71,8 @@ refused_history : (s t : State) (change : Change) (how : Persistence) (error : E
 refused_history s t change how error (Some f) (is, same) = ap (λ (k : State). k.history) same
 refused_history s t change how error None fails = failed_history s t change how error fails
 
--- a change of some items takes memory
-takes_memory : (items : List BatchItem) (how : Persistence) → (items ≡ [] → ⊥) → TakesMemory (OfChange (Items items) how)
+-- a change of some items takes memory, and may run out of it
+takes_memory : (items : List BatchItem) (how : Persistence) → (items ≡ [] → ⊥) → RunsOut (OfChange (Items items) how)
 takes_memory [] how some = absurd (some refl)
 takes_memory (item ∷ items) how some = tt
 
@@ -162,15 +166,7 @@ pruned_stands core kept t stands =
       keeps = ap (λ l. pruned l core.memory.tickets.watermark) stands.keeps ∙ pruned_twice (commits (history_of t)) stands.upto core.memory.tickets.watermark le;
     }
 
--- what the core does as the ticket is closed
-finished : (core left : Held) (kept : Kept) (t : Told) (id : ℕ) → StandFor core kept t → ReadsOn core t.state → Serves core (OfTickets (Close id)) Done left
-    → (s : State) × StandFor left (record kept { commits = pruned kept.commits left.memory.tickets.watermark }) (record { state = s; accepted = t.accepted }) × ReadsOn left s × StepOf t.state (OfTickets (Close id)) Done s
-finished core left kept t id stands reads closes =
-    let (s, is, on, step, led) = closes.goes_on t.state stands.machine reads in
-    let stay : StandFor left kept (record { state = s; accepted = t.accepted }) = closed_stands core left kept t s id stands step is in
-    (s, pruned_stands left kept (record { state = s; accepted = t.accepted }) stay, on, step)
-
--- ---- all together
+-- ---- conflicts
 
 -- a conflict with those that are kept is one with all
 met_all : (core : Held) (kept : Kept) (t : Told) (stands : StandFor core kept t) (id instant : ℕ) (marks : Option Marks) → get t.state.tickets.instants id ≡ Some instant
@@ -183,61 +179,125 @@ met_kept : (core : Held) (kept : Kept) (t : Told) (stands : StandFor core kept t
 met_kept core kept t stands id instant None there met = absurd met
 met_kept core kept t stands id instant (Some marks) there met = (exact core kept t stands id instant there marks.reads).1 met
 
--- what a commit comes to, behind which its ticket is closed
-abbrev Ended : (left : Held) (new : Kept) (t : Told) (tx : Tx) (outcome : CommitOutcome Error) → Type 0
-Ended left new t tx outcome = (after : Told) × StandFor left new after × ReadsOn left after.state × CommitStep t tx outcome after
+-- ---- all together
 
-comes_stands : (core mid left : Held) (kept : Kept) (t : Told) (tx : Tx) (outcome : CommitOutcome Error) (instant : ℕ) (all : List Committed) → StandFor core kept t → ReadsOn core t.state
-    → get t.state.tickets.instants tx.ticket.id ≡ Some instant → Comes Serves kept.commits core instant tx outcome all mid → Serves mid (OfTickets (Close tx.ticket.id)) Done left
-    → Ended left (record kept { commits = pruned all left.memory.tickets.watermark }) t tx outcome
-comes_stands core mid left kept t tx outcome instant all stands reads there (Idle none told same_commits same) closes =
-    let (s, stay, on, step) = finished core left kept t tx.ticket.id stands reads (subst (λ m. Serves m (OfTickets (Close tx.ticket.id)) Done left) same closes) in
-    (record { state = s; accepted = t.accepted }, subst (λ l. StandFor left (record kept { commits = pruned l left.memory.tickets.watermark }) (record { state = s; accepted = t.accepted })) (sym same_commits) stay, on, IsIdle instant there none told step refl)
-comes_stands core mid left kept t tx outcome instant all stands reads there (Meets some met told same_commits same) closes =
-    let (s, stay, on, step) = finished core left kept t tx.ticket.id stands reads (subst (λ m. Serves m (OfTickets (Close tx.ticket.id)) Done left) same closes) in
-    (record { state = s; accepted = t.accepted }, subst (λ l. StandFor left (record kept { commits = pruned l left.memory.tickets.watermark }) (record { state = s; accepted = t.accepted })) (sym same_commits) stay, on, IsMet instant there some (met_all core kept t stands tx.ticket.id instant tx.marks there met) told step refl)
-comes_stands core mid left kept t tx outcome instant all stands reads there (Fails some apart error told same_commits (inl refused)) closes =
-    let (m, is, amid, step, led) = refused.goes_on t.state stands.machine reads in
-    let here : StandFor mid kept (record { state = m; accepted = t.accepted }) = refused_stands core mid kept t m (Items (items_of tx.own)) (ByMode tx.mode) error stands step is in
-    let (s, stay, on, close) = finished mid left kept (record { state = m; accepted = t.accepted }) tx.ticket.id here amid closes in (
-      record { state = s; accepted = t.accepted },
-      subst (λ l. StandFor left (record kept { commits = pruned l left.memory.tickets.watermark }) (record { state = s; accepted = t.accepted })) (sym (same_commits (kept_of_core core kept t stands))) stay,
-      on,
-      IsRefused instant there some (λ met. apart (met_kept core kept t stands tx.ticket.id instant tx.marks there met)) error told m step close refl,
-    )
-comes_stands core mid left kept t tx outcome instant all stands reads there (Fails some apart error told same_commits (inr (is, same))) closes =
-    let step = memory_steps core.memory core.catalog.next_table_id t.state stands.machine.remembered (change_of tx) error (takes_memory (items_of tx.own) (ByMode tx.mode) (some_items tx.own some)) is in
-    let (s, stay, on, close) = finished core left kept t tx.ticket.id stands reads (subst (λ m. Serves m (OfTickets (Close tx.ticket.id)) Done left) same closes) in (
-      record { state = s; accepted = t.accepted },
-      subst (λ l. StandFor left (record kept { commits = pruned l left.memory.tickets.watermark }) (record { state = s; accepted = t.accepted })) (sym (same_commits (kept_of_core core kept t stands))) stay,
-      on,
-      IsRefused instant there some (λ met. apart (met_kept core kept t stands tx.ticket.id instant tx.marks there met)) error told t.state step close refl,
-    )
-comes_stands core mid left kept t tx outcome instant all stands reads there (Commits some apart told grown_commits made) closes =
-    let (m, is, amid, step, led) = made.goes_on t.state stands.machine reads in
-    let e = made_history t.state m (items_of tx.own) (ByMode tx.mode) (some_items tx.own some) step.1.1 in
-    let free = λ (met : MeetsSome instant tx.marks (commits (history_of t))). apart (met_kept core kept t stands tx.ticket.id instant tx.marks there met) in
-    let u : Told = record { state = m; accepted = t.accepted ++ accepted_of instant tx.marks (items_of tx.own) ∷ [] } in
-    let here : StandFor mid (record kept { commits = committed core.memory.next tx.marks (items_of tx.own) kept.commits }) u =
-    committed_stands core mid kept t m tx.ticket.id instant tx.marks (items_of tx.own) (ByMode tx.mode) stands there free e step is in
-    let (s, stay, on, close) = finished mid left (record kept { commits = committed core.memory.next tx.marks (items_of tx.own) kept.commits }) u tx.ticket.id here amid closes in (
-      record { state = s; accepted = u.accepted },
-      subst (λ l. StandFor left (record kept { commits = pruned l left.memory.tickets.watermark }) (record { state = s; accepted = u.accepted })) (sym (grown_commits (kept_of_core core kept t stands))) stay,
-      on,
-      IsCommitted instant there some free told m step close refl,
-    )
+-- what a call leaves of what is kept, once the ticket of a transaction was to be closed
+pub closed_kept : (core : Held) (old new : Kept) (t : Told) (result : Result Unit Error) → OnOk result (new ≡ record old { commits = pruned old.commits core.memory.tickets.watermark }) → OnErr result (new ≡ old)
+    → StandFor core old t → StandFor core new t
+closed_kept core old new t (Ok u) is none stands = subst (λ (k : Kept). StandFor core k t) (sym is) (pruned_stands core old t stands)
+closed_kept core old new t (Err error) none is stands = subst (λ (k : Kept). StandFor core k t) (sym is) stands
 
-pub commit_stands : (core left : Held) (kept new : Kept) (t : Told) (tx : Tx) (outcome : CommitOutcome Error) → StandFor core kept t → ReadsOn core t.state
-    → Ends Serves kept core tx outcome new left → (after : Told) × StandFor left new after × ReadsOn left after.state × CommitStep t tx outcome after
-commit_stands core left kept new t tx outcome stands reads (Gone none told same_kept same) =
-    let tickets = stands.machine.remembered.tickets in (
-      t,
-      subst (λ k. StandFor left k t) (sym same_kept) (subst (λ c. StandFor c kept t) (sym same) stands),
-      subst (λ c. ReadsOn c t.state) (sym same) reads,
-      IsGone (subst (λ (k : Tickets). get k.instants tx.ticket.id ≡ None) (sym tickets) none) told refl,
-    )
-commit_stands core left kept new t tx outcome stands reads (Lets instant opened all mid comes closes kept_is) =
-    let tickets = stands.machine.remembered.tickets in
-    let there : get t.state.tickets.instants tx.ticket.id ≡ Some instant = subst (λ (k : Tickets). get k.instants tx.ticket.id ≡ Some instant) (sym tickets) opened in
-    let (after, stay, on, step) = comes_stands core mid left kept t tx outcome instant all stands reads there comes closes in
-    (after, subst (λ k. StandFor left k after) (sym kept_is) stay, on, step)
+-- What the core does of a call makes it a step from each state that it stood for, of which more may be known, as of the step.
+abbrev Goes : (Held → Shape → Reply → Held → Type 0) → (Held → State → Type 0) → (Held → State → Shape → Reply → Held → State → Type 0) → Type 0
+Goes Does At More = (core new : Held) (shape : Shape) (reply : Reply) → (RestsOnTables core shape reply → ⊥) → Does core shape reply new → (s : State) → StandsFor core s → At core s
+    → (t : State) × StandsFor new t × At new t × StepOf s shape reply t × More core s shape reply new t
+
+-- a refusal that the core wasn't asked for is one that it would have answered so
+abbrev MayRefuse : (Held → Shape → Reply → Held → Type 0) → Type 0
+MayRefuse Does = (core : Held) (shape : Shape) (error : Error) → RunsOut shape → IsDueOrMemory (held_due core shape) error → Does core shape (Refused error) core
+
+module _ (Does : Held → Shape → Reply → Held → Type 0) (At : Held → State → Type 0) (More : Held → State → Shape → Reply → Held → State → Type 0) (goes : Goes Does At More) (may : MayRefuse Does) where
+  -- what a commit comes to, behind which its ticket is closed
+  abbrev Ended : (core left : Held) (new : Kept) (t : Told) (tx : Tx) (outcome : CommitOutcome Error) → Type 0
+  Ended core left new t tx outcome = (after : Told) × StandFor left new after × At left after.state × CommitStep t tx outcome after × Through Does More core t.state tx outcome left after.state
+
+  -- what the core does as the ticket is closed
+  finished : (core left : Held) (kept : Kept) (t : Told) (id : ℕ) → StandFor core kept t → At core t.state → Does core (OfTickets (Close id)) Done left
+      → (s : State) × StandFor left (record kept { commits = pruned kept.commits left.memory.tickets.watermark }) (record { state = s; accepted = t.accepted }) × At left s × StepOf t.state (OfTickets (Close id)) Done s
+      × More core t.state (OfTickets (Close id)) Done left s
+  finished core left kept t id stands at closes =
+      let (s, is, on, step, more) = goes core left (OfTickets (Close id)) Done (λ rests. rests) closes t.state stands.machine at in
+      let stay : StandFor left kept (record { state = s; accepted = t.accepted }) = closed_stands core left kept t s id stands step is in
+      (s, pruned_stands left kept (record { state = s; accepted = t.accepted }) stay, on, step, more)
+
+  -- one that is refused, by the core or before it was asked
+  refused_ended : (core mid left : Held) (kept : Kept) (t : Told) (tx : Tx) (outcome : CommitOutcome Error) (instant : ℕ) (error : Error) → StandFor core kept t → At core t.state
+      → get t.state.tickets.instants tx.ticket.id ≡ Some instant → (tx.own ≡ empty → ⊥) → (MeetsSome instant tx.marks (commits (history_of t)) → ⊥) → outcome ≡ outcomes.Aborted error
+      → Does core (change_of tx) (Refused error) mid → Does mid (OfTickets (Close tx.ticket.id)) Done left
+      → Ended core left (record kept { commits = pruned kept.commits left.memory.tickets.watermark }) t tx outcome
+  refused_ended core mid left kept t tx outcome instant error stands at there some free told refused closes =
+      let (m, is, amid, step, more) = goes core mid (change_of tx) (Refused error) (λ rests. rests) refused t.state stands.machine at in
+      let here : StandFor mid kept (record { state = m; accepted = t.accepted }) = refused_stands core mid kept t m (Items (items_of tx.own)) (ByMode tx.mode) error stands step is in
+      let (s, stay, on, close, then) = finished mid left kept (record { state = m; accepted = t.accepted }) tx.ticket.id here amid closes in (
+        record { state = s; accepted = t.accepted },
+        stay,
+        on,
+        IsRefused instant there some free error told m step close refl,
+        IsBoth mid m (Refused error) (inr (error, told, refl)) more closes then,
+      )
+
+  comes_stands : (core mid left : Held) (kept : Kept) (t : Told) (tx : Tx) (outcome : CommitOutcome Error) (instant : ℕ) (all : List Committed) → StandFor core kept t → At core t.state
+      → get t.state.tickets.instants tx.ticket.id ≡ Some instant → Comes Does kept.commits core instant tx outcome all mid → Does mid (OfTickets (Close tx.ticket.id)) Done left
+      → Ended core left (record kept { commits = pruned all left.memory.tickets.watermark }) t tx outcome
+  comes_stands core mid left kept t tx outcome instant all stands at there (Idle none told same_commits same) closes =
+      let closes_core = subst (λ m. Does m (OfTickets (Close tx.ticket.id)) Done left) same closes in
+      let (s, stay, on, step, more) = finished core left kept t tx.ticket.id stands at closes_core in (
+        record { state = s; accepted = t.accepted },
+        subst (λ l. StandFor left (record kept { commits = pruned l left.memory.tickets.watermark }) (record { state = s; accepted = t.accepted })) (sym same_commits) stay,
+        on,
+        IsIdle instant there none told step refl,
+        IsClosing (inl (none, told)) more,
+      )
+  comes_stands core mid left kept t tx outcome instant all stands at there (Meets some met told same_commits same) closes =
+      let closes_core = subst (λ m. Does m (OfTickets (Close tx.ticket.id)) Done left) same closes in
+      let (s, stay, on, step, more) = finished core left kept t tx.ticket.id stands at closes_core in (
+        record { state = s; accepted = t.accepted },
+        subst (λ l. StandFor left (record kept { commits = pruned l left.memory.tickets.watermark }) (record { state = s; accepted = t.accepted })) (sym same_commits) stay,
+        on,
+        IsMet instant there some (met_all core kept t stands tx.ticket.id instant tx.marks there met) told step refl,
+        IsClosing (inr told) more,
+      )
+  comes_stands core mid left kept t tx outcome instant all stands at there (Fails some apart error told same_commits (inl refused)) closes =
+      subst (λ l. Ended core left (record kept { commits = pruned l left.memory.tickets.watermark }) t tx outcome) (sym (same_commits (kept_of_core core kept t stands)))
+      (refused_ended core mid left kept t tx outcome instant error stands at there some (λ met. apart (met_kept core kept t stands tx.ticket.id instant tx.marks there met)) told refused closes)
+  comes_stands core mid left kept t tx outcome instant all stands at there (Fails some apart error told same_commits (inr (due, same))) closes =
+      let refused = may core (change_of tx) error (takes_memory (items_of tx.own) (ByMode tx.mode) (some_items tx.own some)) due in
+      subst (λ l. Ended core left (record kept { commits = pruned l left.memory.tickets.watermark }) t tx outcome) (sym (same_commits (kept_of_core core kept t stands)))
+      (refused_ended core core left kept t tx outcome instant error stands at there some (λ met. apart (met_kept core kept t stands tx.ticket.id instant tx.marks there met)) told refused
+      (subst (λ m. Does m (OfTickets (Close tx.ticket.id)) Done left) same closes))
+  comes_stands core mid left kept t tx outcome instant all stands at there (Commits some apart told grown_commits made) closes =
+      let (m, is, amid, step, more) = goes core mid (change_of tx) Done (λ rests. rests) made t.state stands.machine at in
+      let e = made_history t.state m (items_of tx.own) (ByMode tx.mode) (some_items tx.own some) step.1.1 in
+      let free = λ (met : MeetsSome instant tx.marks (commits (history_of t))). apart (met_kept core kept t stands tx.ticket.id instant tx.marks there met) in
+      let u : Told = record { state = m; accepted = t.accepted ++ accepted_of instant tx.marks (items_of tx.own) ∷ [] } in
+      let here : StandFor mid (record kept { commits = committed core.memory.next tx.marks (items_of tx.own) kept.commits }) u =
+      committed_stands core mid kept t m tx.ticket.id instant tx.marks (items_of tx.own) (ByMode tx.mode) stands there free e step is in
+      let (s, stay, on, close, then) = finished mid left (record kept { commits = committed core.memory.next tx.marks (items_of tx.own) kept.commits }) u tx.ticket.id here amid closes in (
+        record { state = s; accepted = u.accepted },
+        subst (λ l. StandFor left (record kept { commits = pruned l left.memory.tickets.watermark }) (record { state = s; accepted = u.accepted })) (sym (grown_commits (kept_of_core core kept t stands))) stay,
+        on,
+        IsCommitted instant there some free told m step close refl,
+        IsBoth mid m Done (inl (told, refl)) more closes then,
+      )
+
+  commit_ended : (core left : Held) (kept new : Kept) (t : Told) (tx : Tx) (outcome : CommitOutcome Error) → StandFor core kept t → At core t.state → Ends Does kept core tx outcome new left → Ended core left new t tx outcome
+  commit_ended core left kept new t tx outcome stands at (Gone none told same_kept same) =
+      let tickets = stands.machine.remembered.tickets in (
+        t,
+        subst (λ k. StandFor left k t) (sym same_kept) (subst (λ c. StandFor c kept t) (sym same) stands),
+        subst (λ c. At c t.state) (sym same) at,
+        IsGone (subst (λ (k : Tickets). get k.instants tx.ticket.id ≡ None) (sym tickets) none) told refl,
+        IsStill none told same refl,
+      )
+  commit_ended core left kept new t tx outcome stands at (Lets instant opened all mid comes closes kept_is) =
+      let tickets = stands.machine.remembered.tickets in
+      let there : get t.state.tickets.instants tx.ticket.id ≡ Some instant = subst (λ (k : Tickets). get k.instants tx.ticket.id ≡ Some instant) (sym tickets) opened in
+      subst (λ k. Ended core left k t tx outcome) (sym kept_is) (comes_stands core mid left kept t tx outcome instant all stands at there comes closes)
+
+-- over a disk that returns what it holds
+pub commit_goes_on : (core left : Held) (kept new : Kept) (t : Told) (tx : Tx) (outcome : CommitOutcome Error) → StandFor core kept t → ReadsOn core t.state → Ends Serves kept core tx outcome new left
+    → CommitGoesOn core t tx outcome left new
+commit_goes_on core left kept new t tx outcome stands reads ends =
+    let (after, stay, on, step, through) =
+    commit_ended Serves ReadsOn LeadsOn (λ old new shape reply bare serves. serves.goes_on) either_serves core left kept new t tx outcome stands reads ends in
+    (after, stay, on, step, leads_through core left t.state after.state tx outcome stands.machine reads through)
+
+-- over any disk
+pub commit_stands : (core left : Held) (kept new : Kept) (t : Told) (tx : Tx) (outcome : CommitOutcome Error) → StandFor core kept t → Ends Owes kept core tx outcome new left
+    → (after : Told) × StandFor left new after × CommitStep t tx outcome after
+commit_stands core left kept new t tx outcome stands ends =
+    let (after, stay, on, step, through) =
+    commit_ended Owes (λ core s. Unit {0}) (λ core s shape reply left t. Unit {0})
+    (λ old new shape reply bare owes s standing at. let (t, is, stepped) = owes_step old new shape reply s bare owes standing in (t, is, tt, stepped, tt))
+    either_owes core left kept new t tx outcome stands tt ends in
+    (after, stay, step)

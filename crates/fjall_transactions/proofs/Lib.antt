@@ -1,4 +1,6 @@
 pub mod Items
 pub mod Standing
+pub mod Leading
 pub mod Ending
 pub mod Asking
+mod Writers

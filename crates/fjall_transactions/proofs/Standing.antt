@@ -1,5 +1,5 @@
 -- What a core stands for with its transactions, along its calls.
-use Rattle.std.proofs.Common.{◌≡◌, ◌+◌, ◌≤◌, ◌<◌, ◌↔◌, ℕ, List, [], ◌∷◌, ◌++◌, All, None, Some, map, length, drop, zero, suc, refl, sym, ap, subst, ◌∙◌, arith, nat_le}
+use Rattle.std.proofs.Common.{◌≡◌, ◌+◌, ◌≤◌, ◌<◌, ◌↔◌, ℕ, List, [], ◌∷◌, ◌++◌, All, Option, None, Some, map, length, drop, zero, suc, refl, sym, ap, subst, ◌∙◌, arith, nat_le}
 use Rattle.std.specs.FinMap.{get}
 use Rattle.std.proofs.Math.Seq.{drop-append_seam}
 use Rattle.std.proofs.lemmas.List.{length-map}
@@ -9,6 +9,7 @@ use Rattle.fjall_tx.specs.Marks.{Mark}
 use Rattle.fjall_tx.specs.declared.oracle.Committed.{Committed}
 use Rattle.fjall_tx.specs.Oracles.{Conflicts, pruned}
 use Rattle.fjall_tx.proofs.Commits.{pruned_answers}
+use Rattle.fjall_history.specs.declared.ticket.Ticket.{Ticket}
 use Rattle.fjall_history.specs.declared.reply.Reply.{Reply}
 use Rattle.fjall_history.specs.Histories.{Accepted, History, command_of, commands_of, commits, extended, number, plain}
 use Rattle.fjall_history.specs.Tickets.{Tickets}
@@ -22,8 +23,9 @@ use Rattle.fjall_core.specs.Shapes.{Shape}
 use Rattle.fjall_core.specs.Machine.{State, StepOf, times}
 use Rattle.fjall_core.proofs.Moving.{shape_moves}
 use Rattle.fjall_core.specs.Holding.{Held}
-use Rattle.fjall_core.specs.Standing.{ReadsOn, Serves, ServesWhere, StandsFor}
-use Rattle.fjall_transactions.specs.Standing.{StandFor, Told, gone_on, history_of}
+use Rattle.fjall_core.specs.Standing.{Owes, ReadsOn, RestsOnTables, Serves, ServesWhere, StandsFor}
+use Rattle.fjall_core.proofs.OwedSteps.{owes_step}
+use Rattle.fjall_transactions.specs.Standing.{GoesOn, StandFor, Told, gone_on, history_of}
 use Rattle.fjall_transactions.specs.Transactions.{AreOf, Kept}
 
 -- ---- what a history has more
@@ -69,11 +71,24 @@ shape_stands core new kept t s shape reply stands step is =
     let moves = shape_moves t.state s shape reply step in
     moved_stands core new kept t s stands moves (history_grows (times t.state) (times s) (OneMove (times t.state) (times s) (times s) moves (NoMove (times s)))) is
 
+-- and a crash leaves what it may
+pub served_goes_on : (core new : Held) (kept : Kept) (t : Told) (shape : Shape) (reply : Reply) → StandFor core kept t → ReadsOn core t.state → Serves core shape reply new → GoesOn core t shape reply new kept
+served_goes_on core new kept t shape reply stands reads serves =
+    let (s, is, on, step, led) = serves.goes_on t.state stands.machine reads in
+    (s, shape_stands core new kept t s shape reply stands step is, on, step, led)
+
 pub served_stands : (core new : Held) (kept : Kept) (t : Told) (shape : Shape) (reply : Reply) → StandFor core kept t → ReadsOn core t.state → Serves core shape reply new
     → (s : State) × StandFor new kept (gone_on t s) × ReadsOn new s × StepOf t.state shape reply s
 served_stands core new kept t shape reply stands reads serves =
-    let (s, is, on, step, led) = serves.goes_on t.state stands.machine reads in
-    (s, shape_stands core new kept t s shape reply stands step is, on, step)
+    let (s, stay, on, step, led) = served_goes_on core new kept t shape reply stands reads serves in
+    (s, stay, on, step)
+
+-- over any disk, where nothing rests on what tables hold
+pub owed_stands : (core new : Held) (kept : Kept) (t : Told) (shape : Shape) (reply : Reply) → StandFor core kept t → (RestsOnTables core shape reply → ⊥) → Owes core shape reply new
+    → (s : State) × StandFor new kept (gone_on t s) × StepOf t.state shape reply s
+owed_stands core new kept t shape reply stands bare owes =
+    let (s, is, step) = owes_step core new shape reply t.state bare owes stands.machine in
+    (s, shape_stands core new kept t s shape reply stands step is, step)
 
 -- the same of a call that is served from some states, of which this is one
 pub served_stands_where : (core new : Held) (kept : Kept) (t : Told) (Meets : State → Type 0) (shape : Shape) (reply : Reply) → StandFor core kept t → ReadsOn core t.state → Meets t.state → ServesWhere Meets core shape reply new
@@ -81,6 +96,24 @@ pub served_stands_where : (core new : Held) (kept : Kept) (t : Told) (Meets : St
 served_stands_where core new kept t Meets shape reply stands reads meets serves =
     let (s, is, on, step, led) = serves.goes_on t.state stands.machine reads meets in
     (s, shape_stands core new kept t s shape reply stands step is, on, step)
+
+-- ---- the single writer
+
+-- whoever is kept as the single writer's
+pub any_writer : (core : Held) (kept : Kept) (t : Told) (writer : Option Ticket) → StandFor core kept t → StandFor core (record kept { writer = writer }) t
+any_writer core kept t writer stands = record {
+  machine = stands.machine;
+  same = stands.same;
+  sound = stands.sound;
+  checked = stands.checked;
+  upto = stands.upto;
+  passed = stands.passed;
+  keeps = stands.keeps;
+}
+
+-- so a call goes on, whoever is kept so behind it
+pub writer_goes_on : (core new : Held) (old : Kept) (t : Told) (shape : Shape) (reply : Reply) (writer : Option Ticket) → GoesOn core t shape reply new old → GoesOn core t shape reply new (record old { writer = writer })
+writer_goes_on core new old t shape reply writer (s, stay, on, step, led) = (s, any_writer new old (gone_on t s) writer stay, on, step, led)
 
 -- ---- an opening
 

@@ -1,3 +1,4 @@
 pub mod Transactions
 pub mod Commits
 pub mod Standing
+pub mod Writers

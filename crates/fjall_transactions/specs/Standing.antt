@@ -10,14 +10,17 @@ use Rattle.fjall_tx.specs.Oracles.{pruned}
 use Rattle.fjall_tx.specs.declared.outcome.CommitOutcome.{CommitOutcome}
 use Rattle.fjall_tx.specs.declared.outcome.CommitOutcome.TheVariants as outcomes
 use Rattle.fjall_own.specs.Owns.{items_of}
+use Rattle.fjall_history.specs.declared.reply.Reply.{Reply}
 use Rattle.fjall_history.specs.declared.reply.Reply.TheVariants.{Done, Refused}
 use Rattle.fjall_history.specs.Histories.{Accepted, History, commands_of, commits, plain}
 use Rattle.fjall_history.specs.Moves.{AreSound}
 use Rattle.fjall_serial.specs.Checked.{IsChecked}
-use Rattle.fjall_core.specs.Shapes.{Close, OfTickets}
+use Rattle.fjall_core.specs.Shapes.{Close, OfTickets, Shape}
 use Rattle.fjall_core.specs.Machine.{State, StepOf, times}
 use Rattle.fjall_core.specs.Holding.{Held}
-use Rattle.fjall_core.specs.Standing.{StandsFor}
+use Rattle.fjall_core.specs.Durables.{Durable}
+use Rattle.fjall_core.specs.Crashes.{CallPasses}
+use Rattle.fjall_core.specs.Standing.{LeadsOn, ReadsOn, StandsFor, StandsOn}
 use Rattle.fjall_transactions.specs.Transactions.{Kept, MeetsSome, Tx, with_items}
 use Rattle.fjall_transactions.specs.Commits.{change_of}
 
@@ -46,6 +49,11 @@ pub record StandFor (core : Held) (kept : Kept) (t : Told) : Type 0 where
 abbrev pub gone_on : Told → State → Told
 gone_on t s = record { state = s; accepted = t.accepted ++ map plain (commands_of (drop (length t.state.history.accepted) s.history.accepted)) }
 
+-- Behind a call of the core, both stand for one next state: its disk has that state's tables, the call is a step to it, and a crash leaves
+-- what it may, whatever base and pending the core stood on.
+abbrev pub GoesOn : Held → Told → Shape → Reply → Held → Kept → Type 0
+GoesOn old t shape reply new kept = (s : State) × StandFor new kept (gone_on t s) × ReadsOn new s × StepOf t.state shape reply s × LeadsOn old t.state shape reply new s
+
 -- the command of these items, with the transaction that commits it where that marks
 abbrev pub accepted_of : ℕ → Option Marks → List BatchItem → Accepted
 accepted_of instant marks items = record {
@@ -70,3 +78,20 @@ pub data CommitStep (old : Told) (tx : Tx) (outcome : CommitOutcome Error) (new 
       (apart : MeetsSome instant tx.marks (commits (history_of old)) → ⊥) (told : outcome ≡ outcomes.Ok)
       (mid : State) (made : StepOf old.state (change_of tx) Done mid) (closes : StepOf mid (OfTickets (Close tx.ticket.id)) Done new.state)
       (grown : new.accepted ≡ old.accepted ++ accepted_of instant tx.marks (items_of tx.own) ∷ []) → CommitStep old tx outcome new
+
+-- What a crash during a commit or behind it leaves is what one call of the core would: that which makes its own writes, or is refused
+-- them; where it conflicts, the closing of its ticket.
+abbrev pub CommitPasses : State → Durable → Tx → CommitOutcome Error → Durable → Type 0
+CommitPasses s d tx outcomes.Ok e = CallPasses s d (change_of tx) Done e
+CommitPasses s d tx (outcomes.Aborted error) e = CallPasses s d (change_of tx) (Refused error) e
+CommitPasses s d tx outcomes.Conflicted e = CallPasses s d (OfTickets (Close tx.ticket.id)) Done e
+
+-- so it is whatever base and pending the core stood on
+abbrev pub CommitLeadsOn : Held → State → Tx → CommitOutcome Error → Held → State → Type 0
+CommitLeadsOn old s tx outcome new t = (d : Durable) → StandsOn old s.parts.entries d → (e : Durable) × StandsOn new t.parts.entries e × CommitPasses s d tx outcome e
+
+-- Behind a commit, both stand for one next state: its disk has that state's tables, the commit is a step to it, and a crash leaves what it
+-- may.
+abbrev pub CommitGoesOn : Held → Told → Tx → CommitOutcome Error → Held → Kept → Type 0
+CommitGoesOn old t tx outcome new kept =
+    (after : Told) × StandFor new kept after × ReadsOn new after.state × CommitStep t tx outcome after × CommitLeadsOn old t.state tx outcome new after.state

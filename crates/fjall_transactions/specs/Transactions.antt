@@ -1,5 +1,5 @@
 -- A transaction that is open, and what is kept of those that committed.
-use Rattle.std.specs.Prelude.{ℕ, Bool, List, [], ◌∷◌, ◌++◌, All, ◌<◌, Option, None, Some, if◌then◌else◌}
+use Rattle.std.specs.Prelude.{◌≡◌, ℕ, Bool, List, [], ◌∷◌, ◌++◌, All, ◌<◌, IfSome, Option, None, Some, if◌then◌else◌}
 use Rattle.std.specs.Option.{option_eq, option_map}
 use Rattle.std.specs.Str.{bytes_eq}
 use Rattle.std.specs.FinMap.{empty, insert}
@@ -15,7 +15,7 @@ use Rattle.fjall_journal.specs.declared.persist_mode.PersistMode.TheVariants.{Bu
 use Rattle.fjall_tx.specs.Marks.{Mark, Marks, with_read, with_write}
 use Rattle.fjall_tx.specs.declared.oracle.Committed.{Committed}
 use Rattle.fjall_tx.specs.Oracles.{Conflicts, commit_of}
-use Rattle.fjall_own.specs.Owns.{Own, key_of}
+use Rattle.fjall_own.specs.Owns.{Own, key_of, with_writes}
 use Rattle.fjall_history.specs.declared.ticket.Ticket.{Ticket}
 use Rattle.fjall_core.specs.Holding.{Held}
 
@@ -39,9 +39,17 @@ begun marks ticket = record { ticket = ticket; own = empty; marks = marks; mode 
 abbrev pub with_own : Tx → ℕ → Bytes → Op → Tx
 with_own tx id key op = record tx { own = insert tx.own (key_of id key) op }
 
+-- with these items written one behind another
+abbrev pub with_own_items : Tx → List BatchItem → Tx
+with_own_items tx items = record tx { own = with_writes tx.own items }
+
 -- with one more read mark, where it marks
 abbrev pub having_read : Tx → Mark → Tx
 having_read tx mark = record tx { marks = option_map (λ marks. with_read marks mark) tx.marks }
+
+-- it has marked no key as read
+abbrev pub HasNoReads : Tx → Type 0
+HasNoReads tx = IfSome tx.marks (λ marks. marks.reads ≡ [])
 
 -- with one more key marked as written, where it marks
 abbrev pub having_touched : Tx → ℕ → Bytes → Tx

@@ -10,7 +10,8 @@ pub use fjall_own::OwnWrites;
 pub use fjall_tx::{CommitOutcome, Conflict};
 pub use laws::{
     a_call_of_the_core_stands, a_commit_stands, an_opening_stands, conflicts_are_exact,
-    the_kept_are_the_cores, transactions_are_serial, what_stays_is_not_written,
+    one_single_writer_is_open, the_kept_are_the_cores, transactions_are_serial,
+    what_stays_is_not_written,
 };
 pub use transaction::Transaction;
 pub use transactions::Transactions;

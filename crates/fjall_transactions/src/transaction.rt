@@ -3,13 +3,13 @@
 ghost use Rattle.std.specs.Prelude.{◌≡◌, Err, MatchOption, IsOkUnless, OnErr, OnOk, is_none};
 ghost use Rattle.fjall_base.specs.Limits.{item_refusal};
 ghost use Rattle.fjall_base.specs.declared.error.Error.TheVariants.{OutOfMemory};
-ghost use Rattle.fjall_journal.specs.Ops.{bytes_in};
+ghost use Rattle.fjall_journal.specs.Ops.{bytes_in, items_refusal};
 ghost use Rattle.fjall_journal.specs.declared.op.Op.TheVariants.{Put, Remove, RemoveWeak};
 ghost use Rattle.fjall_tx.specs.Marks.{Mark, OfKey, OfRange, key_bound};
-ghost use Rattle.fjall_transactions.specs.Transactions.{Tx, having_read, having_touched, op_of, replace_refusal, replacing, with_own};
+ghost use Rattle.fjall_transactions.specs.Transactions.{HasNoReads, Tx, having_read, having_touched, op_of, replace_refusal, replacing, with_own, with_own_items};
 
 use fjall_base::{KeyBounds, Result, UserKey, UserValue};
-use fjall_core::{Op, PersistMode, Ticket};
+use fjall_core::{BatchItem, Op, PersistMode, Ticket};
 use fjall_own::OwnWrites;
 use fjall_tx::ConflictManager;
 use std::marker::Model;
@@ -108,6 +108,19 @@ impl Transaction {
         self.write(id, key, Op::RemoveWeak)
     }
 
+    /// Writes these items, one behind another, all of them or none: where one key has several the last one counts. That there are
+    /// such keyspaces is looked at by the commit.
+    ///
+    /// Refusals, after which all is as before, each looked for in all items before the next: `KeyEmpty`, `KeyTooLong` above 65,535
+    /// bytes, `ValueTooLong` above 4,294,967,295; `TooManyItems`, above 4,294,967,295; `OutOfMemory`.
+    pub fn write_all(&mut self, items: Vec<BatchItem>) -> Result<()>
+        ensures ok { OnOk result (self.new ≡ with_own_items self.old items.items) }
+        ensures unchanged { OnErr result (self.new ≡ self.old) }
+        ensures refused { MatchOption (items_refusal items.items) (IsOkUnless result OutOfMemory) (λ e. result ≡ Err e) }
+    {
+        self.own.write_all(items)
+    }
+
     /// Writes what a key of a keyspace becomes, a value or none, where it has had this one, as the transaction saw it. Where the
     /// two are the same nothing is written, and the key is marked as written all the same.
     ///
@@ -173,9 +186,9 @@ impl Transaction {
         }
     }
 
-    /// Takes back the read mark that was made last.
+    /// Takes back the read mark that was made last. Without any all stays as it was.
     pub fn take_back_read(&mut self)
-        ensures { (tx : Tx) (mark : Mark) → self.old ≡ having_read tx mark → self.new ≡ tx }
+        ensures taken { (tx : Tx) (mark : Mark) → self.old ≡ having_read tx mark → self.new ≡ tx }
     {
         if let Some(marks) = &mut self.marks {
             marks.take_back_read();

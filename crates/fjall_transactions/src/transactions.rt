@@ -9,7 +9,8 @@ ghost use Rattle.fjall_core.specs.Shapes.{ByMode, Close, OfChange, OfTickets, Op
 ghost use Rattle.fjall_core.specs.Standing.{Owes, ReadsOn, Serves, held_due, reply_of};
 ghost use Rattle.fjall_tx.specs.Oracles.{pruned};
 ghost use Rattle.fjall_transactions.specs.Transactions.{AreOf, MeetsSome, begun, committed, no_marks, with_items};
-ghost use Rattle.fjall_transactions.specs.Standing.{CommitStep, StandFor, Told};
+ghost use Rattle.fjall_core.specs.Machine.{State, StepOf};
+ghost use Rattle.fjall_transactions.specs.Standing.{CommitGoesOn, CommitStep, GoesOn, StandFor, Told, gone_on};
 ghost use Rattle.fjall_transactions.specs.Commits.{AsksFor, Comes, Ends, begun_reply, is_writing};
 
 use crate::transaction::Transaction;
@@ -97,6 +98,11 @@ impl Transactions {
         ensures serves { IsTrue D.honest → Serves core.old (OfTickets Open) (begun_reply result) core.new }
         ensures owes { Owes core.old (OfTickets Open) (begun_reply result) core.new }
         ensures begun { IfOk result (λ tx. tx ≡ begun (Some no_marks) tx.ticket) }
+        // So it is a step from whichever state the core stood for.
+        ensures stands { (t : Told) → StandFor core.old self.now t
+            → (s : State) × StandFor core.new self.now (gone_on t s) × StepOf t.state (OfTickets Open) (begun_reply result) s }
+        ensures steps { IsTrue D.honest → (t : Told) → StandFor core.old self.now t → ReadsOn core.old t.state
+            → GoesOn core.old t (OfTickets Open) (begun_reply result) core.new self.now }
     {
         self.begin(core, Some(ConflictManager::new(self.alloc)))
     }
@@ -121,6 +127,11 @@ impl Transactions {
         ensures owes { is_writing core.old self.old.writer ≡ false → Owes core.old (OfTickets Open) (begun_reply result) core.new }
         ensures begun { IfOk result (λ tx. (tx ≡ begun None tx.ticket) × (self.new ≡ record self.old { writer = Some tx.ticket })) }
         ensures unchanged { OnErr result (self.new ≡ self.old) }
+        // So it is a step from whichever state the core stood for.
+        ensures stands { is_writing core.old self.old.writer ≡ false → (t : Told) → StandFor core.old self.old t
+            → (s : State) × StandFor core.new self.new (gone_on t s) × StepOf t.state (OfTickets Open) (begun_reply result) s }
+        ensures steps { is_writing core.old self.old.writer ≡ false → IsTrue D.honest → (t : Told) → StandFor core.old self.old t → ReadsOn core.old t.state
+            → GoesOn core.old t (OfTickets Open) (begun_reply result) core.new self.new }
     {
         if self.is_writing(core) {
             return Err(Error::TransactionOpen);
@@ -251,8 +262,10 @@ impl Transactions {
         ensures owes { Ends Owes self.old core.old transaction result self.new core.new }
         // So it is a step from whichever state the core stood for, in which it conflicts exactly where it meets one of all that ever
         // committed.
+        ensures stands { (t : Told) → StandFor core.old self.old t
+            → (after : Told) × StandFor core.new self.new after × CommitStep t transaction result after }
         ensures steps { IsTrue D.honest → (t : Told) → StandFor core.old self.old t → ReadsOn core.old t.state
-            → (after : Told) × StandFor core.new self.new after × ReadsOn core.new after.state × CommitStep t transaction result after }
+            → CommitGoesOn core.old t transaction result core.new self.new }
     {
         let ticket = transaction.ticket;
         let Some(instant) = core.instant_of(ticket) else {
@@ -273,6 +286,11 @@ impl Transactions {
         ensures owes { Owes core.old (OfTickets (Close transaction.ticket.id)) (reply_of result) core.new }
         ensures ok { OnOk result (self.new ≡ record self.old { commits = pruned self.old.commits core.new.memory.tickets.watermark }) }
         ensures err { OnErr result (self.new ≡ self.old) }
+        // So it is a step from whichever state the core stood for.
+        ensures stands { (t : Told) → StandFor core.old self.old t
+            → (s : State) × StandFor core.new self.new (gone_on t s) × StepOf t.state (OfTickets (Close transaction.ticket.id)) (reply_of result) s }
+        ensures steps { IsTrue D.honest → (t : Told) → StandFor core.old self.old t → ReadsOn core.old t.state
+            → GoesOn core.old t (OfTickets (Close transaction.ticket.id)) (reply_of result) core.new self.new }
     {
         self.close(core, transaction.ticket)
     }

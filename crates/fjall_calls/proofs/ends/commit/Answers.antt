@@ -39,7 +39,8 @@ returns-clause-serves g c before =
     (ends_writer Owes a.transactions.now c.commit.new.self a.core.now c.commit.new.core tx c.commit.result e.owes)
     (in_list c.take_named.new.listed (items_of tx.own) few) (in_list_has c.take_named.new.listed (items_of tx.own) few) c.commit.result
     (λ h. ends_chain Serves either_serves a.transactions.now c.commit.new.self a.core.now c.commit.new.core tx c.commit.result opened (e.serves h))
-    (ends_chain Owes either_owes a.transactions.now c.commit.new.self a.core.now c.commit.new.core tx c.commit.result opened e.owes) e.steps)
+    (ends_chain Owes either_owes a.transactions.now c.commit.new.self a.core.now c.commit.new.core tx c.commit.result opened e.owes)
+    (λ h t stands reads. let (new, stay, on, step, led) = e.steps h t stands reads in (new, stay, on, step)))
 
 pub returns-clause-keeps : goal.returns-clause-keeps
 returns-clause-keeps g c jobs before keeps =

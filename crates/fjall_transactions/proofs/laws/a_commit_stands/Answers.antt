@@ -1,5 +1,8 @@
-use Rattle.fjall_transactions.proofs.Ending.{commit_stands}
+use Rattle.fjall_transactions.proofs.Ending.{commit_goes_on, commit_stands}
 use Rattle.fjall_transactions.proofs.laws.a_commit_stands.Goals as goal
 
-pub returns : goal.returns
-returns c = commit_stands
+pub returns-clause-serves : goal.returns-clause-serves
+returns-clause-serves c = commit_goes_on
+
+pub returns-clause-owes : goal.returns-clause-owes
+returns-clause-owes c = commit_stands

@@ -7,7 +7,7 @@ use Rattle.fjall_base.specs.declared.error.Error.TheVariants.{SnapshotClosed}
 use Rattle.fjall_tx.specs.declared.outcome.CommitOutcome.TheVariants as outcomes
 use Rattle.fjall_transactions.specs.Commits.{Gone}
 use Rattle.fjall_transactions.proofs.Asking.{ends_of}
-use Rattle.fjall_transactions.proofs.Ending.{commit_stands}
+use Rattle.fjall_transactions.proofs.Ending.{commit_goes_on, commit_stands}
 use Rattle.fjall_transactions.proofs.transactions.Transactions.commit.Goals as goal
 
 pub returns-clause-serves : goal.returns-clause-serves
@@ -26,12 +26,21 @@ returns-clause-owes g c =
     (subst (λ (x : Tx). Owes c.end-outcome.new.core (OfTickets (Close x.ticket.id)) (reply_of c.close.result) c.close.new.core) c.transaction.view_is c.close.ensures.owes)
     c.close.ensures.ok
 
+pub returns-clause-stands : goal.returns-clause-stands
+returns-clause-stands g c = λ t stands.
+    commit_stands c.args.core.now c.close.new.core c.args.self.now c.close.new.self t c.args.transaction c.end-outcome.result stands (returns-clause-owes g c)
+
 pub returns-clause-steps : goal.returns-clause-steps
 returns-clause-steps g c = λ h t stands reads.
-    commit_stands c.args.core.now c.close.new.core c.args.self.now c.close.new.self t c.args.transaction c.end-outcome.result stands reads
+    commit_goes_on c.args.core.now c.close.new.core c.args.self.now c.close.new.self t c.args.transaction c.end-outcome.result stands reads
     (returns-clause-serves g c h)
+
+pub returns-in_default-clause-stands : goal.returns-in_default-clause-stands
+returns-in_default-clause-stands g c = λ t stands.
+    commit_stands c.args.core.now c.args.core.now c.args.self.now c.args.self.now t c.args.transaction (outcomes.Aborted SnapshotClosed) stands
+    (Gone (subst (λ (x : Tx). get c.args.core.now.memory.tickets.instants x.ticket.id ≡ None) c.transaction.view_is (sym c.instant_of.ensures.held ∙ c.in_default.is)) refl refl refl)
 
 pub returns-in_default-clause-steps : goal.returns-in_default-clause-steps
 returns-in_default-clause-steps g c = λ h t stands reads.
-    commit_stands c.args.core.now c.args.core.now c.args.self.now c.args.self.now t c.args.transaction (outcomes.Aborted SnapshotClosed) stands reads
+    commit_goes_on c.args.core.now c.args.core.now c.args.self.now c.args.self.now t c.args.transaction (outcomes.Aborted SnapshotClosed) stands reads
     (Gone (subst (λ (x : Tx). get c.args.core.now.memory.tickets.instants x.ticket.id ≡ None) c.transaction.view_is (sym c.instant_of.ensures.held ∙ c.in_default.is)) refl refl refl)
