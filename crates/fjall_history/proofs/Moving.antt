@@ -43,7 +43,7 @@ was_open old new (Closes k there same) id instant lt is =
 was_open old new (Collects same) id instant lt is = ap (λ (t : Times). get t.tickets.instants id) (sym same) ∙ is
 
 -- ids are given out upwards
-given_up : (old new : Times) → Moves old new → old.tickets.next ≤ new.tickets.next
+pub given_up : (old new : Times) → Moves old new → old.tickets.next ≤ new.tickets.next
 given_up old new (Rests same) = let n = ap (λ (t : Times). t.tickets.next) same in omega (arith, n)
 given_up old new (Accepts one same) = let n = ap (λ (t : Times). t.tickets.next) same in omega (arith, n)
 given_up old new (Opens at may same) = let n = ap (λ (t : Times). t.tickets.next) same in omega (arith, n)

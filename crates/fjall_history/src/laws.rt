@@ -2,7 +2,7 @@
 
 ghost use Rattle.std.specs.Prelude.{◌≡◌, ◌-◌, ◌<◌, ◌≤◌, ◌++◌, ℕ, List, None, Some};
 ghost use Rattle.std.specs.FinMap.{get, values};
-ghost use Rattle.fjall_base.specs.Store.{apply, fold};
+ghost use Rattle.fjall_base.specs.Store.{Command, Store, apply, fold};
 ghost use Rattle.fjall_history.specs.Histories.{Accepted, History, commands_of, extended, grown, latest, number, view};
 ghost use Rattle.fjall_history.specs.Moves.{AreSound, HasGrown, IsSpared, MayOpen, Moves, MovesOn, Times};
 ghost use Rattle.fjall_history.specs.Tickets.{collected, least, no_tickets};
@@ -53,9 +53,10 @@ pub fn the_latest_is_a_view()
     ensures { (h : History) (instant : ℕ) → number h ≤ instant → view h instant ≡ latest h }
 {}
 
-/// One more command is applied to the latest store, and so are many.
+/// One more command is applied to the latest store, and so are many: commands behind others are applied to what those make.
 pub fn one_more_is_applied()
     ensures one { (h : History) (a : Accepted) → latest (grown h a) ≡ apply (latest h) a.command }
     ensures many { (h : History) (more : List Accepted) → latest (extended h more) ≡ fold (latest h) (commands_of more) }
     ensures commands { (xs ys : List Accepted) → commands_of (xs ++ ys) ≡ commands_of xs ++ commands_of ys }
+    ensures behind { (s : Store) (first more : List Command) → fold s (first ++ more) ≡ fold (fold s first) more }
 {}

@@ -1,18 +1,18 @@
 -- Of the single writer's transactions the one that is open is the one that is kept.
-use Rattle.std.proofs.Common.{◌≡◌, ◌≤◌, ◌<◌, ◌+◌, ◌==◌, Bool, cond, ℕ, true, false, List, ◌∷◌, Option, None, Some, unwrap_or, refl, sym, ap, subst, ◌∙◌, arith}
+use Rattle.std.proofs.Common.{◌≡◌, ◌<◌, ◌+◌, ℕ, true, false, List, ◌∷◌, Option, None, Some, unwrap_or, refl, sym, ap, subst, ◌∙◌, arith}
 use Rattle.std.specs.Prelude.{Contains, is_some}
-use Rattle.std.specs.FinMap.{get, remove}
+use Rattle.std.specs.FinMap.{get}
 use Rattle.std.proofs.lemmas.Bool.{true≢false}
 use Rattle.std.proofs.lemmas.List.Elements.{All-cons, All-weaker}
 use Rattle.fjall_base.specs.declared.error.Error.{Error}
 use Rattle.fjall_tx.specs.declared.outcome.CommitOutcome.{CommitOutcome}
 use Rattle.fjall_history.specs.Histories.{number}
-use Rattle.fjall_history.specs.Moves.{Accepts, Closes, Collects, Moves, NoMove, OneMove, Opens, Rests, Times}
-use Rattle.fjall_history.specs.Tickets.{Tickets, collected, is_open, opened}
+use Rattle.fjall_history.specs.Moves.{Moves, NoMove, OneMove, Times}
+use Rattle.fjall_history.specs.Tickets.{Tickets, is_open, opened}
 use Rattle.fjall_history.specs.declared.reply.Reply.{Reply}
 use Rattle.fjall_history.specs.declared.reply.Reply.TheVariants.{Done, Opened, Refused}
 use Rattle.fjall_history.specs.declared.ticket.Ticket.{Ticket}
-use Rattle.fjall_history.proofs.Moving.{was_open_before}
+use Rattle.fjall_history.proofs.Moving.{given_up, was_open_before}
 use Rattle.fjall_core.specs.Holding.{Held}
 use Rattle.fjall_core.specs.Shapes.{Close, OfTickets, Open, Shape}
 use Rattle.fjall_core.specs.Machine.{State, StepOf, times}
@@ -23,17 +23,6 @@ use Rattle.fjall_transactions.specs.Transactions.{Kept, Tx}
 use Rattle.fjall_transactions.specs.Writers.{AreWriters, IsWriter}
 
 -- ---- along calls
-
-counted_next : (visible : ℕ) (t : Tickets) (b : Bool) → (cond b (collected visible (record t { closings = 0 })) (record t { closings = t.closings + 1 })).next ≡ t.next
-counted_next visible t true = refl
-counted_next visible t false = refl
-
-given_up : (old new : Times) → Moves old new → old.tickets.next ≤ new.tickets.next
-given_up old new (Rests same) = let n = ap (λ (t : Times). t.tickets.next) same in omega (arith, n)
-given_up old new (Accepts one same) = let n = ap (λ (t : Times). t.tickets.next) same in omega (arith, n)
-given_up old new (Opens at may same) = let n = ap (λ (t : Times). t.tickets.next) same in omega (arith, n)
-given_up old new (Closes k there same) = let n = ap (λ (t : Times). t.tickets.next) same in let m = counted_next (number old.history) (record old.tickets { instants = remove old.tickets.instants k }) (old.tickets.closings + 1 == 10000) in omega (arith, n, m)
-given_up old new (Collects same) = let n = ap (λ (t : Times). t.tickets.next) same in omega (arith, n)
 
 open_before : (old new : Times) → Moves old new → (id : ℕ) → id < old.tickets.next → is_open new.tickets id ≡ true → is_open old.tickets id ≡ true
 open_before old new moves id lt is = by (get new.tickets.instants id) refl is

@@ -189,6 +189,7 @@ impl Transaction {
     /// Takes back the read mark that was made last. Without any all stays as it was.
     pub fn take_back_read(&mut self)
         ensures taken { (tx : Tx) (mark : Mark) → self.old ≡ having_read tx mark → self.new ≡ tx }
+        ensures none { HasNoReads self.old → self.new ≡ self.old }
     {
         if let Some(marks) = &mut self.marks {
             marks.take_back_read();
