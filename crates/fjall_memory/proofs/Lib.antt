@@ -4,3 +4,4 @@ mod Cuts
 mod Crashed
 mod Housed
 mod Listed
+mod Sent

@@ -1,4 +1,5 @@
 pub mod Memory
 pub mod History
 pub mod Files
+pub mod Failing
 pub mod MemoryDisk

@@ -52,6 +52,12 @@ Fits (of_file.TheVariants.Append bytes) = IsFile
 Fits of_file.TheVariants.Sync = IsFile
 Fits (of_file.TheVariants.Cut len) = IsLong len
 
+-- the change takes no memory
+abbrev pub TakesNone : FileChange → Type 0
+TakesNone (of_file.TheVariants.Append bytes) = ⊥
+TakesNone of_file.TheVariants.Sync = Unit {0}
+TakesNone (of_file.TheVariants.Cut len) = Unit {0}
+
 -- the entry is of that kind
 abbrev pub IsKind : Kind → Entry → Type 0
 IsKind kind.TheVariants.Missing entry = entry ≡ Missing

@@ -1,6 +1,6 @@
 //! Named entries, and the history of their changes.
 
-ghost use Rattle.std.specs.Prelude.{◌≡◌, ◌≢◌, ◌↔◌, [], ◌∷◌, IfOk, IfErr, IsOkUnless, OnOk, OnErr, IsTrue};
+ghost use Rattle.std.specs.Prelude.{◌≡◌, ◌≢◌, ◌↔◌, [], ◌∷◌, IfOk, IfErr, IsOk, IsOkUnless, OnOk, OnErr, IsTrue};
 ghost use Rattle.fjall_base.specs.Disk.{Took, Append, Sync, Loosen, Cut, Put, SyncFolder, HasFolder, IsThere, standing, put, Reads, IsFile, IsLong, IsNoFile, IsNoFolder, CanCreate, CanMakeFolder, CanRemoveFolder};
 ghost use Rattle.fjall_memory.specs.Memory.{entry_of, IsKind, IsRefusedUnless, state_of};
 ghost use Rattle.fjall_base.specs.Crash.{IsHoused};
@@ -137,12 +137,13 @@ impl Files {
         Ok(())
     }
 
-    /// Syncs a file.
+    /// Syncs a file. It takes no memory.
     pub fn sync(&mut self, name: &str) -> Result<()>
         ensures ok { OnOk result (Took (meaning_of self.old 0) (meaning_of self.new 0) (Sync name.now ∷ [])) }
         ensures file { OnOk result (IsFile (state_of self.old.names.items name.now).now) }
         ensures err { OnErr result (Took (meaning_of self.old 0) (meaning_of self.new 0) []) }
         ensures cause { IfErr result (IsRefusedUnless (IsFile (state_of self.old.names.items name.now).now)) }
+        ensures room { IsFile (state_of self.old.names.items name.now).now → IsOk result }
     {
         if !alter_at(&mut self.names, name, FileChange::Sync)? {
             return Err(Error::Io(ErrorKind::NotFound));
@@ -151,12 +152,13 @@ impl Files {
         Ok(())
     }
 
-    /// Cuts a file to a length and syncs it.
+    /// Cuts a file to a length and syncs it. It takes no memory.
     pub fn cut(&mut self, name: &str, len: usize) -> Result<()>
         ensures ok { OnOk result (Took (meaning_of self.old 0) (meaning_of self.new 0) (Loosen name.now len ∷ Cut name.now len ∷ [])) }
         ensures long { OnOk result (IsLong len (state_of self.old.names.items name.now).now) }
         ensures err { OnErr result (Took (meaning_of self.old 0) (meaning_of self.new 0) []) }
         ensures cause { IfErr result (IsRefusedUnless (IsLong len (state_of self.old.names.items name.now).now)) }
+        ensures room { IsLong len (state_of self.old.names.items name.now).now → IsOk result }
     {
         if !alter_at(&mut self.names, name, FileChange::Cut(len))? {
             return Err(Error::Io(ErrorKind::NotFound));
@@ -178,11 +180,12 @@ impl Files {
         Ok(())
     }
 
-    /// Syncs the names in a folder.
+    /// Syncs the names in a folder. It takes no memory.
     pub fn sync_folder(&mut self, folder: &str) -> Result<()>
         ensures ok { OnOk result (Took (meaning_of self.old 0) (meaning_of self.new 0) (SyncFolder folder.now ∷ [])) }
         ensures err { OnErr result (Took (meaning_of self.old 0) (meaning_of self.new 0) []) }
         ensures cause { IsOkUnless result Error.OutOfMemory }
+        ensures room { IsOk result }
     {
         settle_names(&mut self.names, folder);
         self.history = self.history.then(&Change::SyncFolder(folder));

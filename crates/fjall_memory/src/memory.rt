@@ -1,69 +1,18 @@
 //! A disk in memory, for tests of crashes and of faults.
 
-ghost use Rattle.std.specs.Prelude.{◌≡◌, ◌≤◌, ◌-◌, ◌↔◌, [], true, map, IfOk, IsOkUnless, IsTrue};
+ghost use Rattle.std.specs.Prelude.{◌≡◌, ◌≢◌, [], ◌∷◌, true, map, IfOk, IsOk, IsOkUnless, OnErr, OnOk};
 ghost use Rattle.fjall_base.specs.Disk.{IsImage, disk_of, state_in};
-ghost use Rattle.fjall_base.specs.Errors.{Rose};
+ghost use Rattle.fjall_base.specs.Disk.{Append, Cut, File, Folder, HasCause, Judged, Loosen, OnlyFaults, Sync, SyncFolder, Took, TookCut, TookOrNot, TookPart, making, removing};
+ghost use Rattle.fjall_base.specs.Disk.{CanCreate, CanMakeFolder, CanRemoveFolder, HasFolder, IsEmpty, IsFile, IsLong, IsNoFile, IsNoFolder, IsThere, Lists, Reads, ReadsAt, standing};
 ghost use Rattle.fjall_base.specs.Crash.{crashed};
 ghost use Rattle.fjall_memory.specs.Memory.{named_place};
 
+use crate::failing::Failing;
 use crate::files::Files;
 use crate::history::History;
 use crate::node::{Kind, Node, crash_names, holds_any, list_names};
 use fjall_base::{DirEntry, Disk, Error, Result};
 use std::alloc::Global;
-use std::io::ErrorKind;
-
-/// Counts the faults that came, and the device calls down to the one that is to fail.
-///
-/// `call` is how many device calls are left up to and with that one, reads too: at 1 the next one
-/// fails, at 0 none does. The count of faults stays at the greatest `u64` once it is there.
-#[derive(Drop)]
-struct Failing {
-    count: u64,
-    // how many of them were calls that no disk can serve
-    misuses: u64,
-    call: u64,
-    // how many bytes of an append that is to fail go out first
-    part: usize,
-}
-
-impl Failing {
-    // Counts a fault.
-    fn fault(&mut self) -> Error
-        ensures io { result ≡ Error.Io ErrorKind.Other }
-        ensures rose { Rose self.old.count self.new.count }
-        ensures later { self.old.count ≤ self.new.count }
-        ensures misuses { self.new.misuses ≡ self.old.misuses }
-    {
-        self.count = self.count.saturating_add(1);
-        Error::Io(ErrorKind::Other)
-    }
-
-    // Counts a call that no disk can serve, which is a fault too.
-    fn misuse(&mut self) -> Error
-        ensures io { result ≡ Error.Io ErrorKind.Other }
-        ensures rose { Rose self.old.count self.new.count }
-        ensures later { self.old.count ≤ self.new.count }
-        ensures misuses { Rose self.old.misuses self.new.misuses }
-    {
-        self.misuses = self.misuses.saturating_add(1);
-        self.fault()
-    }
-
-    // Counts a device call, and says whether it is the one that is to fail.
-    fn strikes(&mut self) -> bool
-        ensures strikes { IsTrue result ↔ (self.old.call ≡ 1) }
-        ensures call { self.new.call ≡ self.old.call - 1 }
-        ensures count { self.new.count ≡ self.old.count }
-        ensures misuses { self.new.misuses ≡ self.old.misuses }
-    {
-        if self.call == 0 {
-            return false;
-        }
-        self.call -= 1;
-        self.call == 0
-    }
-}
 
 /// A disk that is a list of names in memory. It is honest: contracts know all that it holds, and which
 /// steps it took.
@@ -145,6 +94,9 @@ impl MemoryDisk {
 }
 
 impl Disk for MemoryDisk {
+    ghost use Rattle.fjall_memory.specs.Failing.{ChangesAsTold, ReadsAsTold, SendsAsTold};
+    ghost use Rattle.fjall_memory.specs.MemoryDisk.{meaning_in};
+
     ghost honest = { true };
 
     ghost meaning = { λ disk. record {
@@ -158,7 +110,13 @@ impl Disk for MemoryDisk {
         self.failing.count
     }
 
-    fn read(&mut self, alloc: Global, name: &str) -> Result<Option<Vec<u8>>> {
+    fn read(&mut self, alloc: Global, name: &str) -> Result<Option<Vec<u8>>>
+        ensures found { IfOk result (Reads (state_in (meaning_in self.old) name.now).now) }
+        ensures same { Took (meaning_in self.old) (meaning_in self.new) [] }
+        ensures judged { (meaning_in self.new).misuses ≡ (meaning_in self.old).misuses }
+        ensures cause { HasCause (meaning_in self.old) (meaning_in self.new) result }
+        ensures told { ReadsAsTold self.old.failing self.new.failing result }
+    {
         if self.failing.strikes() {
             return Err(self.failing.fault());
         }
@@ -171,7 +129,13 @@ impl Disk for MemoryDisk {
         name: &str,
         at: usize,
         len: usize,
-    ) -> Result<Option<Vec<u8>>> {
+    ) -> Result<Option<Vec<u8>>>
+        ensures found { IfOk result (ReadsAt at len (state_in (meaning_in self.old) name.now).now) }
+        ensures same { Took (meaning_in self.old) (meaning_in self.new) [] }
+        ensures judged { (meaning_in self.new).misuses ≡ (meaning_in self.old).misuses }
+        ensures cause { HasCause (meaning_in self.old) (meaning_in self.new) result }
+        ensures told { ReadsAsTold self.old.failing self.new.failing result }
+    {
         if self.failing.strikes() {
             return Err(self.failing.fault());
         }
@@ -184,14 +148,29 @@ impl Disk for MemoryDisk {
         Ok(Some(Vec::from_slice(alloc, &bytes.as_slice()[at..at + len])?))
     }
 
-    fn list(&mut self, alloc: Global, folder: &str) -> Result<Vec<DirEntry>> {
+    fn list(&mut self, alloc: Global, folder: &str) -> Result<Vec<DirEntry>>
+        ensures found { IfOk result (λ listed. Lists (state_in (meaning_in self.old)) folder.now listed.items) }
+        ensures same { Took (meaning_in self.old) (meaning_in self.new) [] }
+        ensures judged { (meaning_in self.new).misuses ≡ (meaning_in self.old).misuses }
+        ensures cause { HasCause (meaning_in self.old) (meaning_in self.new) result }
+        ensures told { ReadsAsTold self.old.failing self.new.failing result }
+    {
         if self.failing.strikes() {
             return Err(self.failing.fault());
         }
         Ok(list_names(alloc, self.files.names.as_slice(), folder)?)
     }
 
-    fn create(&mut self, name: &str) -> Result<()> {
+    fn create(&mut self, name: &str) -> Result<()>
+        ensures ok { OnOk result (Took (meaning_in self.old) (meaning_in self.new) (making name.now (File [] []) (state_in (meaning_in self.old) name.now).now)) }
+        ensures file { OnOk result (IsFile (state_in (meaning_in self.new) name.now).now) }
+        ensures named { OnOk result (name.now ≢ []) }
+        ensures housed { OnOk result (HasFolder (state_in (meaning_in self.old)) name.now) }
+        ensures err { OnErr result (Took (meaning_in self.old) (meaning_in self.new) []) }
+        ensures judged { Judged (CanCreate (state_in (meaning_in self.old)) name.now) (meaning_in self.old) (meaning_in self.new) }
+        ensures cause { OnlyFaults (meaning_in self.old) (meaning_in self.new) result }
+        ensures told { ChangesAsTold (CanCreate (state_in (meaning_in self.old)) name.now) self.old.failing self.new.failing result }
+    {
         let strikes = self.failing.strikes();
         if !self.files.can_create(name) {
             return Err(self.failing.misuse());
@@ -205,30 +184,48 @@ impl Disk for MemoryDisk {
             Kind::Missing => {
                 let alloc = self.files.alloc;
                 if self.files.put(name, Node::file(alloc)).is_err() {
-                    return Err(self.failing.fault());
+                    return Err(self.failing.out_of_memory());
                 }
                 Ok(())
             }
         }
     }
 
-    fn append(&mut self, name: &str, bytes: &[u8]) -> Result<()> {
+    fn append(&mut self, name: &str, bytes: &[u8]) -> Result<()>
+        ensures ok { OnOk result (Took (meaning_in self.old) (meaning_in self.new) (Append name.now bytes.now ∷ [])) }
+        ensures file { OnOk result (IsFile (state_in (meaning_in self.old) name.now).now) }
+        ensures err { OnErr result (TookPart (meaning_in self.old) (meaning_in self.new) name.now bytes.now) }
+        ensures judged { Judged (IsFile (state_in (meaning_in self.old) name.now).now) (meaning_in self.old) (meaning_in self.new) }
+        ensures cause { OnlyFaults (meaning_in self.old) (meaning_in self.new) result }
+        ensures told { ChangesAsTold (IsFile (state_in (meaning_in self.old) name.now).now) self.old.failing self.new.failing result }
+        ensures sent { SendsAsTold (IsFile (state_in (meaning_in self.old) name.now).now) self.old.failing (meaning_in self.old) (meaning_in self.new) name.now bytes.now result }
+    {
         let strikes = self.failing.strikes();
         if !self.files.is_file(name) {
             return Err(self.failing.misuse());
         }
         if strikes {
             let part = self.failing.part.min(bytes.len());
-            let _ = self.files.append(name, &bytes[..part]);
+            if self.files.append(name, &bytes[..part]).is_err() {
+                return Err(self.failing.out_of_memory());
+            }
             return Err(self.failing.fault());
         }
         if self.files.append(name, bytes).is_err() {
-            return Err(self.failing.fault());
+            return Err(self.failing.out_of_memory());
         }
         Ok(())
     }
 
-    fn sync(&mut self, name: &str) -> Result<()> {
+    fn sync(&mut self, name: &str) -> Result<()>
+        ensures ok { OnOk result (Took (meaning_in self.old) (meaning_in self.new) (Sync name.now ∷ [])) }
+        ensures file { OnOk result (IsFile (state_in (meaning_in self.old) name.now).now) }
+        ensures err { OnErr result (TookOrNot (meaning_in self.old) (meaning_in self.new) (Sync name.now ∷ [])) }
+        ensures judged { Judged (IsFile (state_in (meaning_in self.old) name.now).now) (meaning_in self.old) (meaning_in self.new) }
+        ensures cause { OnlyFaults (meaning_in self.old) (meaning_in self.new) result }
+        ensures told { ChangesAsTold (IsFile (state_in (meaning_in self.old) name.now).now) self.old.failing self.new.failing result }
+        ensures served { self.old.failing.call ≢ 1 → IsFile (state_in (meaning_in self.old) name.now).now → IsOk result }
+    {
         let strikes = self.failing.strikes();
         if !self.files.is_file(name) {
             return Err(self.failing.misuse());
@@ -239,7 +236,15 @@ impl Disk for MemoryDisk {
         Ok(())
     }
 
-    fn cut_sync(&mut self, name: &str, len: usize) -> Result<()> {
+    fn cut_sync(&mut self, name: &str, len: usize) -> Result<()>
+        ensures ok { OnOk result (Took (meaning_in self.old) (meaning_in self.new) (Loosen name.now len ∷ Cut name.now len ∷ [])) }
+        ensures long { OnOk result (IsLong len (state_in (meaning_in self.old) name.now).now) }
+        ensures err { OnErr result (TookCut (meaning_in self.old) (meaning_in self.new) name.now len) }
+        ensures judged { Judged (IsLong len (state_in (meaning_in self.old) name.now).now) (meaning_in self.old) (meaning_in self.new) }
+        ensures cause { OnlyFaults (meaning_in self.old) (meaning_in self.new) result }
+        ensures told { ChangesAsTold (IsLong len (state_in (meaning_in self.old) name.now).now) self.old.failing self.new.failing result }
+        ensures served { self.old.failing.call ≢ 1 → IsLong len (state_in (meaning_in self.old) name.now).now → IsOk result }
+    {
         let strikes = self.failing.strikes();
         if !self.files.is_long(name, len) {
             return Err(self.failing.misuse());
@@ -250,7 +255,14 @@ impl Disk for MemoryDisk {
         Ok(())
     }
 
-    fn remove(&mut self, name: &str) -> Result<()> {
+    fn remove(&mut self, name: &str) -> Result<()>
+        ensures ok { OnOk result (Took (meaning_in self.old) (meaning_in self.new) (removing name.now (state_in (meaning_in self.old) name.now).now)) }
+        ensures kind { OnOk result (IsNoFolder (state_in (meaning_in self.old) name.now).now) }
+        ensures err { OnErr result (Took (meaning_in self.old) (meaning_in self.new) []) }
+        ensures judged { Judged (IsNoFolder (state_in (meaning_in self.old) name.now).now) (meaning_in self.old) (meaning_in self.new) }
+        ensures cause { OnlyFaults (meaning_in self.old) (meaning_in self.new) result }
+        ensures told { ChangesAsTold (IsNoFolder (state_in (meaning_in self.old) name.now).now) self.old.failing self.new.failing result }
+    {
         let strikes = self.failing.strikes();
         if !self.files.is_no_folder(name) {
             return Err(self.failing.misuse());
@@ -263,14 +275,22 @@ impl Disk for MemoryDisk {
             Kind::Folder => Err(self.failing.fault()),
             Kind::File => {
                 if self.files.put(name, Node::Missing).is_err() {
-                    return Err(self.failing.fault());
+                    return Err(self.failing.out_of_memory());
                 }
                 Ok(())
             }
         }
     }
 
-    fn remove_folder(&mut self, name: &str) -> Result<()> {
+    fn remove_folder(&mut self, name: &str) -> Result<()>
+        ensures ok { OnOk result (Took (meaning_in self.old) (meaning_in self.new) (removing name.now (state_in (meaning_in self.old) name.now).now)) }
+        ensures kind { OnOk result (IsNoFile (state_in (meaning_in self.old) name.now).now) }
+        ensures empty { OnOk result ((state_in (meaning_in self.old) name.now).now ≡ Folder → IsEmpty (state_in (meaning_in self.old)) name.now) }
+        ensures err { OnErr result (Took (meaning_in self.old) (meaning_in self.new) []) }
+        ensures judged { Judged (CanRemoveFolder (state_in (meaning_in self.old)) name.now) (meaning_in self.old) (meaning_in self.new) }
+        ensures cause { OnlyFaults (meaning_in self.old) (meaning_in self.new) result }
+        ensures told { ChangesAsTold (CanRemoveFolder (state_in (meaning_in self.old)) name.now) self.old.failing self.new.failing result }
+    {
         let strikes = self.failing.strikes();
         if !self.files.can_remove_folder(name) {
             return Err(self.failing.misuse());
@@ -286,14 +306,23 @@ impl Disk for MemoryDisk {
                     return Err(self.failing.fault());
                 }
                 if self.files.put(name, Node::Missing).is_err() {
-                    return Err(self.failing.fault());
+                    return Err(self.failing.out_of_memory());
                 }
                 Ok(())
             }
         }
     }
 
-    fn make_folder(&mut self, name: &str) -> Result<()> {
+    fn make_folder(&mut self, name: &str) -> Result<()>
+        ensures ok { OnOk result (Took (meaning_in self.old) (meaning_in self.new) (making name.now Folder (state_in (meaning_in self.old) name.now).now)) }
+        ensures folder { OnOk result ((state_in (meaning_in self.new) name.now).now ≡ Folder) }
+        ensures named { OnOk result (name.now ≢ []) }
+        ensures housed { OnOk result (HasFolder (state_in (meaning_in self.old)) name.now) }
+        ensures err { OnErr result (Took (meaning_in self.old) (meaning_in self.new) []) }
+        ensures judged { Judged (CanMakeFolder (state_in (meaning_in self.old)) name.now) (meaning_in self.old) (meaning_in self.new) }
+        ensures cause { OnlyFaults (meaning_in self.old) (meaning_in self.new) result }
+        ensures told { ChangesAsTold (CanMakeFolder (state_in (meaning_in self.old)) name.now) self.old.failing self.new.failing result }
+    {
         let strikes = self.failing.strikes();
         if !self.files.can_make_folder(name) {
             return Err(self.failing.misuse());
@@ -306,14 +335,22 @@ impl Disk for MemoryDisk {
             Kind::File => Err(self.failing.fault()),
             Kind::Missing => {
                 if self.files.put(name, Node::Folder).is_err() {
-                    return Err(self.failing.fault());
+                    return Err(self.failing.out_of_memory());
                 }
                 Ok(())
             }
         }
     }
 
-    fn sync_folder(&mut self, name: &str) -> Result<()> {
+    fn sync_folder(&mut self, name: &str) -> Result<()>
+        ensures ok { OnOk result (Took (meaning_in self.old) (meaning_in self.new) (SyncFolder name.now ∷ [])) }
+        ensures there { OnOk result (IsThere (standing (state_in (meaning_in self.old))) name.now) }
+        ensures err { OnErr result (Took (meaning_in self.old) (meaning_in self.new) []) }
+        ensures judged { Judged (IsThere (standing (state_in (meaning_in self.old))) name.now) (meaning_in self.old) (meaning_in self.new) }
+        ensures cause { OnlyFaults (meaning_in self.old) (meaning_in self.new) result }
+        ensures told { ChangesAsTold (IsThere (standing (state_in (meaning_in self.old))) name.now) self.old.failing self.new.failing result }
+        ensures served { self.old.failing.call ≢ 1 → IsThere (standing (state_in (meaning_in self.old))) name.now → IsOk result }
+    {
         let strikes = self.failing.strikes();
         if !self.files.is_there(name) {
             return Err(self.failing.misuse());

@@ -1,12 +1,12 @@
 //! What stands at a name of a disk in memory, and how it changes.
 
 ghost use Rattle.fjall_base.specs.declared.disk.DirEntry.{DirEntry};
-ghost use Rattle.std.specs.Prelude.{List, All, AllPairs, Any, ◌≢◌, ◌≡◌, ◌↔◌, ◌≤◌, ◌<◌, ◌+◌, ◌++◌, [], ◌∷◌, IsTrue, OnOk, OnErr, IfOk, position, vec_len, vec_capacity, string_bytes};
+ghost use Rattle.std.specs.Prelude.{List, All, AllPairs, Any, ◌≢◌, ◌≡◌, ◌↔◌, ◌≤◌, ◌<◌, ◌+◌, ◌++◌, [], ◌∷◌, IsTrue, OnOk, OnErr, IfOk, IsOk, position, vec_len, vec_capacity, string_bytes};
 ghost use Rattle.std.specs.Bool.{OnTrue, OnFalse};
 ghost use Rattle.std.specs.List.{list_any};
 ghost use Rattle.std.specs.Str.{bytes_eq};
 ghost use Rattle.fjall_base.specs.Disk.{File, Folder, Missing, IsEmpty, IsFile, IsListed, IsLong, IsThere, Lists, Reads, standing, disk_of, folder_of, put, alter, settle, settled, appended, all_synced, cut_to};
-ghost use Rattle.fjall_memory.specs.Memory.{entry_of, place_of, state_of, changed, Fits, IsKind};
+ghost use Rattle.fjall_memory.specs.Memory.{entry_of, place_of, state_of, changed, Fits, IsKind, TakesNone};
 ghost use Rattle.fjall_base.specs.Crash.{keeping, crashed};
 
 use fjall_base::DirEntry;
@@ -71,8 +71,9 @@ impl Node {
         }
     }
 
-    /// Syncs a file; false where there is none.
+    /// Syncs a file; false where there is none. It takes no memory.
     pub fn sync(&mut self) -> Result<bool, AllocError>
+        ensures room { IsOk result }
         ensures ok { IfOk result (λ done. OnTrue done (entry_of self.new ≡ all_synced (entry_of self.old))) }
         ensures file { IfOk result (λ done. IsTrue done ↔ IsFile (entry_of self.old)) }
         ensures no { IfOk result (λ done. OnFalse done (entry_of self.new ≡ entry_of self.old)) }
@@ -87,8 +88,9 @@ impl Node {
         }
     }
 
-    /// Cuts a file to a length and syncs it; false where there is none or it is shorter.
+    /// Cuts a file to a length and syncs it; false where there is none or it is shorter. It takes no memory.
     pub fn cut(&mut self, len: usize) -> Result<bool, AllocError>
+        ensures room { IsOk result }
         ensures ok { IfOk result (λ done. OnTrue done (entry_of self.new ≡ cut_to len (entry_of self.old))) }
         ensures long { IfOk result (λ done. IsTrue done ↔ IsLong len (entry_of self.old)) }
         ensures no { IfOk result (λ done. OnFalse done (entry_of self.new ≡ entry_of self.old)) }
@@ -113,6 +115,7 @@ impl Node {
         ensures fits { IfOk result (λ done. IsTrue done ↔ Fits change.entry (entry_of self.old)) }
         ensures no { IfOk result (λ done. OnFalse done (entry_of self.new ≡ entry_of self.old)) }
         ensures err { OnErr result (entry_of self.new ≡ entry_of self.old) }
+        ensures room { TakesNone change.entry → IsOk result }
     {
         match change {
             FileChange::Append(bytes) => self.append(bytes),
@@ -187,6 +190,7 @@ pub fn alter_at(names: &mut Vec<Named>, name: &str, change: FileChange) -> Resul
     ensures fits { IfOk result (λ done. IsTrue done ↔ Fits change.entry (state_of names.old.items name.now).now) }
     ensures no { IfOk result (λ done. OnFalse done (state_of names.new.items ≡ state_of names.old.items)) }
     ensures err { OnErr result (state_of names.new.items ≡ state_of names.old.items) }
+    ensures room { TakesNone change.entry → IsOk result }
 {
     let Some(at) = find(names.as_slice(), name) else {
         return Ok(false);

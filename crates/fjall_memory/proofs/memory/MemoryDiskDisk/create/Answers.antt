@@ -6,7 +6,7 @@ use Rattle.fjall_memory.proofs.Housed.{housed_made}
 use Rattle.fjall_memory.proofs.memory.MemoryDiskDisk.create.Goals as goal
 
 pub returns-else-is_err-clause-file : goal.returns-else-is_err-clause-file
-returns-else-is_err-clause-file c honest =
+returns-else-is_err-clause-file c =
     let state : state_of c.put.new.self.names.items ≡ put (state_of c.args.self.now.files.names.items) c.args.name.now (File [] []) = search rules in
     subst IsFile (sym (put-now _ _ _ _ state)) tt
 

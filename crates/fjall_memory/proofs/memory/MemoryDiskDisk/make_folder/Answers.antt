@@ -6,7 +6,7 @@ use Rattle.fjall_memory.proofs.Housed.{housed_made}
 use Rattle.fjall_memory.proofs.memory.MemoryDiskDisk.make_folder.Goals as goal
 
 pub returns-else-is_err-clause-folder : goal.returns-else-is_err-clause-folder
-returns-else-is_err-clause-folder c honest =
+returns-else-is_err-clause-folder c =
     let state : state_of c.put.new.self.names.items ≡ put (state_of c.args.self.now.files.names.items) c.args.name.now (Folder) = search rules in
     put-now _ _ _ _ state
 

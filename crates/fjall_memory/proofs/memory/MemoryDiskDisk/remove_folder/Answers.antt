@@ -13,6 +13,6 @@ put-requires c =
     record { housed = housed_removed _ c.args.name.now (λ folder. subst (λ (names : List Named). IsEmpty (state_of names) c.args.name.now) c.as_slice.ensures.value empty) c.args.self.now.files.housed }
 
 pub returns-else-is_err-clause-ok : goal.returns-else-is_err-clause-ok
-returns-else-is_err-clause-ok c honest =
+returns-else-is_err-clause-ok c =
     let took = ok_at c.put.result _ c.if-is_err.ensures.negation c.put.ensures.ok in
     took_removing _ _ c.args.name.now _ (λ none. let both : Missing ≡ Folder = sym none ∙ c.in-Folder.ensures in cc) (record { state = took.state; steps = took.steps })
