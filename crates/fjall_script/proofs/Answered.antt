@@ -1,5 +1,5 @@
 -- Each line has an answer, and the one for bad lines is given to no command.
-use Rattle.std.proofs.Common.{◌≡◌, ℕ, ◌+◌, ◌-◌, ◌<◌, ◌^◌, Bool, true, false, List, [], ◌∷◌, ◌++◌, length, drop, get_or, Option, Some, None, refl, sym, ap, ◌∙◌, append_assoc, codes, decimal, arith, lit<, subst, inl, inr, ◌⊎◌, Global, Vec}
+use Rattle.std.proofs.Common.{◌≡◌, ℕ, ◌+◌, ◌-◌, ◌<◌, ◌^◌, Bool, true, false, List, [], ◌∷◌, ◌++◌, if◌then◌else◌, length, drop, take, get_or, Option, Some, None, refl, sym, ap, ◌∙◌, append_assoc, codes, decimal, arith, lit<, subst, inl, inr, ◌⊎◌, Global, Vec}
 use Rattle.std.specs.Prelude.{All}
 use Rattle.std.specs.List.{AllZip}
 use Rattle.std.specs.declared.ops.Bound.TheVariants.{Unbounded}
@@ -29,7 +29,7 @@ use Rattle.fjall_lines.specs.declared.command.Command.{Command}
 use Rattle.fjall_lines.specs.declared.command.Command.TheVariants.{Ask, Crash, Reopen}
 use Rattle.fjall_lines.specs.declared.command.Request.{Request}
 use Rattle.fjall_lines.specs.declared.command.Request.TheVariants.{Keyspace, Delete, Insert, Remove, RemoveWeak, Clear, Batch, Get, Len, Scan, Snapshot, GetAt, CloseSnapshot, Begin, TxGet, TxInsert, Commit, Gc, Rotate, Flush, Merge, Persist}
-use Rattle.fjall_script.specs.Answers.{bad_line, done_text, flag_text, ended, number_text, ok_line, reply_text, reply_to}
+use Rattle.fjall_script.specs.Answers.{bad_line, done_text, flag_text, is_idle, last_said, number_text, ok_line, reply_text, reply_to}
 use Rattle.fjall_core.specs.Holding.{Held}
 use Rattle.fjall_transactions.specs.Transactions.{Kept}
 use Rattle.fjall_calls.specs.declared.call.Kind.TheVariants.{Optimistic}
@@ -39,7 +39,9 @@ use Rattle.fjall_calls.specs.declared.call.Within.TheVariants as within
 use Rattle.fjall_calls.specs.Serving as served
 use Rattle.fjall_calls.specs.Serving.{AllCome, ComesTo, Itself, OneComes, Others}
 use Rattle.fjall_core.specs.Standing.{Gives, GivesRead, IsOfKind, Owes, OwesAll, OwesBegin, OwesFinish, OwesMerge, OwesMergeBegin, tables_of}
-use Rattle.fjall_script.specs.Requests.{AreCallsFrom, IsCallOf, asked_with, begun_at, calls_in, finish_of, has_job, is_stop, named, place_of, numbers_before, requests_of}
+use Rattle.fjall_script.specs.Requests.{AreCallsBehind, IsCallOf, SoFar, all_calls, asked_with, begun_at, behind, calls_with, counts_of, finish_of, is_same, is_stop, job_of, left_of, named, none_so_far, place_in, numbers_before, requests_of}
+use Rattle.fjall_script.specs.declared.calls.Job.{Job}
+use Rattle.fjall_script.specs.declared.calls.Job.TheVariants as jobs
 use Rattle.fjall_script.specs.Sessions.{answers_to, IsAnswer, IsReplyTo, Session, begun, run, restarted, Restarts}
 
 -- no refusal has the number 0
@@ -166,6 +168,9 @@ commit_told name number (Flag committed) fit = tt
 commit_told name number (Refused error) fit = tt
 commit_told name number reply fit = absurd fit
 
+some_is_not_none : {A : Type 0} {x : A} → Some x ≡ None → ⊥
+some_is_not_none h = let bad : ⊥ = cc in bad
+
 module _ (before : List Reply) (call : TxCall) (reply : Reply) (made : List Call) (told : List Reply) (old new : Held) (comes : ComesTo before call reply made told) (owes : OwesAll old made told new) where
   -- a call of the core is refused, or gives what it is asked for
   by_core : (request : Request) (c : Call) → call ≡ tx.Core c → ((mid : Held) → Given before reply old c mid → IsReplyTo request reply) → IsReplyTo request reply
@@ -180,7 +185,7 @@ module _ (before : List Reply) (call : TxCall) (reply : Reply) (made : List Call
   by_other c is other = told_other before c reply made told (subst (λ (t : TxCall). ComesTo before t reply made told) is comes) other
 
   -- it is a reply to the request, where that makes one call
-  fits : (request : Request) (place : ℕ → ℕ) → has_job request ≡ false → IsCallOf place request call → IsReplyTo request reply
+  fits : (request : Request) (place : ℕ → ℕ) → job_of request ≡ None → IsCallOf place request call → IsReplyTo request reply
   fits (Keyspace name) place one is = by_core (Keyspace name) _ is (λ mid given. subst (IsReplyTo (Keyspace name)) (sym given.1) tt)
   fits (Delete id) place one is = by_core (Delete id) _ is (λ mid given. subst (IsReplyTo (Delete id)) (sym given.0) tt)
   fits (Insert id key value) place one is = by_core (Insert id key value) _ is (λ mid given. subst (IsReplyTo (Insert id key value)) (sym given.0) tt)
@@ -203,63 +208,132 @@ module _ (before : List Reply) (call : TxCall) (reply : Reply) (made : List Call
   fits (Commit number) place one is = commit_told (place number) number reply (by_other _ is refl)
   fits Gc place one is = by_core Gc _ is (λ mid given. subst (IsReplyTo Gc) (sym given.0.0) tt)
   fits (Rotate id) place one is = by_core (Rotate id) _ is (λ mid given. subst (IsReplyTo (Rotate id)) (sym given.0) tt)
-  fits (Flush id) place one is = absurd (true≢false one)
-  fits (Merge id) place one is = absurd (true≢false one)
+  fits (Flush id) place one is = absurd (some_is_not_none one)
+  fits (Merge id) place one is = absurd (some_is_not_none one)
   fits Persist place one is = by_core Persist _ is (λ mid given. subst (IsReplyTo Persist) (sym given.0) tt)
 
--- ---- the two calls of a flush
+-- ---- the calls of a job
 
-finish_gives : (id : ℕ) (out lives : Bool) (job : JobId) (finished : Reply) (old new : Held) → OwesFinish out lives old job finished new → IsReplyTo (Flush id) finished
-finish_gives id true true job finished old new gives = subst (IsReplyTo (Flush id)) (sym gives.0) tt
-finish_gives id true false job finished old new gives = subst (IsReplyTo (Flush id)) (sym gives.0) tt
-finish_gives id false lives job finished old new gives = subst (IsReplyTo (Flush id)) (sym gives.0) tt
+-- what a reply to one of a line's calls may be: it says nothing, or is one to the line's request
+abbrev Fits : Request → Reply → Type 0
+Fits request reply = (is_idle reply ≡ true) ⊎ IsReplyTo request reply
 
--- a finish gives a reply to the flush
-finish_fits : (id : ℕ) (job : JobId) (finished : Reply) (old new : Held) → Owes old (OfFlushFinish job) finished new → IsReplyTo (Flush id) finished
-finish_fits id job finished old new owes =
-    elim (owed (OfFlushFinish job) finished old new owes) [
-      | inl refused ↦ subst (IsReplyTo (Flush id)) (sym refused.1) (refusal_fits (Flush id) refused.0)
-      | inr gives ↦ finish_gives id _ _ job finished old new gives
+refused_fits : (request : Request) (error : Error) (reply : Reply) → reply ≡ Refused error → Fits request reply
+refused_fits request error reply is = inr (subst (IsReplyTo request) (sym is) (refusal_fits request error))
+
+begun_fits : (request : Request) (reply : Reply) (job : Option JobId) → reply ≡ Began job → Fits request reply
+begun_fits request reply job is = inl (ap is_idle is)
+
+flush_gives : (id : ℕ) (out lives : Bool) (job : JobId) (reply : Reply) (old new : Held) → OwesFinish out lives old job reply new → IsReplyTo (Flush id) reply
+flush_gives id true true job reply old new gives = subst (IsReplyTo (Flush id)) (sym gives.0) tt
+flush_gives id true false job reply old new gives = subst (IsReplyTo (Flush id)) (sym gives.0) tt
+flush_gives id false lives job reply old new gives = subst (IsReplyTo (Flush id)) (sym gives.0) tt
+
+-- a finish of a flush
+flush_fits : (id : ℕ) (job : JobId) (reply : Reply) (old new : Held) → Owes old (OfFlushFinish job) reply new → Fits (Flush id) reply
+flush_fits id job reply old new owes =
+    elim (owed (OfFlushFinish job) reply old new owes) [
+      | inl refused ↦ refused_fits (Flush id) refused.0 reply refused.1
+      | inr gives ↦ inr (flush_gives id _ _ job reply old new gives)
     ]
 
-begin_gives : (id : ℕ) (begins : Bool) (first finished : Reply) (old new : Held) → OwesBegin begins old id first new → IsReplyTo (Flush id) finished → IsReplyTo (Flush id) (ended first finished)
-begin_gives id true first finished old new gives fit = subst (λ (r : Reply). IsReplyTo (Flush id) (ended r finished)) (sym gives.0) fit
-begin_gives id false first finished old new gives fit = subst (λ (r : Reply). IsReplyTo (Flush id) (ended r finished)) (sym gives.0) tt
+begin_gives : (id : ℕ) (begins : Bool) (reply : Reply) (old new : Held) → OwesBegin begins old id reply new → Fits (Flush id) reply
+begin_gives id true reply old new gives = begun_fits (Flush id) reply _ gives.0
+begin_gives id false reply old new gives = begun_fits (Flush id) reply _ gives.0
 
--- and so does the flush that it begins
-begin_fits : (id : ℕ) (first finished : Reply) (old new : Held) → Owes old (OfFlushBegin id) first new → IsReplyTo (Flush id) finished → IsReplyTo (Flush id) (ended first finished)
-begin_fits id first finished old new owes fit =
-    elim (owed (OfFlushBegin id) first old new owes) [
-      | inl refused ↦ subst (λ (r : Reply). IsReplyTo (Flush id) (ended r finished)) (sym refused.1) (refusal_fits (Flush id) refused.0)
-      | inr gives ↦ begin_gives id _ first finished old new gives fit
+-- its beginning
+begin_fits : (id : ℕ) (reply : Reply) (old new : Held) → Owes old (OfFlushBegin id) reply new → Fits (Flush id) reply
+begin_fits id reply old new owes =
+    elim (owed (OfFlushBegin id) reply old new owes) [
+      | inl refused ↦ refused_fits (Flush id) refused.0 reply refused.1
+      | inr gives ↦ begin_gives id _ reply old new gives
     ]
 
--- ---- the two calls of a merge
+merge_gives : (id : ℕ) (out lives : Bool) (job : JobId) (reply : Reply) (old new : Held) → OwesMerge out lives old job reply new → IsReplyTo (Merge id) reply
+merge_gives id true true job reply old new gives = subst (IsReplyTo (Merge id)) (sym gives.0) tt
+merge_gives id true false job reply old new gives = subst (IsReplyTo (Merge id)) (sym gives.0) tt
+merge_gives id false lives job reply old new gives = subst (IsReplyTo (Merge id)) (sym gives.0) tt
 
-merge_gives : (id : ℕ) (out lives : Bool) (job : JobId) (finished : Reply) (old new : Held) → OwesMerge out lives old job finished new → IsReplyTo (Merge id) finished
-merge_gives id true true job finished old new gives = subst (IsReplyTo (Merge id)) (sym gives.0) tt
-merge_gives id true false job finished old new gives = subst (IsReplyTo (Merge id)) (sym gives.0) tt
-merge_gives id false lives job finished old new gives = subst (IsReplyTo (Merge id)) (sym gives.0) tt
-
--- a finish gives a reply to the merge
-merge_fits : (id : ℕ) (job : JobId) (finished : Reply) (old new : Held) → Owes old (OfMergeFinish job) finished new → IsReplyTo (Merge id) finished
-merge_fits id job finished old new owes =
-    elim (owed (OfMergeFinish job) finished old new owes) [
-      | inl refused ↦ subst (IsReplyTo (Merge id)) (sym refused.1) (refusal_fits (Merge id) refused.0)
-      | inr gives ↦ merge_gives id _ _ job finished old new gives
+-- a finish of a merge
+merge_fits : (id : ℕ) (job : JobId) (reply : Reply) (old new : Held) → Owes old (OfMergeFinish job) reply new → Fits (Merge id) reply
+merge_fits id job reply old new owes =
+    elim (owed (OfMergeFinish job) reply old new owes) [
+      | inl refused ↦ refused_fits (Merge id) refused.0 reply refused.1
+      | inr gives ↦ inr (merge_gives id _ _ job reply old new gives)
     ]
 
-major_gives : (id : ℕ) (begins : Bool) (first finished : Reply) (old new : Held) → OwesMergeBegin begins old id first new → IsReplyTo (Merge id) finished → IsReplyTo (Merge id) (ended first finished)
-major_gives id true first finished old new gives fit = subst (λ (r : Reply). IsReplyTo (Merge id) (ended r finished)) (sym gives.0) fit
-major_gives id false first finished old new gives fit = subst (λ (r : Reply). IsReplyTo (Merge id) (ended r finished)) (sym gives.0) tt
+major_gives : (id : ℕ) (begins : Bool) (reply : Reply) (old new : Held) → OwesMergeBegin begins old id reply new → Fits (Merge id) reply
+major_gives id true reply old new gives = begun_fits (Merge id) reply _ gives.0
+major_gives id false reply old new gives = begun_fits (Merge id) reply _ gives.0
 
--- and so does the merge that it begins
-major_fits : (id : ℕ) (first finished : Reply) (old new : Held) → Owes old (OfMergeBegin Major id) first new → IsReplyTo (Merge id) finished → IsReplyTo (Merge id) (ended first finished)
-major_fits id first finished old new owes fit =
-    elim (owed (OfMergeBegin Major id) first old new owes) [
-      | inl refused ↦ subst (λ (r : Reply). IsReplyTo (Merge id) (ended r finished)) (sym refused.1) (refusal_fits (Merge id) refused.0)
-      | inr gives ↦ major_gives id _ first finished old new gives fit
+-- its beginning
+major_fits : (id : ℕ) (reply : Reply) (old new : Held) → Owes old (OfMergeBegin Major id) reply new → Fits (Merge id) reply
+major_fits id reply old new owes =
+    elim (owed (OfMergeBegin Major id) reply old new owes) [
+      | inl refused ↦ refused_fits (Merge id) refused.0 reply refused.1
+      | inr gives ↦ major_gives id _ reply old new gives
     ]
+
+-- a call that a job's line makes
+abbrev IsOfJob : Request → TxCall → Type 0
+IsOfJob (Flush id) call = (call ≡ tx.Core (FlushBegin id)) ⊎ ((place : ℕ) × (call ≡ tx.Core (FlushFinish (begun_at place))))
+IsOfJob (Merge id) call = (call ≡ tx.Core (MajorBegin id)) ⊎ ((place : ℕ) × (call ≡ tx.Core (MergeFinish (begun_at place))))
+IsOfJob request call = ⊥
+
+abbrev AreOfJob : Request → List TxCall → Type 0
+AreOfJob request [] = Unit {0}
+AreOfJob request (call ∷ calls) = IsOfJob request call × AreOfJob request calls
+
+AreOfJob-append : (request : Request) (a b : List TxCall) → AreOfJob request a → AreOfJob request b → AreOfJob request (a ++ b)
+AreOfJob-append request [] b h g = g
+AreOfJob-append request (call ∷ a) b h g = (h.0, AreOfJob-append request a b h.1 g)
+
+-- what earlier lines left of it
+flushes_left : (id : ℕ) (list : List (Job × ℕ)) → AreOfJob (Flush id) (left_of (jobs.Flush id) list)
+flushes_left id [] = tt
+flushes_left id (job ∷ others) = either (is_same (jobs.Flush id) job.0) (flushes_left id others)
+  where
+    either : (same : Bool) → AreOfJob (Flush id) (left_of (jobs.Flush id) others) → AreOfJob (Flush id) (if same then finish_of (jobs.Flush id) job.1 ∷ left_of (jobs.Flush id) others else left_of (jobs.Flush id) others)
+    either true h = (inr (job.1, refl), h)
+    either false h = h
+
+merges_left : (id : ℕ) (list : List (Job × ℕ)) → AreOfJob (Merge id) (left_of (jobs.Merge id) list)
+merges_left id [] = tt
+merges_left id (job ∷ others) = either (is_same (jobs.Merge id) job.0) (merges_left id others)
+  where
+    either : (same : Bool) → AreOfJob (Merge id) (left_of (jobs.Merge id) others) → AreOfJob (Merge id) (if same then finish_of (jobs.Merge id) job.1 ∷ left_of (jobs.Merge id) others else left_of (jobs.Merge id) others)
+    either true h = (inr (job.1, refl), h)
+    either false h = h
+
+-- each of these replies fits
+abbrev AllFit : Request → List Reply → Type 0
+AllFit request [] = Unit {0}
+AllFit request (reply ∷ replies) = Fits request reply × AllFit request replies
+
+-- and so does the last that says something
+last_fits : (request : Request) (before : Reply) (replies : List Reply) → IsReplyTo request before → AllFit request replies → IsReplyTo request (last_said before replies)
+last_fits request before [] fit each = fit
+last_fits request before (reply ∷ replies) fit each = last_fits request (if is_idle reply then before else reply) replies (said (is_idle reply) refl) each.1
+  where
+    said : (idle : Bool) → is_idle reply ≡ idle → IsReplyTo request (if idle then before else reply)
+    said true is = fit
+    said false is =
+        elim each.0 [
+          | inl idle ↦ absurd (true≢false (sym idle ∙ is))
+          | inr fits ↦ fits
+        ]
+
+-- no other request is told of a job that began
+none_began : (request : Request) (job : Option JobId) → IsReplyTo request (Began job) → ⊥
+none_began (Flush id) job fit = fit
+none_began request job fit = fit
+
+-- the one reply to a request
+one_fits : (request : Request) (reply : Reply) → IsReplyTo request reply → IsReplyTo request (reply_to (reply ∷ []))
+one_fits request (Flag true) fit = fit
+one_fits request (Flag false) fit = fit
+one_fits request (Began job) fit = absurd (none_began request job fit)
+one_fits request reply fit = fit
 
 -- ---- the calls of a list
 
@@ -308,90 +382,102 @@ next before call reply calls replies _ _ old new (OneComes _ _ _ made told _ _ l
 none_left : (before : List Reply) (call : TxCall) (calls : List TxCall) (made : List Call) (told : List Reply) → AllCome before (call ∷ calls) [] made told → ⊥
 none_left before call calls made told h = elim h [ ]
 
--- A request was replied to by its calls, and these are the calls behind them: what is left of the replies is owed to those.
-record IsRepliedBy (request : Request) (told : Reply × List Reply) (later : List TxCall) (new : Held) : Type 0 where
-  fit : IsReplyTo request told.0
+-- These calls are made behind others, and what is left of the replies is owed to them.
+record Later (later : List TxCall) (replies : List Reply) (new : Held) : Type 0 where
   mid : Held
   before : List Reply
   made : List Call
   heard : List Reply
-  comes : AllCome before later told.1 made heard
+  comes : AllCome before later replies made heard
   owes : OwesAll mid made heard new
 
-by_one : (request : Request) (place : ℕ → ℕ) (at : ℕ) (before : List Reply) (call : TxCall) (calls later : List TxCall) (reply : Reply) (replies : List Reply) (made : List Call) (told : List Reply) (old new : Held) → has_job request ≡ false
-    → IsCallOf place request call → calls ≡ finish_of at request ++ later → AllCome before (call ∷ calls) (reply ∷ replies) made told → OwesAll old made told new
-    → IsRepliedBy request (reply_to request reply replies) later new
-by_one request place at before call calls later reply replies made told old new one is split come owes =
-    let same : reply_to request reply replies ≡ (reply, replies) = rw one refl in
-    let behind : calls ≡ later = rw one at split in
-    let first = next before call reply calls replies made told old new come owes in
-    subst (λ (t : Reply × List Reply). IsRepliedBy request t later new) (sym same)
-    (record {
-      fit = fits before call reply first.made first.told old first.mid first.comes first.owes request place one is;
-      mid = first.mid;
-      before = before ++ reply ∷ [];
-      made = first.later;
-      heard = first.heard;
-      comes = subst (λ (l : List TxCall). AllCome (before ++ reply ∷ []) l replies first.later first.heard) behind first.others_come;
-      owes = first.others;
-    })
+-- a call of a job gets a reply that fits
+job_fits : (request : Request) (before : List Reply) (call : TxCall) (reply : Reply) (made : List Call) (told : List Reply) (old new : Held) → IsOfJob request call → ComesTo before call reply made told → OwesAll old made told new → Fits request reply
+job_fits (Flush id) before call reply made told old new is comes owes =
+    elim is [
+      | inl begins ↦
+          let one = owed_itself before (FlushBegin id) reply made told old new (subst (λ (c : TxCall). ComesTo before c reply made told) begins comes) owes in
+          begin_fits id reply old one.0 one.1
+      | inr ends ↦
+          let one = owed_itself before (FlushFinish (begun_at ends.0)) reply made told old new (subst (λ (c : TxCall). ComesTo before c reply made told) ends.1 comes) owes in
+          flush_fits id _ reply old one.0 one.1
+    ]
+job_fits (Merge id) before call reply made told old new is comes owes =
+    elim is [
+      | inl begins ↦
+          let one = owed_itself before (MajorBegin id) reply made told old new (subst (λ (c : TxCall). ComesTo before c reply made told) begins comes) owes in
+          major_fits id reply old one.0 one.1
+      | inr ends ↦
+          let one = owed_itself before (MergeFinish (begun_at ends.0)) reply made told old new (subst (λ (c : TxCall). ComesTo before c reply made told) ends.1 comes) owes in
+          merge_fits id _ reply old one.0 one.1
+    ]
+job_fits request before call reply made told old new is comes owes = absurd is
 
--- A request was replied to by two calls of the core, where a reply to the second is one to it, and with that the reply to the first.
-by_two : (request : Request) (begins ends : Call) (before : List Reply) (later : List TxCall) (started : Reply) (replies : List Reply) (made : List Call) (told : List Reply) (old new : Held) → has_job request ≡ true
-    → ((at : List Reply) (finished : Reply) (one two : Held) → Owes one (shape_of (resolved at ends)) finished two → IsReplyTo request finished)
-    → ((finished : Reply) (one two : Held) → Owes one (shape_of (resolved before begins)) started two → IsReplyTo request finished → IsReplyTo request (ended started finished))
-    → AllCome before (tx.Core begins ∷ tx.Core ends ∷ later) (started ∷ replies) made told → OwesAll old made told new → IsRepliedBy request (reply_to request started replies) later new
-by_two request begins ends before later started [] made told old new has finish begin come owes =
-    let first = next before (tx.Core begins) started (tx.Core ends ∷ later) [] made told old new come owes in
-    absurd (none_left (before ++ started ∷ []) (tx.Core ends) later first.later first.heard first.others_come)
-by_two request begins ends before later started (finished ∷ replies) made told old new has finish begin come owes =
-    let same : reply_to request started (finished ∷ replies) ≡ (ended started finished, replies) = rw has refl in
-    let first = next before (tx.Core begins) started (tx.Core ends ∷ later) (finished ∷ replies) made told old new come owes in
-    let second = next (before ++ started ∷ []) (tx.Core ends) finished later replies first.later first.heard first.mid new first.others_come first.others in
-    let begun = owed_itself before begins started first.made first.told old first.mid first.comes first.owes in
-    let done = owed_itself (before ++ started ∷ []) ends finished second.made second.told first.mid second.mid second.comes second.owes in
-    subst (λ (t : Reply × List Reply). IsRepliedBy request t later new) (sym same)
-    (record {
-      fit = begin finished old begun.0 begun.1 (finish (before ++ started ∷ []) finished first.mid done.0 done.1);
-      mid = second.mid;
-      before = (before ++ started ∷ []) ++ finished ∷ [];
-      made = second.later;
-      heard = second.heard;
-      comes = second.others_come;
-      owes = second.others;
-    })
+-- and so do all of them
+jobs_fit : (request : Request) (mine later : List TxCall) (before replies : List Reply) (made : List Call) (told : List Reply) (old new : Held) → AreOfJob request mine → AllCome before (mine ++ later) replies made told → OwesAll old made told new
+    → AllFit request (take (length mine) replies) × Later later (drop (length mine) replies) new
+jobs_fit request [] later before replies made told old new are come owes = (tt, record { mid = old; before = before; made = made; heard = told; comes = come; owes = owes })
+jobs_fit request (call ∷ mine) later before [] made told old new are come owes = absurd (none_left before call (mine ++ later) made told come)
+jobs_fit request (call ∷ mine) later before (reply ∷ replies) made told old new are come owes =
+    let first = next before call reply (mine ++ later) replies made told old new come owes in
+    let others = jobs_fit request mine later (before ++ reply ∷ []) replies first.later first.heard first.mid new are.1 first.others_come first.others in
+    ((job_fits request before call reply first.made first.told old first.mid are.0 first.comes first.owes, others.0), others.1)
 
-replied : (request : Request) (place : ℕ → ℕ) (at : ℕ) (before : List Reply) (call : TxCall) (calls later : List TxCall) (reply : Reply) (replies : List Reply) (made : List Call) (told : List Reply) (old new : Held)
-    → IsCallOf place request call → calls ≡ finish_of at request ++ later → AllCome before (call ∷ calls) (reply ∷ replies) made told → OwesAll old made told new
-    → IsRepliedBy request (reply_to request reply replies) later new
-replied (Flush id) place at before call calls later reply replies made told old new is split come owes =
-    let both : call ∷ calls ≡ tx.Core (FlushBegin id) ∷ tx.Core (FlushFinish (begun_at at)) ∷ later = cc (is, split) in
-    by_two (Flush id) (FlushBegin id) (FlushFinish (begun_at at)) before later reply replies made told old new refl (λ so_far finished one two. finish_fits id _ finished one two) (λ finished one two. begin_fits id reply finished one two)
-    (subst (λ (l : List TxCall). AllCome before l (reply ∷ replies) made told) both come) owes
-replied (Merge id) place at before call calls later reply replies made told old new is split come owes =
-    let both : call ∷ calls ≡ tx.Core (MajorBegin id) ∷ tx.Core (MergeFinish (begun_at at)) ∷ later = cc (is, split) in
-    by_two (Merge id) (MajorBegin id) (MergeFinish (begun_at at)) before later reply replies made told old new refl (λ so_far finished one two. merge_fits id _ finished one two) (λ finished one two. major_fits id reply finished one two)
-    (subst (λ (l : List TxCall). AllCome before l (reply ∷ replies) made told) both come) owes
-replied request place at before call calls later reply replies made told old new is split come owes = by_one request place at before call calls later reply replies made told old new refl is split come owes
+-- A request was replied to by its calls, and these are the calls behind them: what is left of the replies is owed to those.
+record IsRepliedBy (request : Request) (mine later : List TxCall) (replies : List Reply) (new : Held) : Type 0 where
+  fit : IsReplyTo request (reply_to (take (length mine) replies))
+  rest : Later later (drop (length mine) replies) new
+
+by_job : (request : Request) (mine later : List TxCall) (before replies : List Reply) (made : List Call) (told : List Reply) (old new : Held) → IsReplyTo request (Flag false) → AreOfJob request mine
+    → AllCome before (mine ++ later) replies made told → OwesAll old made told new → IsRepliedBy request mine later replies new
+by_job request mine later before replies made told old new none are come owes =
+    let each = jobs_fit request mine later before replies made told old new are come owes in
+    record { fit = last_fits request (Flag false) (take (length mine) replies) none each.0; rest = each.1 }
+
+by_one : (request : Request) (place : ℕ → ℕ) (call : TxCall) (later : List TxCall) (before replies : List Reply) (made : List Call) (told : List Reply) (old new : Held) → job_of request ≡ None → IsCallOf place request call
+    → AllCome before (call ∷ later) replies made told → OwesAll old made told new → IsRepliedBy request (call ∷ []) later replies new
+by_one request place call later before [] made told old new one is come owes = absurd (none_left before call later made told come)
+by_one request place call later before (reply ∷ replies) made told old new one is come owes =
+    let first = next before call reply later replies made told old new come owes in
+    record {
+      fit = one_fits request reply (fits before call reply first.made first.told old first.mid first.comes first.owes request place one is);
+      rest = record { mid = first.mid; before = before ++ reply ∷ []; made = first.later; heard = first.heard; comes = first.others_come; owes = first.others };
+    }
+
+-- the calls of a request, whose own call is this one
+by_calls : (request : Request) (place : ℕ → ℕ) (out : List (Job × ℕ)) (count : ℕ) (call : TxCall) (later : List TxCall) (before replies : List Reply) (made : List Call) (told : List Reply) (old new : Held) → IsCallOf place request call
+    → AllCome before (calls_with out count (job_of request) call ++ later) replies made told → OwesAll old made told new → IsRepliedBy request (calls_with out count (job_of request) call) later replies new
+by_calls (Flush id) place out count call later before replies made told old new is come owes =
+    by_job (Flush id) _ later before replies made told old new tt (AreOfJob-append (Flush id) _ _ (flushes_left id out) (inl is, (inr (count + length (left_of (jobs.Flush id) out), refl), tt))) come owes
+by_calls (Merge id) place out count call later before replies made told old new is come owes =
+    by_job (Merge id) _ later before replies made told old new tt (AreOfJob-append (Merge id) _ _ (merges_left id out) (inl is, (inr (count + length (left_of (jobs.Merge id) out), refl), tt))) come owes
+by_calls request place out count call later before replies made told old new is come owes = by_one request place call later before replies made told old new refl is come owes
+
+replied : (request : Request) (place : ℕ → ℕ) (out : List (Job × ℕ)) (count : ℕ) (call : TxCall) (mine later : List TxCall) (before replies : List Reply) (made : List Call) (told : List Reply) (old new : Held) → IsCallOf place request call
+    → mine ≡ calls_with out count (job_of request) call → AllCome before (mine ++ later) replies made told → OwesAll old made told new → IsRepliedBy request mine later replies new
+replied request place out count call mine later before replies made told old new is same come owes =
+    subst (λ (m : List TxCall). IsRepliedBy request m later replies new) (sym same)
+    (by_calls request place out count call later before replies made told old new is (subst (λ (m : List TxCall). AllCome before (m ++ later) replies made told) same come) owes)
 
 abbrev IsCall : Option Command → Type 0
 IsCall found = is_stop found ≡ false
 
 -- the calls of a run
-front_answers : (lines : List (Option Command)) (place : ℕ → ℕ) (at : ℕ) (before : List Reply) (earlier : ℕ) (calls : List TxCall) (replies : List Reply) (made : List Call) (told : List Reply) (old new : Held) → All IsCall lines
-    → AreCallsFrom at place (requests_of lines) calls → AllCome before calls replies made told → OwesAll old made told new → AllZip IsAnswer lines (answers_to earlier lines replies)
-front_answers [] place at before earlier calls replies made told old new alone are come owes = tt
-front_answers (None ∷ rest) place at before earlier calls replies made told old new alone are come owes =
-    (record { said = refl; bad = λ h. refl }, front_answers rest place at before earlier calls replies made told old new (All-tail IsCall None rest alone) are come owes)
-front_answers (Some (Crash keep) ∷ rest) place at before earlier calls replies made told old new alone are come owes = absurd (true≢false (All-head IsCall (Some (Crash keep)) rest alone))
-front_answers (Some Reopen ∷ rest) place at before earlier calls replies made told old new alone are come owes = absurd (true≢false (All-head IsCall (Some Reopen) rest alone))
-front_answers (Some (Ask request) ∷ rest) place at before earlier [] replies made told old new alone are come owes = absurd are
-front_answers (Some (Ask request) ∷ rest) place at before earlier (call ∷ calls) [] made told old new alone are come owes = absurd (none_left before call calls made told come)
-front_answers (Some (Ask request) ∷ rest) place at before earlier (call ∷ calls) (reply ∷ replies) made told old new alone are come owes =
-    let answer = reply_to request reply replies in
-    let r = replied request place at before call calls are.1 reply replies made told old new are.0 are.2 come owes in (
-      record { said = record { number = earlier + 1; reply = answer.0; fits = r.fit; is = refl }; bad = λ h. absurd (not_bad (earlier + 1) request answer.0 h) },
-      front_answers rest place (at + calls_in request) r.before (asked_with earlier request) are.1 answer.1 r.made r.heard r.mid new (All-tail IsCall (Some (Ask request)) rest alone) are.3 r.comes r.owes,
+front_answers : (lines : List (Option Command)) (so_far : SoFar) (first earlier : ℕ) (before : List Reply) (calls : List (List TxCall)) (replies : List Reply) (made : List Call) (told : List Reply) (old new : Held) → All IsCall lines
+    → AreCallsBehind first so_far (requests_of lines) calls → AllCome before (all_calls calls) replies made told → OwesAll old made told new → AllZip IsAnswer lines (answers_to earlier lines (counts_of calls) replies)
+front_answers [] so_far first earlier before calls replies made told old new alone are come owes = tt
+front_answers (None ∷ rest) so_far first earlier before calls replies made told old new alone are come owes =
+    (record { said = refl; bad = λ h. refl }, front_answers rest so_far first earlier before calls replies made told old new (All-tail IsCall None rest alone) are come owes)
+front_answers (Some (Crash keep) ∷ rest) so_far first earlier before calls replies made told old new alone are come owes = absurd (true≢false (All-head IsCall (Some (Crash keep)) rest alone))
+front_answers (Some Reopen ∷ rest) so_far first earlier before calls replies made told old new alone are come owes = absurd (true≢false (All-head IsCall (Some Reopen) rest alone))
+front_answers (Some (Ask request) ∷ rest) so_far first earlier before [] replies made told old new alone are come owes = absurd are
+front_answers (Some (Ask request) ∷ rest) so_far first earlier before (mine ∷ calls) replies made told old new alone are come owes =
+    let makes = are.0 in
+    let r = replied request (place_in so_far.numbered first) so_far.begun so_far.count makes.0 mine (all_calls calls) before replies made told old new makes.1 makes.2 come owes in
+    let reply = reply_to (take (length mine) replies) in (
+      record { said = record { number = earlier + 1; reply = reply; fits = r.fit; is = refl }; bad = λ h. absurd (not_bad (earlier + 1) request reply h) },
+      front_answers rest (behind so_far request mine) first (asked_with earlier request) r.rest.before calls (drop (length mine) replies) r.rest.made r.rest.heard r.rest.mid new (All-tail IsCall (Some (Ask request)) rest alone) are.1 r.rest.comes
+          r.rest.owes,
     )
 
 AllZip-append : (a b : List (Option Command)) (x y : List (List ℕ)) → AllZip IsAnswer a x → AllZip IsAnswer b y → AllZip IsAnswer (a ++ b) (x ++ y)
@@ -411,11 +497,11 @@ ok_answer honest None old new h = absurd h
 pub answered : (honest : Bool) (commands rest : List (Option Command)) (ran : Bool) (core : Held) (kept : Kept) (printed : List (List ℕ)) → Session honest commands ran core kept printed rest
     → (front : List (Option Command)) × (commands ≡ front ++ rest) × AllZip IsAnswer front printed
 answered honest commands _ _ _ _ _ (begun core h) = ([], refl, tt)
-answered honest commands _ _ _ _ _ (run old new before after printed lines rest calls replies s alone stop are runs) =
+answered honest commands _ _ _ _ _ (run old new before after printed lines rest made replies s alone stop are runs) =
     let so_far = answered honest commands (lines ++ rest) false old before printed s in
     let earlier = numbers_before commands (lines ++ rest) in
-    let here = front_answers lines (place_of earlier (requests_of lines)) 0 [] earlier calls replies runs.made runs.told old new alone are runs.comes runs.owes in
-    (so_far.0 ++ lines, so_far.1 ∙ sym (append_assoc so_far.0 lines rest), AllZip-append so_far.0 lines printed (answers_to earlier lines replies) so_far.2 here)
+    let here = front_answers lines none_so_far earlier earlier [] made replies runs.made runs.told old new alone are runs.comes runs.owes in
+    (so_far.0 ++ lines, so_far.1 ∙ sym (append_assoc so_far.0 lines rest), AllZip-append so_far.0 lines printed (answers_to earlier lines (counts_of made) replies) so_far.2 here)
 answered honest commands _ _ _ _ _ (restarted old new before printed stop rest s r) =
     let so_far = answered honest commands (stop ∷ rest) true old before printed s in
     (so_far.0 ++ stop ∷ [], so_far.1 ∙ sym (append_assoc so_far.0 (stop ∷ []) rest), AllZip-append so_far.0 (stop ∷ []) printed (ok_line ∷ []) so_far.2 (ok_answer honest stop old new r, tt))

@@ -1,13 +1,14 @@
 -- More calls are made.
-use Rattle.std.proofs.Common.{◌≡◌, ℕ, zero, suc, ◌+◌, ◌<◌, ◌≤◌, Bool, true, false, List, [], ◌∷◌, ◌++◌, length, length-append, drop, get_or, Option, Some, None, if◌then◌else◌, refl, sym, subst, ap, ◌∙◌, append_assoc, arith}
-use Rattle.std.proofs.lemmas.List.{append-nil}
+use Rattle.std.proofs.Common.{◌≡◌, ℕ, ◌+◌, ◌-◌, ◌<◌, ◌≤◌, List, [], ◌∷◌, ◌++◌, length, length-append, drop, get_or, Option, Some, None, refl, sym, subst, ap, ◌∙◌, append_assoc, arith}
+use Rattle.std.proofs.lemmas.List.{append-nil, drop_all, map-append}
+use Rattle.std.proofs.lemmas.List.Concat.{flat_map-append}
 use Rattle.fjall_calls.specs.declared.call.TxCall.{TxCall}
-use Rattle.fjall_calls.specs.declared.call.TxCall.TheVariants.{Core}
 use Rattle.fjall_lines.specs.declared.command.Command.{Command}
 use Rattle.fjall_lines.specs.declared.command.Command.TheVariants.{Ask, Crash, Reopen}
 use Rattle.fjall_lines.specs.declared.command.Request.{Request}
-use Rattle.fjall_script.specs.Requests.{AddsCalls, AreCalls, AreCallsFrom, IsCallOf, asked_with, begun_at, calls_in, finish_of, finishes, has_job, nowhere, numbers_in, openings_from, place_by, place_in, place_of, request_of, requests_of}
-use Rattle.fjall_script.specs.declared.calls.Numbers.{Numbers}
+use Rattle.fjall_script.specs.Requests.{AddsCalls, AreCalls, AreCallsBehind, AreOfLines, IsCallOf, LineAdds, Makes, SoFar, all_calls, asked_with, begun_with, behind, calls_with, counts_of, job_of, none_so_far, nowhere, numbered_with, numbers_in, place_by, request_of, requests_of, so_far_in}
+use Rattle.fjall_script.specs.declared.calls.Job.{Job}
+use Rattle.fjall_script.specs.declared.calls.LineCalls.{LineCalls}
 use Rattle.fjall_script.proofs.Counts.{one_asked}
 use Rattle.fjall_script.proofs.Printing.{next_is}
 
@@ -18,68 +19,98 @@ asked_more earlier asked commands i found request whole lt at is counted all =
     let next = next_is commands i found lt at ∙ ap (λ (f : Option Command). f ∷ drop (i + 1) commands) is in
     ap (λ n. n + numbers_in (drop (i + 1) commands)) counted ∙ one_asked earlier request (drop (i + 1) commands) ∙ ap (λ (l : List (Option Command)). earlier + numbers_in l) (sym next) ∙ all
 
--- the calls of a request are as many as they should be
-pub finish_is : (place : ℕ) (request : Request) → suc (length (finish_of place request)) ≡ calls_in request
-finish_is place request = either (has_job request)
-  where
-    either : (b : Bool) → suc (length (if b then Core (finishes request (begun_at place)) ∷ [] else [])) ≡ (if b then 2 else 1)
-    either true = refl
-    either false = refl
+-- the list so far is told by its three parts
+same_so_far : (a b : SoFar) → a.count ≡ b.count → a.numbered ≡ b.numbered → a.begun ≡ b.begun → a ≡ b
+same_so_far a b count numbered begun =
+    ap (λ (n : ℕ). record a { count = n }) count ∙ ap (λ (l : List ℕ). record { count = b.count; numbered = l; begun = a.begun }) numbered
+    ∙ ap (λ (l : List (Job × ℕ)). record { count = b.count; numbered = b.numbered; begun = l }) begun
+
+all_calls-more : (made : List (List TxCall)) (mine : List TxCall) → all_calls (made ++ mine ∷ []) ≡ all_calls made ++ mine
+all_calls-more made mine = flat_map-append (λ (own : List TxCall). own) made (mine ∷ []) ∙ ap (λ (l : List TxCall). all_calls made ++ l) (append-nil mine)
+
+-- The calls of the lines so far, and whichever those of the lines to come are.
+pub record MadeSoFar (earlier : ℕ) (commands left : List (Option Command)) (lines : LineCalls) : Type 0 where
+  pub made : List (List TxCall)
+  pub calls : lines.calls.items ≡ all_calls made
+  pub counts : lines.counts.items ≡ counts_of made
+  pub same : lines.numbers.earlier ≡ earlier
+  pub rest : (more : List (List TxCall)) → AreCallsBehind earlier (so_far_in lines) (requests_of left) more → AreCalls earlier commands (made ++ more)
+
+-- no line so far
+pub none_made : (earlier : ℕ) (commands : List (Option Command)) (lines : LineCalls) → lines.calls.items ≡ [] → lines.counts.items ≡ [] → lines.numbers.places.items ≡ nowhere ∷ [] → lines.begun.items ≡ [] → lines.numbers.earlier ≡ earlier
+    → MadeSoFar earlier commands commands lines
+none_made earlier commands lines calls counts numbered begun same = record {
+  made = [];
+  calls = calls;
+  counts = counts;
+  same = same;
+  rest = λ more are. subst (λ (s : SoFar). AreCallsBehind earlier s (requests_of commands) more) (same_so_far (so_far_in lines) none_so_far (ap length calls) numbered begun) are;
+}
+
+-- the calls of one more request
+pub adds_calls : (request : Request) (old new : LineCalls) (call : TxCall) (count : ℕ) → IsCallOf (place_by old.numbers) request call
+    → new.calls.items ≡ old.calls.items ++ calls_with old.begun.items (length old.calls.items) (job_of request) call → new.begun.items ≡ begun_with old.begun.items (length old.calls.items) (job_of request)
+    → new.numbers.places.items ≡ numbered_with old.numbers.places.items (length old.calls.items) request → new.numbers.earlier ≡ old.numbers.earlier
+    → new.counts.items ≡ old.counts.items ++ count ∷ [] → count ≡ length new.calls.items - length old.calls.items → AddsCalls request old new
+adds_calls request old new call count is calls begun numbered same counts more =
+    let mine = calls_with old.begun.items (length old.calls.items) (job_of request) call in
+    let long = ap length calls ∙ length-append old.calls.items mine in
+    let each : count ≡ length mine = omega (arith, long, more) in
+    record {
+      mine = mine;
+      makes = (call, is, refl);
+      calls = calls;
+      counts = counts ∙ ap (λ (n : ℕ). old.counts.items ++ n ∷ []) each;
+      numbered = numbered;
+      begun = begun;
+      earlier = same;
+    }
 
 -- the calls of one more line
-pub more_made : (earlier : ℕ) (commands : List (Option Command)) (i : ℕ) (found : Option Command) (numbers : Numbers) (calls made : List TxCall) → i < length commands → found ≡ get_or commands i found
-    → numbers.places.items ≡ nowhere ∷ openings_from 0 (requests_of commands) → numbers.earlier ≡ earlier → AddsCalls (place_by numbers) (request_of found) calls made
-    → ((more : List TxCall) → AreCallsFrom (length calls) (place_of earlier (requests_of commands)) (requests_of (drop i commands)) more → AreCalls earlier commands (calls ++ more))
-    → (more : List TxCall) → AreCallsFrom (length made) (place_of earlier (requests_of commands)) (requests_of (drop (i + 1) commands)) more → AreCalls earlier commands (made ++ more)
-more_made earlier commands i found numbers calls made lt at same before adds h more later =
-    subst (λ (l : List TxCall). AreCallsFrom 0 place (requests_of commands) l) (step.2 more) (h (step.0 ++ more) (subst (λ (l : List Request). AreCallsFrom (length calls) place l (step.0 ++ more)) (sym next) (step.1 more later)))
+pub more_made : (earlier : ℕ) (commands : List (Option Command)) (i : ℕ) (found : Option Command) (lines after : LineCalls) → i < length commands → found ≡ get_or commands i found → LineAdds (request_of found) lines after
+    → MadeSoFar earlier commands (drop i commands) lines → MadeSoFar earlier commands (drop (i + 1) commands) after
+more_made earlier commands i found lines after lt at adds h = steps found adds (subst (λ (l : List (Option Command)). MadeSoFar earlier commands l lines) (next_is commands i found lt at) h)
   where
-    place : ℕ → ℕ
-    place = place_of earlier (requests_of commands)
-
     rest : List (Option Command)
     rest = drop (i + 1) commands
 
-    next : requests_of (drop i commands) ≡ requests_of (found ∷ rest)
-    next = ap requests_of (next_is commands i found lt at)
+    none : (f : Option Command) → requests_of (f ∷ rest) ≡ requests_of rest → after ≡ lines → MadeSoFar earlier commands (f ∷ rest) lines → MadeSoFar earlier commands rest after
+    none f skips same g = subst (MadeSoFar earlier commands rest) (sym same)
+        (record {
+          made = g.made;
+          calls = g.calls;
+          counts = g.counts;
+          same = g.same;
+          rest = λ more are. g.rest more (subst (λ (rs : List Request). AreCallsBehind earlier (so_far_in lines) rs more) (sym skips) are);
+        })
 
-    Steps : Option Command → Type 0
-    Steps f =
-        (mine : List TxCall)
-        × ((more : List TxCall) → AreCallsFrom (length made) place (requests_of rest) more → AreCallsFrom (length calls) place (requests_of (f ∷ rest)) (mine ++ more))
-        × ((more : List TxCall) → calls ++ (mine ++ more) ≡ made ++ more)
+    some : (request : Request) → AddsCalls request lines after → MadeSoFar earlier commands (Some (Ask request) ∷ rest) lines → MadeSoFar earlier commands rest after
+    some request adds g =
+        let so : so_far_in after ≡ behind (so_far_in lines) request adds.mine = same_so_far (so_far_in after) (behind (so_far_in lines) request adds.mine) (ap length adds.calls ∙ length-append lines.calls.items adds.mine) adds.numbered adds.begun in
+        let makes : Makes earlier (so_far_in lines) request adds.mine = subst (λ (n : ℕ). Makes n (so_far_in lines) request adds.mine) g.same adds.makes in
+        record {
+          made = g.made ++ adds.mine ∷ [];
+          calls = adds.calls ∙ ap (λ (l : List TxCall). l ++ adds.mine) g.calls ∙ sym (all_calls-more g.made adds.mine);
+          counts = adds.counts ∙ ap (λ (l : List ℕ). l ++ length adds.mine ∷ []) g.counts ∙ sym (map-append (λ (own : List TxCall). length own) g.made (adds.mine ∷ []));
+          same = adds.earlier ∙ g.same;
+          rest = λ more later. subst (AreCalls earlier commands) (sym (append_assoc g.made (adds.mine ∷ []) more))
+              (g.rest (adds.mine ∷ more) (makes, subst (λ (s : SoFar). AreCallsBehind earlier s (requests_of rest) more) so later));
+        }
 
-    none : (f : Option Command) → requests_of (f ∷ rest) ≡ requests_of rest → made ≡ calls → Steps f
-    none f skips same = ([], λ more later. rw (skips, ← same) later, λ more. ap (λ (l : List TxCall). l ++ more) (sym same))
-
-    some : (request : Request) (call : TxCall) → IsCallOf place request call → made ≡ calls ++ call ∷ finish_of (length calls) request → Steps (Some (Ask request))
-    some request call is whole =
-        let mine = call ∷ finish_of (length calls) request in
-        let long : length made ≡ length calls + calls_in request = ap length whole ∙ length-append calls mine ∙ ap (λ n. length calls + n) (finish_is (length calls) request) in (
-          mine,
-          λ more later. (is, more, refl, subst (λ (n : ℕ). AreCallsFrom n place (requests_of rest) more) long later),
-          λ more. sym (append_assoc calls mine more) ∙ ap (λ (l : List TxCall). l ++ more) (sym whole),
-        )
-
-    steps : (f : Option Command) → AddsCalls place (request_of f) calls made → Steps f
-    steps None same = none None refl same
-    steps (Some (Crash keep)) same = none (Some (Crash keep)) refl same
-    steps (Some Reopen) same = none (Some Reopen) refl same
-    steps (Some (Ask request)) adds = some request adds.0 adds.1 adds.2
-
-    step : Steps found
-    step = steps found (subst (λ (l : List ℕ). AddsCalls (place_in l earlier) (request_of found) calls made) same (subst (λ (n : ℕ). AddsCalls (place_in numbers.places.items n) (request_of found) calls made) before adds))
+    steps : (f : Option Command) → LineAdds (request_of f) lines after → MadeSoFar earlier commands (f ∷ rest) lines → MadeSoFar earlier commands rest after
+    steps None same g = none None refl same g
+    steps (Some (Crash keep)) same g = none (Some (Crash keep)) refl same g
+    steps (Some Reopen) same g = none (Some Reopen) refl same g
+    steps (Some (Ask request)) adds g = some request adds g
 
 -- no line is left
-pub all_made : (place : ℕ → ℕ) (commands : List (Option Command)) (i : ℕ) (calls : List TxCall) → length commands ≤ i
-    → ((more : List TxCall) → AreCallsFrom (length calls) place (requests_of (drop i commands)) more → AreCallsFrom 0 place (requests_of commands) (calls ++ more)) → AreCallsFrom 0 place (requests_of commands) calls
-all_made place commands i calls past h =
-    let none : drop i commands ≡ [] = drop_past commands i past in
-    let left : AreCallsFrom (length calls) place (requests_of (drop i commands)) [] = rw none tt in
-    subst (AreCallsFrom 0 place (requests_of commands)) (append-nil calls) (h [] left)
-  where
-    drop_past : (l : List (Option Command)) (n : ℕ) → length l ≤ n → drop n l ≡ []
-    drop_past [] zero short = refl
-    drop_past [] (suc n) short = refl
-    drop_past (found ∷ l) zero short = absurd (omega arith)
-    drop_past (found ∷ l) (suc n) short = drop_past l n (omega (arith, short))
+pub all_made : (earlier : ℕ) (commands : List (Option Command)) (i : ℕ) (lines : LineCalls) → length commands ≤ i → MadeSoFar earlier commands (drop i commands) lines → AreOfLines earlier commands lines
+all_made earlier commands i lines past h =
+    let none : drop i commands ≡ [] = drop_all i commands past in
+    let g : MadeSoFar earlier commands [] lines = subst (λ (l : List (Option Command)). MadeSoFar earlier commands l lines) none h in
+    record {
+      made = g.made;
+      are = subst (AreCalls earlier commands) (append-nil g.made) (g.rest [] tt);
+      calls = g.calls;
+      counts = g.counts;
+    }

@@ -1,5 +1,5 @@
 -- The calls before the first crash or reopening.
-use Rattle.std.proofs.Common.{◌≡◌, ℕ, zero, suc, ◌+◌, ◌≤◌, Bool, true, false, List, [], ◌∷◌, ◌++◌, length, take, drop, Option, unwrap_or, refl, sym, ap, ◌∙◌, arith, inl, inr, ◌⊎◌}
+use Rattle.std.proofs.Common.{◌≡◌, ℕ, zero, suc, ◌+◌, ◌≤◌, Bool, true, false, List, [], ◌∷◌, ◌++◌, length, take, drop, Option, unwrap_or, refl, sym, ap, ◌∙◌, subst, arith, inl, inr, ◌⊎◌}
 use Rattle.std.specs.Prelude.{All}
 use Rattle.std.specs.List.{position, position_or_len}
 use Rattle.std.proofs.lemmas.Bool.{cases_lt}
@@ -12,7 +12,8 @@ use Rattle.fjall_core.specs.Holding.{Held}
 use Rattle.fjall_transactions.specs.Transactions.{Kept}
 use Rattle.fjall_calls.specs.declared.call.TxCall.{TxCall}
 use Rattle.fjall_calls.specs.Serving.{RunsTx}
-use Rattle.fjall_script.specs.Requests.{AreCalls, is_stop, numbers_in}
+use Rattle.fjall_script.specs.Requests.{AreOfLines, counts_of, is_stop, numbers_in}
+use Rattle.fjall_script.specs.declared.calls.LineCalls.{LineCalls}
 use Rattle.fjall_script.specs.Sessions.{AnsweredFront, answers_to, IsAtStop}
 use Rattle.fjall_script.proofs.Counts.{counted}
 
@@ -61,28 +62,28 @@ end_is commands stop h =
     ]
 
 pub answered_front : (honest : Bool) (earlier : ℕ) (commands front rest : List (Option Command)) (stop : Option ℕ) (end : ℕ) (core : Held) (kept : Kept) (after : Held) (left : Kept)
-    (calls : List TxCall) (replies shown : List Reply) (text : List ℕ) (asked : ℕ)
+    (lines : LineCalls) (counts : List ℕ) (replies shown : List Reply) (text : List ℕ) (asked : ℕ)
     → stop ≡ position is_stop commands → end ≡ unwrap_or stop (length commands) → front ≡ take end commands → rest ≡ drop end commands
-    → AreCalls earlier front calls → RunsTx honest core kept calls replies after left → shown ≡ replies → text ≡ text_of (answers_to earlier front shown) → asked ≡ earlier + numbers_in front
-    → AnsweredFront honest earlier commands rest core kept after left text asked
-answered_front honest earlier commands front rest stop end core kept after left calls replies shown text asked found at before behind are runs same said count =
+    → AreOfLines earlier front lines → RunsTx honest core kept lines.calls.items replies after left → counts ≡ lines.counts.items → shown ≡ replies → text ≡ text_of (answers_to earlier front counts shown)
+    → asked ≡ earlier + numbers_in front → AnsweredFront honest earlier commands rest core kept after left text asked
+answered_front honest earlier commands front rest stop end core kept after left lines counts replies shown text asked found at before behind are runs each same said count =
     let end' = at ∙ end_is commands stop found in
     let parts = front_at commands end end' in
     let split : commands ≡ front ++ rest = rw (before, behind) (sym (take-append-drop end commands)) in
     let all : numbers_in commands ≡ numbers_in front + numbers_in rest = ap numbers_in split ∙ counted front rest in
     record {
-      printed = answers_to earlier front replies;
+      printed = answers_to earlier front (counts_of are.made) replies;
       ran = record {
         lines = front;
-        calls = calls;
+        made = are.made;
         replies = replies;
         split = split;
         calls_alone = rw before parts.0;
         stop = rw behind parts.1;
-        asked = are;
-        runs = runs;
+        asked = are.are;
+        runs = subst (λ (calls : List TxCall). RunsTx honest core kept calls replies after left) are.calls runs;
         printed_are = refl;
       };
-      text_is = said ∙ ap (λ (r : List Reply). text_of (answers_to earlier front r)) same;
+      text_is = said ∙ ap (λ (r : List Reply). text_of (answers_to earlier front counts r)) same ∙ ap (λ (n : List ℕ). text_of (answers_to earlier front n replies)) (each ∙ are.counts);
       asked_is = omega (arith, count, all);
     }

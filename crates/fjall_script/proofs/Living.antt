@@ -1,12 +1,11 @@
 -- A session over a disk that returns what it holds comes to lives of engines one after another.
-use Rattle.std.proofs.Common.{◌≡◌, ℕ, suc, ◌+◌, Bool, true, false, IsTrue, List, [], ◌∷◌, ◌++◌, length, length-append, if◌then◌else◌, ◌≤◌, Option, Some, None, Result, Ok, Err, refl, sym, ◌∙◌, ap, subst, append_assoc, arith, map}
+use Rattle.std.proofs.Common.{◌≡◌, ℕ, zero, suc, ◌+◌, ◌-◌, Bool, true, false, IsTrue, List, [], ◌∷◌, ◌++◌, length, length-append, take, drop, ◌≤◌, Option, Some, None, Result, Ok, Err, refl, sym, ◌∙◌, ap, subst, append_assoc, arith, map}
 use Rattle.std.proofs.lemmas.Bool.{true≢false}
-use Rattle.std.proofs.lemmas.List.{append-nil, map-append}
+use Rattle.std.proofs.lemmas.List.{append-nil, length-drop, map-append}
 use Rattle.std.proofs.lemmas.List.Elements.{All-nil, filter_map-append}
 use Rattle.std.proofs.lemmas.List.Splits.{slice_split_at, slice_split_none}
-use Rattle.std.proofs.lemmas.List.Sums.{sum_by-append, sum_by-cons}
 use Rattle.std.proofs.lemmas.Grind.{flat_map-append}
-use Rattle.std.specs.List.{slice_split, sum_by}
+use Rattle.std.specs.List.{slice_split}
 use Rattle.std.specs.Prelude.{All}
 use Rattle.fjall_base.specs.Store.{Store, fold, kept}
 use Rattle.fjall_base.specs.Store as store
@@ -38,13 +37,12 @@ use Rattle.fjall_calls.specs.Serving.{AllCome, NoneComes, OneComes, RunsTx}
 use Rattle.fjall_lines.specs.declared.command.Command.{Command}
 use Rattle.fjall_lines.specs.declared.command.Command.TheVariants.{Ask, Crash, Reopen}
 use Rattle.fjall_lines.specs.declared.command.Request.{Request}
-use Rattle.fjall_script.specs.Answers.{bad_line, ended_by, ok_line, reply_text, reply_to}
-use Rattle.fjall_script.specs.Lived.{AreServed, Asked, GoesThrough, HasLived, IsServed, replies_of, served_in, told_as, unasked}
+use Rattle.fjall_script.specs.Answers.{bad_line, ok_line, reply_text, reply_to}
+use Rattle.fjall_script.specs.Lived.{AreServed, Asked, GoesThrough, HasLived, IsServed, made_of, replies_of, served_in, told_as, unasked}
 use Rattle.fjall_script.specs.Machine.{Begins, Closes, Crashes, OpenedOn, new_disk, none_kept}
-use Rattle.fjall_script.specs.Requests.{AreCalls, AreCallsFrom, asked_with, asks_number, calls_in, finish_of, has_job, is_stop, request_of, requests_of, numbers_before, numbers_in}
+use Rattle.fjall_script.specs.Requests.{AreCalls, AreCallsBehind, SoFar, all_calls, asked_with, asks_number, behind, counts_of, is_stop, none_so_far, request_of, requests_of, numbers_before, numbers_in}
 use Rattle.fjall_script.specs.Sessions as sessions
 use Rattle.fjall_script.specs.Sessions.{Restarts, Session, answers_to}
-use Rattle.fjall_script.proofs.Calling.{finish_is}
 use Rattle.fjall_script.proofs.Counts.{asked_before, counted, none_asked, one_asked, stops_ask_none}
 use Rattle.fjall_script.proofs.Restarting.{bare_holds}
 
@@ -53,56 +51,50 @@ IsCall found = is_stop found ≡ false
 
 -- ---- what is printed
 
--- how many calls requests make
-abbrev made_by : List Request → ℕ
-made_by requests = sum_by calls_in requests
+-- how many these are together
+abbrev whole : List ℕ → ℕ
+whole [] = 0
+whole (count ∷ counts) = count + whole counts
 
--- that a request makes two calls or one, as a flag says
-abbrev calls_if : Bool → ℕ
-calls_if b = if b then 2 else 1
+whole-append : (a b : List ℕ) → whole (a ++ b) ≡ whole a + whole b
+whole-append [] b = omega arith
+whole-append (count ∷ a) b = let more = whole-append a b in omega (arith, more)
 
-abbrev told_if : Bool → Reply → List Reply → Reply × List Reply
-told_if b first behind = if b then ended_by first behind else (first, behind)
+-- the first of some replies stay as they are with others behind them
+take_front : (count : ℕ) (replies others : List Reply) → count ≤ length replies → take count (replies ++ others) ≡ take count replies
+take_front zero replies others few = refl
+take_front (suc count) [] others few = absurd (omega (arith, few))
+take_front (suc count) (reply ∷ replies) others few = ap (λ (l : List Reply). reply ∷ l) (take_front count replies others (omega (arith, few)))
 
-some_if : (b : Bool) → 1 ≤ calls_if b
-some_if true = omega arith
-some_if false = omega arith
+drop_front : (count : ℕ) (replies others : List Reply) → count ≤ length replies → drop count (replies ++ others) ≡ drop count replies ++ others
+drop_front zero replies others few = refl
+drop_front (suc count) [] others few = absurd (omega (arith, few))
+drop_front (suc count) (reply ∷ replies) others few = drop_front count replies others (omega (arith, few))
 
--- replies behind those to a request stay as they are
-told-append : (b : Bool) (first : Reply) (behind others : List Reply) → calls_if b ≤ suc (length behind) → told_if b first (behind ++ others) ≡ ((told_if b first behind).0, (told_if b first behind).1 ++ others)
-told-append true first [] others enough = absurd (omega (arith, enough))
-told-append true first (finished ∷ later) others enough = refl
-told-append false first behind others enough = refl
-
--- each call takes one
-told_left : (b : Bool) (first : Reply) (behind : List Reply) → calls_if b ≤ suc (length behind) → calls_if b + length (told_if b first behind).1 ≡ suc (length behind)
-told_left true first [] enough = absurd (omega (arith, enough))
-told_left true first (finished ∷ later) enough = omega arith
-told_left false first behind enough = omega arith
-
-through-append : (earlier : ℕ) (front more : List (Option Command)) (replies others : List Reply) → made_by (requests_of front) ≡ length replies
-    → answers_to earlier (front ++ more) (replies ++ others) ≡ answers_to earlier front replies ++ answers_to (earlier + numbers_in front) more others
-through-append k [] more [] others all = ap (λ (n : ℕ). answers_to n more others) (omega arith)
-through-append k [] more (reply ∷ replies) others all = absurd (omega (arith, all))
-through-append k (None ∷ front) more replies others all =
-    ap (λ (l : List (List ℕ)). bad_line ∷ l) (through-append k front more replies others all ∙ ap (λ (n : ℕ). answers_to k front replies ++ answers_to (k + n) more others) (sym (none_asked None front refl)))
-through-append k (Some (Crash keep) ∷ front) more replies others all =
-    ap (λ (l : List (List ℕ)). ok_line ∷ l) (through-append k front more replies others all ∙ ap (λ (n : ℕ). answers_to k front replies ++ answers_to (k + n) more others) (sym (none_asked (Some (Crash keep)) front refl)))
-through-append k (Some Reopen ∷ front) more replies others all =
-    ap (λ (l : List (List ℕ)). ok_line ∷ l) (through-append k front more replies others all ∙ ap (λ (n : ℕ). answers_to k front replies ++ answers_to (k + n) more others) (sym (none_asked (Some Reopen) front refl)))
-through-append k (Some (Ask request) ∷ front) more [] others all =
-    let count = sum_by-cons calls_in request (requests_of front) in
-    let some = some_if (has_job request) in
-    absurd (omega (arith, all, count, some))
-through-append k (Some (Ask request) ∷ front) more (reply ∷ replies) others all =
-    let told = reply_to request reply replies in
-    let count = sum_by-cons calls_in request (requests_of front) in
-    let enough : calls_in request ≤ suc (length replies) = omega (arith, all, count) in
-    let left : calls_in request + length told.1 ≡ suc (length replies) = told_left (has_job request) reply replies enough in
-    ap (λ (t : Reply × List Reply). reply_text (k + 1) request t.0 ∷ answers_to (asked_with k request) (front ++ more) t.1) (told-append (has_job request) reply replies others enough)
-    ∙ ap (λ (l : List (List ℕ)). reply_text (k + 1) request told.0 ∷ l)
-    (through-append (asked_with k request) front more told.1 others (omega (arith, all, count, left))
-    ∙ ap (λ (n : ℕ). answers_to (asked_with k request) front told.1 ++ answers_to n more others) (one_asked k request front))
+through-append : (earlier : ℕ) (front more : List (Option Command)) (counts later : List ℕ) (replies others : List Reply) → length counts ≡ length (requests_of front) → whole counts ≡ length replies
+    → answers_to earlier (front ++ more) (counts ++ later) (replies ++ others) ≡ answers_to earlier front counts replies ++ answers_to (earlier + numbers_in front) more later others
+through-append k [] more [] later [] others each all = ap (λ (n : ℕ). answers_to n more later others) (omega arith)
+through-append k [] more [] later (reply ∷ replies) others each all = absurd (omega (arith, all))
+through-append k [] more (count ∷ counts) later replies others each all = absurd (omega (arith, each))
+through-append k (None ∷ front) more counts later replies others each all =
+    ap (λ (l : List (List ℕ)). bad_line ∷ l)
+    (through-append k front more counts later replies others each all ∙ ap (λ (n : ℕ). answers_to k front counts replies ++ answers_to (k + n) more later others) (sym (none_asked None front refl)))
+through-append k (Some (Crash keep) ∷ front) more counts later replies others each all =
+    ap (λ (l : List (List ℕ)). ok_line ∷ l)
+    (through-append k front more counts later replies others each all ∙ ap (λ (n : ℕ). answers_to k front counts replies ++ answers_to (k + n) more later others) (sym (none_asked (Some (Crash keep)) front refl)))
+through-append k (Some Reopen ∷ front) more counts later replies others each all =
+    ap (λ (l : List (List ℕ)). ok_line ∷ l)
+    (through-append k front more counts later replies others each all ∙ ap (λ (n : ℕ). answers_to k front counts replies ++ answers_to (k + n) more later others) (sym (none_asked (Some Reopen) front refl)))
+through-append k (Some (Ask request) ∷ front) more [] later replies others each all = absurd (omega (arith, each))
+through-append k (Some (Ask request) ∷ front) more (count ∷ counts) later replies others each all =
+    let enough : count ≤ length replies = omega (arith, all) in
+    let long : length (drop count replies) ≡ length replies - count = length-drop count replies in
+    let text = λ (l : List Reply). reply_text (k + 1) request (reply_to l) in
+    ap (λ (l : List Reply). text l ∷ answers_to (asked_with k request) (front ++ more) (counts ++ later) (drop count (replies ++ others))) (take_front count replies others enough)
+    ∙ ap (λ (l : List Reply). text (take count replies) ∷ answers_to (asked_with k request) (front ++ more) (counts ++ later) l) (drop_front count replies others enough)
+    ∙ ap (λ (l : List (List ℕ)). text (take count replies) ∷ l)
+    (through-append (asked_with k request) front more counts later (drop count replies) others (omega (arith, each)) (omega (arith, all, long))
+    ∙ ap (λ (n : ℕ). answers_to (asked_with k request) front counts (drop count replies) ++ answers_to n more later others) (one_asked k request front))
 
 -- each call has a reply
 replied : (before : List Reply) (calls : List TxCall) (replies : List Reply) (made : List Call) (told : List Reply) → AllCome before calls replies made told → length calls ≡ length replies
@@ -110,16 +102,16 @@ replied before _ _ _ _ (NoneComes _) = refl
 replied before _ _ _ _ (OneComes _ call reply made told calls replies later heard first rest) = ap suc (replied (before ++ reply ∷ []) calls replies later heard rest)
 
 -- and each request its calls
-as_many : (at : ℕ) (place : ℕ → ℕ) (requests : List Request) (calls : List TxCall) → AreCallsFrom at place requests calls → made_by requests ≡ length calls
-as_many at place [] [] are = refl
-as_many at place [] (call ∷ calls) are = absurd are
-as_many at place (request ∷ rest) [] are = absurd are
-as_many at place (request ∷ rest) (call ∷ calls) are =
-    let count = sum_by-cons calls_in request rest in
-    let mine = finish_is at request in
-    let others = as_many (at + calls_in request) place rest are.1 are.3 in
-    let all = ap length are.2 ∙ length-append (finish_of at request) are.1 in
-    omega (arith, count, mine, others, all)
+as_many : (earlier : ℕ) (so_far : SoFar) (requests : List Request) (made : List (List TxCall)) → AreCallsBehind earlier so_far requests made → length (counts_of made) ≡ length requests
+as_many earlier so_far [] [] are = refl
+as_many earlier so_far [] (mine ∷ made) are = absurd are
+as_many earlier so_far (request ∷ rest) [] are = absurd are
+as_many earlier so_far (request ∷ rest) (mine ∷ made) are = ap suc (as_many earlier (behind so_far request mine) rest made are.1)
+
+-- together they are all
+all_counted : (made : List (List TxCall)) → whole (counts_of made) ≡ length (all_calls made)
+all_counted [] = refl
+all_counted (mine ∷ made) = ap (λ n. length mine + n) (all_counted made) ∙ sym (length-append mine (all_calls made))
 
 -- ---- an opening
 
@@ -137,7 +129,7 @@ goes_nowhere core store opens = record {
 }
 
 -- the calls of a list
-goes_on : (core : Held) (store : Store) (opens : OpensAs core store) (new : Held) (beside : Kept) (asked : Asked) (run : RunsTx true core none_kept asked.calls asked.replies new beside)
+goes_on : (core : Held) (store : Store) (opens : OpensAs core store) (new : Held) (beside : Kept) (asked : Asked) (run : RunsTx true core none_kept (all_calls asked.made) asked.replies new beside)
     → GoesThrough core store opens asked run.made run.told new beside
 goes_on core store opens new beside asked run =
     let there = run.runs refl (told_as core store opens) (stands_as core store opens) opens.reads in
@@ -299,8 +291,9 @@ record LivedSo (commands rest : List (Option Command)) (ran : Bool) (printed : L
   pub through : GoesThrough first (kept (fold base opened.front)) opened.opens last calls replies core beside
   pub parts : Parts front lists lives last calls replies
   pub fresh : ran ≡ false → IsFresh parts.running calls replies last first core beside
-  pub printed_are : printed ≡ answers_to 0 front (replies_of lists ++ last.replies)
-  pub all : made_by (requests_of front) ≡ length (replies_of lists ++ last.replies)
+  pub printed_are : printed ≡ answers_to 0 front (made_of lists ++ counts_of last.made) (replies_of lists ++ last.replies)
+  pub each : length (made_of lists ++ counts_of last.made) ≡ length (requests_of front)
+  pub all : whole (made_of lists ++ counts_of last.made) ≡ length (replies_of lists ++ last.replies)
 
 start_holds : HoldsAmid (state_in new_disk) (bare no_keyspaces) []
 start_holds = holds_store_amid (state_in new_disk) (bare no_keyspaces) bare_holds
@@ -330,27 +323,31 @@ begins_so commands core h =
       parts = parts.0;
       fresh = λ h. record { no_lines = parts.1; no_calls = refl; no_replies = refl; not_asked = refl; same_core = refl; none_beside = refl };
       printed_are = refl;
+      each = refl;
       all = refl;
     }
 
 -- the calls up to the next crash or reopening
-runs : (commands lines rest : List (Option Command)) (old new : Held) (before beside : Kept) (printed : List (List ℕ)) (calls : List TxCall) (replies : List Reply) → LivedSo commands (lines ++ rest) false printed old before → All IsCall lines
-    → AreCalls (numbers_before commands (lines ++ rest)) lines calls → RunsTx true old before calls replies new beside
-    → LivedSo commands rest true (printed ++ answers_to (numbers_before commands (lines ++ rest)) lines replies) new beside
-runs commands lines rest old new before beside printed calls replies s alone are ran =
+runs : (commands lines rest : List (Option Command)) (old new : Held) (before beside : Kept) (printed : List (List ℕ)) (made : List (List TxCall)) (replies : List Reply) → LivedSo commands (lines ++ rest) false printed old before → All IsCall lines
+    → AreCalls (numbers_before commands (lines ++ rest)) lines made → RunsTx true old before (all_calls made) replies new beside
+    → LivedSo commands rest true (printed ++ answers_to (numbers_before commands (lines ++ rest)) lines (counts_of made) replies) new beside
+runs commands lines rest old new before beside printed made replies s alone are ran =
     let store = kept (fold s.base s.opened.front) in
     let opens = s.opened.opens in
     let fresh = s.fresh refl in
-    let asked : Asked = record { calls = calls; replies = replies } in
-    let here : RunsTx true s.first none_kept calls replies new beside =
-    subst (λ (h : Held). RunsTx true h none_kept calls replies new beside) fresh.same_core (subst (λ (k : Kept). RunsTx true old k calls replies new beside) fresh.none_beside ran) in
+    let asked : Asked = record { made = made; replies = replies } in
+    let here : RunsTx true s.first none_kept (all_calls made) replies new beside =
+    subst (λ (h : Held). RunsTx true h none_kept (all_calls made) replies new beside) fresh.same_core (subst (λ (k : Kept). RunsTx true old k (all_calls made) replies new beside) fresh.none_beside ran) in
     let served : Served s.first store opens here.made here.told new = here.safe refl (start_of s.first store opens) (begun s.first store) opens.state opens.reads opens.base in
     let through = goes_on s.first store opens new beside asked here in
     let lived = replies_of s.lists in
     let so_far : lived ++ s.last.replies ≡ lived = ap (λ (a : Asked). lived ++ a.replies) fresh.not_asked ∙ append-nil lived in
+    let counts = made_of s.lists in
+    let counted_so : counts ++ counts_of s.last.made ≡ counts = ap (λ (a : Asked). counts ++ counts_of a.made) fresh.not_asked ∙ append-nil counts in
     let earlier = asked_before commands s.front (lines ++ rest) s.split in
-    let each : made_by (requests_of lines) ≡ length replies = as_many 0 _ (requests_of lines) calls are ∙ replied [] calls replies here.made here.told here.comes in
-    let all : made_by (requests_of s.front) ≡ length lived = s.all ∙ ap length so_far in
+    let mine : whole (counts_of made) ≡ length replies = all_counted made ∙ replied [] (all_calls made) replies here.made here.told here.comes in
+    let each : length counts ≡ length (requests_of s.front) = ap length (sym counted_so) ∙ s.each in
+    let all : whole counts ≡ length lived = ap whole (sym counted_so) ∙ s.all ∙ ap length so_far in
     record {
       front = s.front ++ lines;
       split = s.split ∙ sym (append_assoc s.front lines rest);
@@ -369,7 +366,7 @@ runs commands lines rest old new before beside printed calls replies s alone are
       through = through;
       parts = parts_run s.front lines s.lists s.lives s.last s.calls s.replies asked here.made here.told s.parts fresh.no_lines alone
           (record {
-            are = subst (λ (n : ℕ). AreCalls n lines calls) earlier are;
+            are = subst (λ (n : ℕ). AreCalls n lines made) earlier are;
             come = here.comes;
             core = s.first;
             store = store;
@@ -380,11 +377,13 @@ runs commands lines rest old new before beside printed calls replies s alone are
             through = through;
           });
       fresh = λ h. absurd (true≢false h);
-      printed_are = ap (λ (l : List (List ℕ)). l ++ answers_to (numbers_before commands (lines ++ rest)) lines replies) (s.printed_are ∙ ap (answers_to 0 s.front) so_far)
-          ∙ ap (λ (n : ℕ). answers_to 0 s.front lived ++ answers_to n lines replies) (earlier ∙ omega arith)
-          ∙ sym (through-append 0 s.front lines lived replies all);
-      all = ap made_by (filter_map-append request_of s.front lines) ∙ sum_by-append calls_in (requests_of s.front) (requests_of lines)
-          ∙ ap (λ n. n + made_by (requests_of lines)) all ∙ ap (λ n. length lived + n) each ∙ sym (length-append lived replies);
+      printed_are = ap (λ (l : List (List ℕ)). l ++ answers_to (numbers_before commands (lines ++ rest)) lines (counts_of made) replies)
+          (s.printed_are ∙ ap (answers_to 0 s.front (counts ++ counts_of s.last.made)) so_far ∙ ap (λ (l : List ℕ). answers_to 0 s.front l lived) counted_so)
+          ∙ ap (λ (n : ℕ). answers_to 0 s.front counts lived ++ answers_to n lines (counts_of made) replies) (earlier ∙ omega arith)
+          ∙ sym (through-append 0 s.front lines counts (counts_of made) lived replies each all);
+      each = length-append counts (counts_of made) ∙ ap (λ n. n + length (counts_of made)) each ∙ ap (λ n. length (requests_of s.front) + n) (as_many _ none_so_far (requests_of lines) made are)
+          ∙ sym (ap length (filter_map-append request_of s.front lines) ∙ length-append (requests_of s.front) (requests_of lines));
+      all = whole-append counts (counts_of made) ∙ ap (λ n. n + whole (counts_of made)) all ∙ ap (λ n. length lived + n) mine ∙ sym (length-append lived replies);
     }
 
 -- the life that ended with the old core's
@@ -406,6 +405,8 @@ again commands stop rest printed old new beside s stops synced end next waits en
     let lived = replies_of s.lists in
     let replies : lived ++ s.last.replies ≡ replies_of (s.lists ++ s.last ∷ []) ++ [] =
     ap (λ (l : List Reply). lived ++ l) (sym (append-nil s.last.replies)) ∙ sym (flat_map-append (λ (a : Asked). a.replies) s.lists (s.last ∷ [])) ∙ sym (append-nil (replies_of (s.lists ++ s.last ∷ []))) in
+    let counts : made_of s.lists ++ counts_of s.last.made ≡ made_of (s.lists ++ s.last ∷ []) ++ [] =
+    ap (λ (l : List ℕ). made_of s.lists ++ l) (sym (append-nil (counts_of s.last.made))) ∙ sym (flat_map-append (λ (a : Asked). counts_of a.made) s.lists (s.last ∷ [])) ∙ sym (append-nil (made_of (s.lists ++ s.last ∷ []))) in
     let none : requests_of (s.front ++ stop ∷ []) ≡ requests_of s.front = filter_map-append request_of s.front (stop ∷ []) ∙ ap (λ (l : List Request). requests_of s.front ++ l) (no_call stop stops) ∙ append-nil (requests_of s.front) in
     record {
       front = s.front ++ stop ∷ [];
@@ -426,10 +427,12 @@ again commands stop rest printed old new beside s stops synced end next waits en
       parts = parts.0;
       fresh = λ h. record { no_lines = parts.1; no_calls = refl; no_replies = refl; not_asked = refl; same_core = refl; none_beside = refl };
       printed_are = ap (λ (l : List (List ℕ)). l ++ ok_line ∷ []) s.printed_are
-          ∙ ap (λ (l : List (List ℕ)). answers_to 0 s.front (lived ++ s.last.replies) ++ l) (sym (ok_said (0 + numbers_in s.front) stop stops))
-          ∙ sym (through-append 0 s.front (stop ∷ []) (lived ++ s.last.replies) [] s.all)
-          ∙ ap (answers_to 0 (s.front ++ stop ∷ [])) (append-nil (lived ++ s.last.replies) ∙ replies);
-      all = ap made_by none ∙ s.all ∙ ap length replies;
+          ∙ ap (λ (l : List (List ℕ)). answers_to 0 s.front (made_of s.lists ++ counts_of s.last.made) (lived ++ s.last.replies) ++ l) (sym (ok_said (0 + numbers_in s.front) stop stops))
+          ∙ sym (through-append 0 s.front (stop ∷ []) (made_of s.lists ++ counts_of s.last.made) [] (lived ++ s.last.replies) [] s.each s.all)
+          ∙ ap (λ (l : List ℕ). answers_to 0 (s.front ++ stop ∷ []) l ((lived ++ s.last.replies) ++ [])) (append-nil (made_of s.lists ++ counts_of s.last.made) ∙ counts)
+          ∙ ap (answers_to 0 (s.front ++ stop ∷ []) (made_of (s.lists ++ s.last ∷ []) ++ [])) (append-nil (lived ++ s.last.replies) ∙ replies);
+      each = ap length (sym counts) ∙ s.each ∙ ap length (sym none);
+      all = ap whole (sym counts) ∙ s.all ∙ ap length replies;
     }
   where
     no_call : (found : Option Command) → is_stop found ≡ true → requests_of (found ∷ []) ≡ []
@@ -438,7 +441,7 @@ again commands stop rest printed old new beside s stops synced end next waits en
     no_call None is = absurd (true≢false (sym is))
     no_call (Some (Ask request)) is = absurd (true≢false (sym is))
 
-    ok_said : (earlier : ℕ) (found : Option Command) → is_stop found ≡ true → answers_to earlier (found ∷ []) [] ≡ ok_line ∷ []
+    ok_said : (earlier : ℕ) (found : Option Command) → is_stop found ≡ true → answers_to earlier (found ∷ []) [] [] ≡ ok_line ∷ []
     ok_said earlier (Some (Crash keep)) is = refl
     ok_said earlier (Some Reopen) is = refl
     ok_said earlier None is = absurd (true≢false (sym is))
@@ -476,8 +479,8 @@ restarts (Some (Ask request)) commands rest printed old new beside s h = absurd 
 
 lived_so : (commands rest : List (Option Command)) (ran : Bool) (core : Held) (beside : Kept) (printed : List (List ℕ)) → Session true commands ran core beside printed rest → LivedSo commands rest ran printed core beside
 lived_so commands _ _ _ _ _ (sessions.begun core h) = begins_so commands core h
-lived_so commands _ _ _ _ _ (sessions.run old new before after printed lines rest calls replies s alone stop are ran) =
-    runs commands lines rest old new before after printed calls replies (lived_so commands (lines ++ rest) false old before printed s) alone are ran
+lived_so commands _ _ _ _ _ (sessions.run old new before after printed lines rest made replies s alone stop are ran) =
+    runs commands lines rest old new before after printed made replies (lived_so commands (lines ++ rest) false old before printed s) alone are ran
 lived_so commands _ _ _ _ _ (sessions.restarted old new before printed stop rest s h) = restarts stop commands rest printed old new before (lived_so commands (stop ∷ rest) true old before printed s) h
 
 has_lived : (commands rest : List (Option Command)) (ran : Bool) (core : Held) (beside : Kept) (printed : List (List ℕ)) → Session true commands ran core beside printed rest → HasLived commands rest printed core beside

@@ -14,7 +14,7 @@ use Rattle.fjall_transactions.specs.Transactions.{Kept}
 use Rattle.fjall_script.specs.Answers.{ok_line, text_of}
 use Rattle.fjall_script.specs.Outputs.{AppendsFront, IsIo}
 use Rattle.fjall_script.specs.Machine.{Begins, IsClosed, none_kept}
-use Rattle.fjall_script.specs.Requests.{AreCalls, is_stop, numbers_before, numbers_in}
+use Rattle.fjall_script.specs.Requests.{AreCalls, counts_of, is_stop, numbers_before, numbers_in}
 use Rattle.fjall_script.specs.Sessions.{answers_to, AnsweredFront, EndsBy, failed, FrontFails, half_written, IsAtStop, no_room, NotRestarted, PrintsAll, PrintsUntil, Restarts, RunsFront, RunsLines, Session, begun, run, restarted, no_memory, not_restarted, not_closed, unwritten}
 use Rattle.fjall_script.proofs.Counts.{counted, few, none_asked, stops_ask_none}
 
@@ -58,9 +58,9 @@ ran_on : (honest : Bool) (commands front rest : List (Option Command)) (core aft
 ran_on honest commands front rest core after kept beside asked printed more s is r =
     let here : Session honest commands false core kept printed (r.lines ++ rest) = (let P : List (Option Command) → Type 0 = λ left. Session honest commands false core kept printed left in subst P r.split s) in
     let earlier : numbers_before commands (r.lines ++ rest) ≡ asked = ap (numbers_before commands) (sym r.split) ∙ before_is asked commands front is in
-    let are : AreCalls (numbers_before commands (r.lines ++ rest)) r.lines r.calls = subst (λ (n : ℕ). AreCalls n r.lines r.calls) (sym earlier) r.asked in
-    let same : answers_to (numbers_before commands (r.lines ++ rest)) r.lines r.replies ≡ more = ap (λ (n : ℕ). answers_to n r.lines r.replies) earlier ∙ sym r.printed_are in
-    subst (λ (l : List (List ℕ)). Session honest commands true after beside (printed ++ l) rest) same (run core after kept beside printed r.lines rest r.calls r.replies here r.calls_alone r.stop are r.runs)
+    let are : AreCalls (numbers_before commands (r.lines ++ rest)) r.lines r.made = subst (λ (n : ℕ). AreCalls n r.lines r.made) (sym earlier) r.asked in
+    let same : answers_to (numbers_before commands (r.lines ++ rest)) r.lines (counts_of r.made) r.replies ≡ more = ap (λ (n : ℕ). answers_to n r.lines (counts_of r.made) r.replies) earlier ∙ sym r.printed_are in
+    subst (λ (l : List (List ℕ)). Session honest commands true after beside (printed ++ l) rest) same (run core after kept beside printed r.lines rest r.made r.replies here r.calls_alone r.stop are r.runs)
 
 pub prints_run : (honest : Bool) (commands front rest : List (Option Command)) (core after : Held) (kept beside : Kept) (start old new : Option (List ℕ)) (asked later : ℕ)
     → Prints honest commands false core kept front start old asked → RunsFront honest asked front rest core kept after beside old new later → Prints honest commands true after beside rest start new later

@@ -1,5 +1,5 @@
 -- One more answer is printed.
-use Rattle.std.proofs.Common.{◌≡◌, ℕ, ◌+◌, ◌<◌, List, [], ◌∷◌, ◌++◌, length, drop, get_or, Option, Some, None, sym, ap, ◌∙◌, append_assoc}
+use Rattle.std.proofs.Common.{◌≡◌, ℕ, ◌+◌, ◌<◌, List, [], ◌∷◌, ◌++◌, length, drop, take, get_or, Option, Some, None, sym, ap, ◌∙◌, append_assoc}
 use Rattle.std.proofs.lemmas.List.{drop_more}
 use Rattle.fjall_history.specs.declared.reply.Reply.{Reply}
 use Rattle.fjall_lines.specs.declared.command.Command.{Command}
@@ -20,33 +20,35 @@ add_line text line rest =
     append_assoc (text ++ line) (10 ∷ []) rest ∙ append_assoc text line ((10 ∷ []) ++ rest) ∙ ap (λ (t : List ℕ). text ++ t) (sym (append_assoc line (10 ∷ []) rest))
 
 -- a line whose answer asks for no call
-pub plain_step : (earlier asked : ℕ) (commands : List (Option Command)) (i : ℕ) (found : Option Command) (line : List ℕ) (left later : List Reply) (text mid after whole : List ℕ)
-    → ((rest : List (Option Command)) → answers_to earlier (found ∷ rest) left ≡ line ∷ answers_to earlier rest left)
-    → i < length commands → found ≡ get_or commands i found → asked ≡ earlier → later ≡ left → mid ≡ text ++ line → after ≡ mid ++ 10 ∷ []
-    → text ++ text_of (answers_to earlier (drop i commands) left) ≡ whole
-    → after ++ text_of (answers_to asked (drop (i + 1) commands) later) ≡ whole
-plain_step earlier asked commands i found line left later text mid after whole said lt at count same first last h =
+pub plain_step : (earlier asked : ℕ) (commands : List (Option Command)) (i : ℕ) (found : Option Command) (line : List ℕ) (counts counted : List ℕ) (left later : List Reply) (text mid after whole : List ℕ)
+    → ((rest : List (Option Command)) → answers_to earlier (found ∷ rest) counts left ≡ line ∷ answers_to earlier rest counts left)
+    → i < length commands → found ≡ get_or commands i found → asked ≡ earlier → counted ≡ counts → later ≡ left → mid ≡ text ++ line → after ≡ mid ++ 10 ∷ []
+    → text ++ text_of (answers_to earlier (drop i commands) counts left) ≡ whole
+    → after ++ text_of (answers_to asked (drop (i + 1) commands) counted later) ≡ whole
+plain_step earlier asked commands i found line counts counted left later text mid after whole said lt at count each same first last h =
     let next = next_is commands i found lt at in
     let answer = said (drop (i + 1) commands) in
-    let here : text ++ text_of (line ∷ answers_to earlier (drop (i + 1) commands) left) ≡ whole = rw (next, answer) at h in
-    rw (last, first, same, count) (add_line text line (text_of (answers_to earlier (drop (i + 1) commands) left)) ∙ here)
+    let here : text ++ text_of (line ∷ answers_to earlier (drop (i + 1) commands) counts left) ≡ whole = rw (next, answer) at h in
+    rw (last, first, same, each, count) (add_line text line (text_of (answers_to earlier (drop (i + 1) commands) counts left)) ∙ here)
 
-pub bad_said : (earlier : ℕ) (found : Option Command) (left : List Reply) → found ≡ None → (rest : List (Option Command)) → answers_to earlier (found ∷ rest) left ≡ bad_line ∷ answers_to earlier rest left
-bad_said earlier found left none rest = ap (λ (f : Option Command). answers_to earlier (f ∷ rest) left) none
+pub bad_said : (earlier : ℕ) (found : Option Command) (counts : List ℕ) (left : List Reply) → found ≡ None → (rest : List (Option Command)) → answers_to earlier (found ∷ rest) counts left ≡ bad_line ∷ answers_to earlier rest counts left
+bad_said earlier found counts left none rest = ap (λ (f : Option Command). answers_to earlier (f ∷ rest) counts left) none
 
-pub crash_said : (earlier : ℕ) (found : Option Command) (left : List Reply) (keep : ℕ) → found ≡ Some (Crash keep) → (rest : List (Option Command)) → answers_to earlier (found ∷ rest) left ≡ ok_line ∷ answers_to earlier rest left
-crash_said earlier found left keep is rest = ap (λ (f : Option Command). answers_to earlier (f ∷ rest) left) is
+pub crash_said : (earlier : ℕ) (found : Option Command) (counts : List ℕ) (left : List Reply) (keep : ℕ) → found ≡ Some (Crash keep) → (rest : List (Option Command))
+    → answers_to earlier (found ∷ rest) counts left ≡ ok_line ∷ answers_to earlier rest counts left
+crash_said earlier found counts left keep is rest = ap (λ (f : Option Command). answers_to earlier (f ∷ rest) counts left) is
 
-pub reopen_said : (earlier : ℕ) (found : Option Command) (left : List Reply) → found ≡ Some Reopen → (rest : List (Option Command)) → answers_to earlier (found ∷ rest) left ≡ ok_line ∷ answers_to earlier rest left
-reopen_said earlier found left is rest = ap (λ (f : Option Command). answers_to earlier (f ∷ rest) left) is
+pub reopen_said : (earlier : ℕ) (found : Option Command) (counts : List ℕ) (left : List Reply) → found ≡ Some Reopen → (rest : List (Option Command)) → answers_to earlier (found ∷ rest) counts left ≡ ok_line ∷ answers_to earlier rest counts left
+reopen_said earlier found counts left is rest = ap (λ (f : Option Command). answers_to earlier (f ∷ rest) counts left) is
 
-pub reply_step : (earlier asked number : ℕ) (commands : List (Option Command)) (i : ℕ) (found : Option Command) (request : Request) (left behind later : List Reply) (begun reply : Reply) (text mid after whole : List ℕ)
-    → i < length commands → found ≡ get_or commands i found → found ≡ Some (Ask request) → left ≡ begun ∷ behind → reply ≡ (reply_to request begun behind).0 → later ≡ (reply_to request begun behind).1
-    → number ≡ earlier + 1 → asked ≡ asked_with earlier request → mid ≡ text ++ reply_text number request reply → after ≡ mid ++ 10 ∷ []
-    → text ++ text_of (answers_to earlier (drop i commands) left) ≡ whole
-    → after ++ text_of (answers_to asked (drop (i + 1) commands) later) ≡ whole
-reply_step earlier asked number commands i found request left behind later begun reply text mid after whole lt at some split told others counted more first last h =
+-- a line with its calls
+pub reply_step : (earlier asked number : ℕ) (commands : List (Option Command)) (i : ℕ) (found : Option Command) (request : Request) (counts counted : List ℕ) (count : ℕ) (left mine later : List Reply) (text mid after whole : List ℕ)
+    → i < length commands → found ≡ get_or commands i found → found ≡ Some (Ask request) → counts ≡ count ∷ counted → mine ≡ take count left → later ≡ drop count left
+    → number ≡ earlier + 1 → asked ≡ asked_with earlier request → mid ≡ text ++ reply_text number request (reply_to mine) → after ≡ mid ++ 10 ∷ []
+    → text ++ text_of (answers_to earlier (drop i commands) counts left) ≡ whole
+    → after ++ text_of (answers_to asked (drop (i + 1) commands) counted later) ≡ whole
+reply_step earlier asked number commands i found request counts counted count left mine later text mid after whole lt at some split own others numbered more first last h =
     let next = next_is commands i found lt at in
-    let here : text ++ text_of (answers_to earlier (Some (Ask request) ∷ drop (i + 1) commands) (begun ∷ behind)) ≡ whole = rw (next, some, split) at h in
-    rw (last, first, counted, more, told, others)
-    (add_line text (reply_text (earlier + 1) request (reply_to request begun behind).0) (text_of (answers_to (asked_with earlier request) (drop (i + 1) commands) (reply_to request begun behind).1)) ∙ here)
+    let here : text ++ text_of (answers_to earlier (Some (Ask request) ∷ drop (i + 1) commands) (count ∷ counted) left) ≡ whole = rw (next, some, split) at h in
+    rw (last, first, numbered, more, own, others)
+    (add_line text (reply_text (earlier + 1) request (reply_to (take count left))) (text_of (answers_to (asked_with earlier request) (drop (i + 1) commands) counted (drop count left))) ∙ here)

@@ -46,3 +46,8 @@ on_ok (Err e) P h = tt
 pub on_err : {A E : Type 0} (r : Result A E) (P : Type 0) → P → OnErr r P
 on_err (Ok x) P h = tt
 on_err (Err e) P h = h
+
+-- whether it failed or not, a beginning was written
+pub front_of_both : {A E : Type 0} (r : Result A E) (old new : Option (List ℕ)) (text : List ℕ) → OnOk r (Appends old new text) → OnErr r (AppendsFront old new text) → AppendsFront old new text
+front_of_both (Ok x) old new text ok err = (text, [], sym (append-nil text), ok)
+front_of_both (Err e) old new text ok err = err

@@ -1,5 +1,5 @@
 -- What is printed.
-use Rattle.std.specs.Prelude.{ℕ, Bool, List, [], ◌∷◌, ◌++◌, if◌then◌else◌, length, codes, decimal, Some, None, true, false}
+use Rattle.std.specs.Prelude.{ℕ, Bool, List, [], ◌∷◌, ◌++◌, if◌then◌else◌, length, codes, decimal, not, Some, None, true, false}
 use Rattle.std.specs.List.{flat_map}
 use Rattle.fjall_base.specs.declared.error.Error.{Error}
 use Rattle.fjall_base.specs.Errors.{number_of, name_of}
@@ -9,7 +9,6 @@ use Rattle.fjall_history.specs.declared.reply.Reply.TheVariants.{Began, Done, Id
 use Rattle.fjall_lines.specs.declared.command.Request.{Request}
 use Rattle.fjall_lines.specs.declared.command.Request.TheVariants.{Begin, Commit, Gc, Keyspace, Len}
 use Rattle.fjall_lines.specs.Lines.{hex_word}
-use Rattle.fjall_script.specs.Requests.{has_job}
 
 -- a refusal: its number and its name
 abbrev pub refusal_text : Error → List ℕ
@@ -18,6 +17,10 @@ refusal_text error = codes "error " ++ (decimal (number_of error) ++ (codes " " 
 -- a refusal's line
 abbrev pub refusal_line : Error → List ℕ
 refusal_line error = refusal_text error ++ 10 ∷ []
+
+-- the line that wrong arguments are answered
+abbrev pub usage_line : List ℕ
+usage_line = codes "usage: fjall-run memory|FOLDER" ++ 10 ∷ []
 
 -- a pair: the key, an equals sign and the value
 abbrev pub pair_word : Bytes × Bytes → List ℕ
@@ -30,19 +33,20 @@ pairs_text pairs = codes "pairs" ++ flat_map (λ pair. codes " " ++ pair_word pa
 abbrev pub count_text : ℕ → List ℕ
 count_text count = codes "count " ++ decimal count
 
--- the reply to a flush or a merge, by those to its two calls: where a job was begun, that to its finish
-abbrev pub ended : Reply → Reply → Reply
-ended (Began (Some job)) finished = finished
-ended begun finished = begun
+-- A reply that says nothing of its line: a job isn't out, so that it could not be finished; or one was begun, or there was none to begin.
+abbrev pub is_idle : Reply → Bool
+is_idle (Flag done) = not done
+is_idle (Began job) = true
+is_idle reply = false
 
--- the same of the reply to its first call and those behind it, and what is left of these
-abbrev pub ended_by : Reply → List Reply → Reply × List Reply
-ended_by begun [] = (begun, [])
-ended_by begun (finished ∷ later) = (ended begun finished, later)
+-- the last of these replies that says something, and else the one before them
+abbrev pub last_said : Reply → List Reply → Reply
+last_said before [] = before
+last_said before (reply ∷ replies) = last_said (if is_idle reply then before else reply) replies
 
--- The reply to a request, by that to its first call and those behind it, and what is left of these for later requests.
-abbrev pub reply_to : Request → Reply → List Reply → Reply × List Reply
-reply_to request first behind = if has_job request then ended_by first behind else (first, behind)
+-- The reply to a request, by those to its calls: the last that says something, and that nothing was done where none does.
+abbrev pub reply_to : List Reply → Reply
+reply_to replies = last_said (Flag false) replies
 
 -- the answer to a request that is done: a transaction that begins is told by its number
 abbrev pub done_text : ℕ → Request → List ℕ

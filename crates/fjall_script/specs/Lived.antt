@@ -21,17 +21,17 @@ use Rattle.fjall_calls.specs.Worlds.{World, begins}
 use Rattle.fjall_calls.specs.Serving.{AllCome}
 use Rattle.fjall_lines.specs.declared.command.Command.{Command}
 use Rattle.fjall_script.specs.Machine.{new_disk}
-use Rattle.fjall_script.specs.Requests.{AreCalls, is_stop, numbers_in}
+use Rattle.fjall_script.specs.Requests.{AreCalls, all_calls, counts_of, is_stop, numbers_in}
 use Rattle.fjall_script.specs.Sessions.{answers_to}
 
--- The calls of a list, and what they were replied.
+-- The calls of a list, those of each request together, and what they were replied.
 pub record Asked : Type 0 where
-  pub calls : List TxCall
+  pub made : List (List TxCall)
   pub replies : List Reply
 
 -- none was made yet
 abbrev pub unasked : Asked
-unasked = record { calls = []; replies = [] }
+unasked = record { made = []; replies = [] }
 
 -- the state of the machine that a core opened as, of which nothing is accepted since
 abbrev pub told_as : (core : Held) (store : Store) → OpensAs core store → Told
@@ -41,15 +41,15 @@ told_as core store opens = record { state = start_of core store opens; accepted 
 -- core; and now it may stand for the world that they lead to, with what is kept beside it.
 pub record GoesThrough (core : Held) (store : Store) (opens : OpensAs core store) (asked : Asked) (made : List Call) (told : List Reply) (new : Held) (beside : Kept) : Type 0 where
   pub world : World
-  pub steps : TxRun (begins (told_as core store opens) None) [] asked.calls asked.replies made told world
+  pub steps : TxRun (begins (told_as core store opens) None) [] (all_calls asked.made) asked.replies made told world
   pub stands : StandFor new beside world.told
   pub reads : ReadsOn new world.told.state
 
 -- A list of lines was served, where so many numbers were asked for before, by the calls that they make, which got their replies and came
 -- to the calls of the core of one life, of an engine that opened so.
 pub record IsServed (earlier : ℕ) (lines : List (Option Command)) (asked : Asked) (made : List Call) (told : List Reply) : Type 0 where
-  pub are : AreCalls earlier lines asked.calls
-  pub come : AllCome [] asked.calls asked.replies made told
+  pub are : AreCalls earlier lines asked.made
+  pub come : AllCome [] (all_calls asked.made) asked.replies made told
   pub core : Held
   pub store : Store
   pub opens : OpensAs core store
@@ -70,6 +70,10 @@ served_in life = (life.calls, life.replies)
 -- all replies of these lists, in order
 abbrev pub replies_of : List Asked → List Reply
 replies_of others = flat_map (λ asked. asked.replies) others
+
+-- and how many calls each of their requests made
+abbrev pub made_of : List Asked → List ℕ
+made_of others = flat_map (λ asked. counts_of asked.made) others
 
 -- A session has come as far as this rest. Each crash and each reopening ended the life of an engine, and the core as it stands
 -- is of one more: the calls of the lines between one crash or reopening and the next came to the calls of each. What was printed are
@@ -93,7 +97,7 @@ pub record HasLived (commands rest : List (Option Command)) (printed : List (Lis
   pub last : Asked
   pub through : GoesThrough first (kept (fold base opened.front)) opened.opens last calls replies core beside
   pub calls_are : AreServed 0 (slice_split is_stop front) (lists ++ last ∷ []) (map served_in lives ++ (calls, replies) ∷ [])
-  pub printed_are : printed ≡ answers_to 0 front (replies_of lists ++ last.replies)
+  pub printed_are : printed ≡ answers_to 0 front (made_of lists ++ counts_of last.made) (replies_of lists ++ last.replies)
   pub fronts : List (List store.Command)
   pub left : AreLeftOf lives fronts
   pub stands : OpensAs first (kept (fold (bare no_keyspaces) (all_left fronts)))

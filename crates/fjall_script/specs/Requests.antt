@@ -1,6 +1,6 @@
 -- The calls that lines make, and the snapshots and transactions that they name.
-use Rattle.std.specs.Prelude.{◌≡◌, ℕ, ◌+◌, ◌-◌, ◌^◌, Bool, true, false, if◌then◌else◌, List, [], ◌∷◌, ◌++◌, length, map, Option, Some, None, slice_get, unwrap_or, Vec}
-use Rattle.std.specs.List.{count_by, filter_map}
+use Rattle.std.specs.Prelude.{◌≡◌, ℕ, ◌+◌, ◌-◌, ◌^◌, ◌==◌, Bool, true, false, if◌then◌else◌, List, [], ◌∷◌, ◌++◌, length, map, Option, Some, None, slice_get, unwrap_or, Vec}
+use Rattle.std.specs.List.{count_by, filter_map, flat_map}
 use Rattle.std.specs.declared.alloc.Global.{Global}
 use Rattle.std.specs.declared.ops.Bound.TheVariants.{Unbounded}
 use Rattle.fjall_base.specs.Pairs.{Bytes}
@@ -23,6 +23,9 @@ use Rattle.fjall_lines.specs.declared.command.Command.TheVariants.{Ask, Crash, R
 use Rattle.fjall_lines.specs.declared.command.Request.{Request}
 use Rattle.fjall_lines.specs.declared.command.Request.TheVariants.{Keyspace, Delete, Insert, Remove, RemoveWeak, Clear, Batch, Get, Len, Scan, Snapshot, GetAt, CloseSnapshot, Begin, TxGet, TxInsert, Commit, Gc, Rotate, Flush, Merge, Persist}
 use Rattle.fjall_lines.specs.Lines.{Write}
+use Rattle.fjall_script.specs.declared.calls.Job.{Job}
+use Rattle.fjall_script.specs.declared.calls.Job.TheVariants as jobs
+use Rattle.fjall_script.specs.declared.calls.LineCalls.{LineCalls}
 use Rattle.fjall_script.specs.declared.calls.Numbers.{Numbers}
 
 -- what a line asks of the engine; none for one that is no command, a crash or a reopening
@@ -66,35 +69,17 @@ numbers_before script rest = numbers_in script - numbers_in rest
 
 -- ---- calls
 
--- it makes two calls: a flush or a merge is begun, and then finished
-abbrev pub has_job : Request → Bool
-has_job (Flush id) = true
-has_job (Merge id) = true
-has_job request = false
-
--- how many calls it makes
-abbrev pub calls_in : Request → ℕ
-calls_in request = if has_job request then 2 else 1
-
 -- the place of no call
 abbrev pub nowhere : ℕ
 nowhere = 2 ^ 64 - 1
 
--- the places of the calls that open a snapshot or begin a transaction, where that of the first request has this one
-abbrev pub openings_from : ℕ → List Request → List ℕ
-openings_from place [] = []
-openings_from place (request ∷ rest) = if opens request then place ∷ openings_from (place + calls_in request) rest else openings_from (place + calls_in request) rest
-
--- The place of the call that a number was given to, among these places, and among the calls for the requests of one list, where so
--- many were asked for before it. One that another list asked for, or none did, stands nowhere.
+-- The place of the call that a number was given to, among these places, those of the calls of one list that opened a snapshot or began a
+-- transaction, where so many numbers were asked for before it. One that another list asked for, or none did, stands nowhere.
 abbrev pub place_in : List ℕ → ℕ → ℕ → ℕ
 place_in places earlier number = unwrap_or (slice_get places (number - earlier)) nowhere
 
 abbrev pub place_by : Numbers → ℕ → ℕ
 place_by numbers number = place_in numbers.places.items numbers.earlier number
-
-abbrev pub place_of : ℕ → List Request → ℕ → ℕ
-place_of earlier requests number = place_in (nowhere ∷ openings_from 0 requests) earlier number
 
 -- within a list of calls a ticket is named by the place of the call that opened it
 abbrev pub named : ℕ → Ticket
@@ -118,7 +103,7 @@ pub record IsBatch (writes : List Write) (call : TxCall) : Type 0 where
   pub is : call ≡ tx.Core (calls.CommitBatch items (Some Buffer))
   pub same : items.items ≡ map item_of writes
 
--- The call that a request makes, for a flush and a merge the first of two, where numbers stand for these places: one of the core, or one that begins,
+-- The call that a request makes, for a flush and a merge the one that begins it, where numbers stand for these places: one of the core, or one that begins,
 -- is within, or commits an optimistic transaction.
 abbrev pub IsCallOf : (ℕ → ℕ) → Request → TxCall → Type 0
 IsCallOf place (Keyspace name) call = call ≡ tx.Core (calls.Keyspace name default_options)
@@ -148,27 +133,113 @@ IsCallOf place Persist call = call ≡ tx.Core (calls.Persist SyncAll)
 abbrev pub begun_at : ℕ → JobId
 begun_at place = record { number = place; keyspace_id = 0 }
 
--- the call that finishes the job that a request began
-abbrev pub finishes : Request → JobId → Call
-finishes (Merge id) job = calls.MergeFinish job
-finishes request job = calls.FlushFinish job
+-- ---- jobs
 
--- the calls behind the first of a request, which has this place: the job that it began is finished
-abbrev pub finish_of : ℕ → Request → List TxCall
-finish_of place request = if has_job request then tx.Core (finishes request (begun_at place)) ∷ [] else []
+-- the job that a request asks for: to flush a keyspace, or to merge its tables
+abbrev pub job_of : Request → Option Job
+job_of (Flush id) = Some (jobs.Flush id)
+job_of (Merge id) = Some (jobs.Merge id)
+job_of request = None
 
--- the calls of requests one after another, where the first call has this place
-abbrev pub AreCallsFrom : ℕ → (ℕ → ℕ) → List Request → List TxCall → Type 0
-AreCallsFrom at place [] [] = Unit {0}
-AreCallsFrom at place (request ∷ rest) (call ∷ calls) =
-    IsCallOf place request call × (later : List TxCall) × (calls ≡ finish_of at request ++ later) × AreCallsFrom (at + calls_in request) place rest later
-AreCallsFrom at place requests calls = ⊥
+-- they are of one kind and of one keyspace
+abbrev pub is_same : Job → Job → Bool
+is_same (jobs.Flush id) (jobs.Flush other) = id == other
+is_same (jobs.Merge id) (jobs.Merge other) = id == other
+is_same job other = false
 
--- A line added its calls to those of the lines before it: those of its request, where it has one.
-abbrev pub AddsCalls : (ℕ → ℕ) → Option Request → List TxCall → List TxCall → Type 0
-AddsCalls place None old new = new ≡ old
-AddsCalls place (Some request) old new = (call : TxCall) × IsCallOf place request call × (new ≡ old ++ call ∷ finish_of (length old) request)
+-- the call that finishes a job, which the call at this place began
+abbrev pub finish_of : Job → ℕ → TxCall
+finish_of (jobs.Flush id) place = tx.Core (calls.FlushFinish (begun_at place))
+finish_of (jobs.Merge id) place = tx.Core (calls.MergeFinish (begun_at place))
 
--- the calls of one list of lines, where so many numbers were asked for before it
-abbrev pub AreCalls : ℕ → List (Option Command) → List TxCall → Type 0
-AreCalls earlier lines calls = AreCallsFrom 0 (place_of earlier (requests_of lines)) (requests_of lines) calls
+-- The calls that finish what earlier lines may have left of a job: each that was begun, by its place. One whose finish was refused is out
+-- still, and each other one is out no more.
+abbrev pub left_of : Job → List (Job × ℕ) → List TxCall
+left_of job [] = []
+left_of job (begun ∷ rest) = if is_same job begun.0 then finish_of job begun.1 ∷ left_of job rest else left_of job rest
+
+-- ---- lists of calls
+
+-- The calls of a list so far: how many they are, the places of those that opened a snapshot or began a transaction, behind one that stands
+-- nowhere, and the jobs that were begun, each with the place of the call that began it.
+pub record SoFar : Type 0 where
+  pub count : ℕ
+  pub numbered : List ℕ
+  pub begun : List (Job × ℕ)
+
+abbrev pub none_so_far : SoFar
+none_so_far = record { count = 0; numbered = nowhere ∷ []; begun = [] }
+
+-- where the call of a request gets this place: one more opens or begins
+abbrev pub numbered_with : List ℕ → ℕ → Request → List ℕ
+numbered_with places place request = if opens request then places ++ place ∷ [] else places
+
+-- The calls of a line behind so many, whose own call is this one. What earlier lines left of its job is finished first; then another is begun,
+-- and finished.
+abbrev pub calls_with : List (Job × ℕ) → ℕ → Option Job → TxCall → List TxCall
+calls_with begun count None call = call ∷ []
+calls_with begun count (Some job) call = let left = left_of job begun in left ++ call ∷ finish_of job (count + length left) ∷ []
+
+-- the jobs that were begun by then
+abbrev pub begun_with : List (Job × ℕ) → ℕ → Option Job → List (Job × ℕ)
+begun_with begun count None = begun
+begun_with begun count (Some job) = begun ++ (job, count + length (left_of job begun)) ∷ []
+
+-- with the calls of one more request
+abbrev pub behind : SoFar → Request → List TxCall → SoFar
+behind so_far request mine = record {
+  count = so_far.count + length mine;
+  numbered = numbered_with so_far.numbered so_far.count request;
+  begun = begun_with so_far.begun so_far.count (job_of request);
+}
+
+-- the calls that a request makes behind others, where so many numbers were asked for before the list
+abbrev pub Makes : ℕ → SoFar → Request → List TxCall → Type 0
+Makes earlier so_far request mine =
+    (call : TxCall) × IsCallOf (place_in so_far.numbered earlier) request call × (mine ≡ calls_with so_far.begun so_far.count (job_of request) call)
+
+-- the calls of requests one after another, those of each together, behind others
+abbrev pub AreCallsBehind : ℕ → SoFar → List Request → List (List TxCall) → Type 0
+AreCallsBehind earlier so_far [] [] = Unit {0}
+AreCallsBehind earlier so_far (request ∷ rest) (mine ∷ made) = Makes earlier so_far request mine × AreCallsBehind earlier (behind so_far request mine) rest made
+AreCallsBehind earlier so_far requests made = ⊥
+
+-- the calls of one list of lines, those of each request together, where so many numbers were asked for before it
+abbrev pub AreCalls : ℕ → List (Option Command) → List (List TxCall) → Type 0
+AreCalls earlier lines made = AreCallsBehind earlier none_so_far (requests_of lines) made
+
+-- all of them, in order
+abbrev pub all_calls : List (List TxCall) → List TxCall
+all_calls made = flat_map (λ mine. mine) made
+
+-- how many each request makes
+abbrev pub counts_of : List (List TxCall) → List ℕ
+counts_of made = map (λ mine. length mine) made
+
+-- ---- how they are kept
+
+-- the list so far
+abbrev pub so_far_in : LineCalls → SoFar
+so_far_in lines = record { count = length lines.calls.items; numbered = lines.numbers.places.items; begun = lines.begun.items }
+
+-- A request added its calls.
+pub record AddsCalls (request : Request) (old new : LineCalls) : Type 0 where
+  pub mine : List TxCall
+  pub makes : Makes old.numbers.earlier (so_far_in old) request mine
+  pub calls : new.calls.items ≡ old.calls.items ++ mine
+  pub counts : new.counts.items ≡ old.counts.items ++ length mine ∷ []
+  pub numbered : new.numbers.places.items ≡ numbered_with old.numbers.places.items (length old.calls.items) request
+  pub begun : new.begun.items ≡ begun_with old.begun.items (length old.calls.items) (job_of request)
+  pub earlier : new.numbers.earlier ≡ old.numbers.earlier
+
+-- A line added its calls, where it has a request.
+abbrev pub LineAdds : Option Request → LineCalls → LineCalls → Type 0
+LineAdds None old new = new ≡ old
+LineAdds (Some request) old new = AddsCalls request old new
+
+-- They are those of these lines.
+pub record AreOfLines (earlier : ℕ) (lines : List (Option Command)) (found : LineCalls) : Type 0 where
+  pub made : List (List TxCall)
+  pub are : AreCalls earlier lines made
+  pub calls : found.calls.items ≡ all_calls made
+  pub counts : found.counts.items ≡ counts_of made

@@ -1,5 +1,5 @@
 -- What a session prints: the answers to its commands, in turn.
-use Rattle.std.specs.Prelude.{◌≡◌, ℕ, ◌+◌, Bool, true, false, List, [], ◌∷◌, ◌++◌, Option, Some, None, Result, Err, IsTrue, All, ◌⊎◌}
+use Rattle.std.specs.Prelude.{◌≡◌, ℕ, ◌+◌, Bool, true, false, List, [], ◌∷◌, ◌++◌, take, drop, Option, Some, None, Result, Err, IsTrue, All, ◌⊎◌}
 use Rattle.std.specs.Io.KnownBytes.{Appends, Keeps}
 use Rattle.fjall_base.specs.Crash.{crashed}
 use Rattle.fjall_base.specs.Disk.{Meaning, IsImage, disk_of, state_in}
@@ -10,26 +10,26 @@ use Rattle.fjall_transactions.specs.Transactions.{Kept}
 use Rattle.fjall_calls.specs.declared.call.TxCall.{TxCall}
 use Rattle.fjall_calls.specs.Serving.{RunsTx}
 use Rattle.fjall_history.specs.declared.reply.Reply.{Reply}
-use Rattle.fjall_history.specs.declared.reply.Reply.TheVariants.{Began, Done, Flag, Value, Pairs, Number, Opened, Refused}
+use Rattle.fjall_history.specs.declared.reply.Reply.TheVariants.{Done, Flag, Value, Pairs, Number, Opened, Refused}
 use Rattle.fjall_lines.specs.declared.command.Command.{Command}
 use Rattle.fjall_lines.specs.declared.command.Command.TheVariants.{Ask, Crash, Reopen}
 use Rattle.fjall_lines.specs.declared.command.Request.{Request}
 use Rattle.fjall_lines.specs.declared.command.Request.TheVariants.{Keyspace, Delete, Insert, Remove, RemoveWeak, Clear, Batch, Get, Len, Scan, Snapshot, GetAt, CloseSnapshot, Begin, TxGet, TxInsert, Commit, Gc, Rotate, Flush, Merge, Persist}
 use Rattle.fjall_script.specs.Answers.{reply_text, reply_to, bad_line, ok_line, text_of}
 use Rattle.fjall_script.specs.Outputs.{AppendsFront, IsIo}
-use Rattle.fjall_script.specs.Requests.{AreCalls, asked_with, is_stop, numbers_before, numbers_in}
+use Rattle.fjall_script.specs.Requests.{AreCalls, all_calls, asked_with, counts_of, is_stop, numbers_before, numbers_in}
 use Rattle.fjall_script.specs.Machine.{Begins, Closes, Crashes, IsNoDisk, RefusedOn, Reopens, IsClosed, none_kept}
 
--- The answers to lines by the replies to their calls, in turn, where so many numbers were asked for before: ok for a crash
--- and a reopening, and a line that is no command has an answer of its own.
-abbrev pub answers_to : ℕ → List (Option Command) → List Reply → List (List ℕ)
-answers_to earlier [] replies = []
-answers_to earlier (None ∷ rest) replies = bad_line ∷ answers_to earlier rest replies
-answers_to earlier (Some (Ask request) ∷ rest) [] = []
-answers_to earlier (Some (Ask request) ∷ rest) (reply ∷ replies) =
-    let told = reply_to request reply replies in reply_text (earlier + 1) request told.0 ∷ answers_to (asked_with earlier request) rest told.1
-answers_to earlier (Some (Crash keep) ∷ rest) replies = ok_line ∷ answers_to earlier rest replies
-answers_to earlier (Some Reopen ∷ rest) replies = ok_line ∷ answers_to earlier rest replies
+-- The answers to lines by the replies to their calls, in turn, so many to each request, where so many numbers were asked for before: ok
+-- for a crash and a reopening, and a line that is no command has an answer of its own.
+abbrev pub answers_to : ℕ → List (Option Command) → List ℕ → List Reply → List (List ℕ)
+answers_to earlier [] counts replies = []
+answers_to earlier (None ∷ rest) counts replies = bad_line ∷ answers_to earlier rest counts replies
+answers_to earlier (Some (Ask request) ∷ rest) [] replies = []
+answers_to earlier (Some (Ask request) ∷ rest) (count ∷ counts) replies =
+    reply_text (earlier + 1) request (reply_to (take count replies)) ∷ answers_to (asked_with earlier request) rest counts (drop count replies)
+answers_to earlier (Some (Crash keep) ∷ rest) counts replies = ok_line ∷ answers_to earlier rest counts replies
+answers_to earlier (Some Reopen ∷ rest) counts replies = ok_line ∷ answers_to earlier rest counts replies
 
 -- what the reply to a request may be: what the request asks for, or a refusal
 abbrev pub IsReplyTo : Request → Reply → Type 0
@@ -54,9 +54,7 @@ IsReplyTo (Commit number) (Flag is_committed) = Unit {0}
 IsReplyTo Gc (Number watermark) = Unit {0}
 IsReplyTo (Rotate id) (Flag is_sealed) = Unit {0}
 IsReplyTo (Flush id) (Flag is_finished) = Unit {0}
-IsReplyTo (Flush id) (Began None) = Unit {0}
 IsReplyTo (Merge id) (Flag is_finished) = Unit {0}
-IsReplyTo (Merge id) (Began None) = Unit {0}
 IsReplyTo Persist Done = Unit {0}
 IsReplyTo request reply = ⊥
 
@@ -111,10 +109,10 @@ NotRestarted honest stop old error = IsNoDisk honest error ⊎ ((disk : Meaning)
 -- that opens begins without transactions.
 pub data Session (honest : Bool) (commands : List (Option Command)) : Bool → Held → Kept → List (List ℕ) → List (Option Command) → Type 0 where
   begun : (core : Held) → Begins honest core → Session honest commands false core none_kept [] commands
-  run : (old new : Held) (before after : Kept) (printed : List (List ℕ)) (lines rest : List (Option Command)) (calls : List TxCall) (replies : List Reply)
+  run : (old new : Held) (before after : Kept) (printed : List (List ℕ)) (lines rest : List (Option Command)) (made : List (List TxCall)) (replies : List Reply)
       → Session honest commands false old before printed (lines ++ rest) → All (λ found. is_stop found ≡ false) lines → IsAtStop rest
-      → AreCalls (numbers_before commands (lines ++ rest)) lines calls → RunsTx honest old before calls replies new after
-      → Session honest commands true new after (printed ++ answers_to (numbers_before commands (lines ++ rest)) lines replies) rest
+      → AreCalls (numbers_before commands (lines ++ rest)) lines made → RunsTx honest old before (all_calls made) replies new after
+      → Session honest commands true new after (printed ++ answers_to (numbers_before commands (lines ++ rest)) lines (counts_of made) replies) rest
   restarted : (old new : Held) (before : Kept) (printed : List (List ℕ)) (stop : Option Command) (rest : List (Option Command))
       → Session honest commands true old before printed (stop ∷ rest) → Restarts honest stop old new
       → Session honest commands false new none_kept (printed ++ ok_line ∷ []) rest
@@ -154,14 +152,14 @@ pub record PrintsUntil (honest : Bool) (commands : List (Option Command)) (error
 -- The calls before the first crash or reopening were one run, where so many numbers were asked for before.
 pub record RunsLines (honest : Bool) (earlier : ℕ) (commands rest : List (Option Command)) (core : Held) (kept : Kept) (after : Held) (left : Kept) (printed : List (List ℕ)) : Type 0 where
   pub lines : List (Option Command)
-  pub calls : List TxCall
+  pub made : List (List TxCall)
   pub replies : List Reply
   pub split : commands ≡ lines ++ rest
   pub calls_alone : All (λ found. is_stop found ≡ false) lines
   pub stop : IsAtStop rest
-  pub asked : AreCalls earlier lines calls
-  pub runs : RunsTx honest core kept calls replies after left
-  pub printed_are : printed ≡ answers_to earlier lines replies
+  pub asked : AreCalls earlier lines made
+  pub runs : RunsTx honest core kept (all_calls made) replies after left
+  pub printed_are : printed ≡ answers_to earlier lines (counts_of made) replies
 
 -- These are their answers, and so many numbers were asked for by then.
 pub record AnsweredFront (honest : Bool) (earlier : ℕ) (commands rest : List (Option Command)) (core : Held) (kept : Kept) (after : Held) (left : Kept) (text : List ℕ) (asked : ℕ) : Type 0 where

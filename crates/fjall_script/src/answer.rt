@@ -2,9 +2,8 @@
 
 ghost use Rattle.std.specs.Prelude.{◌≡◌, IfOk, Some, string_bytes};
 ghost use Rattle.fjall_lines.specs.Lines.{hex_word};
-ghost use Rattle.fjall_script.specs.Answers.{done_text, flag_text, ended, number_text, pairs_text, refusal_text, reply_text, reply_to};
+ghost use Rattle.fjall_script.specs.Answers.{done_text, flag_text, is_idle, last_said, number_text, pairs_text, refusal_text, reply_text, reply_to};
 
-use crate::calls::has_job;
 use fjall_base::{Error, KvPair, Slice};
 use fjall_core::Reply;
 use fjall_lines::Request;
@@ -52,29 +51,29 @@ fn pairs_text(alloc: Global, pairs: &[KvPair]) -> Result<String, AllocError>
     Ok(text)
 }
 
-// The reply to a flush or a merge, by those to its two calls: where a job was begun, that to its finish.
-fn ended<'a>(begun: &'a Reply, finished: &'a Reply) -> &'a Reply
-    ensures { result.now ≡ ended begun.now finished.now }
+// Whether a reply says nothing of its line: a job isn't out, so that it could not be finished; or one was begun, or there was none
+// to begin.
+fn is_idle(reply: &Reply) -> bool
+    ensures { result ≡ is_idle reply.now }
 {
-    match begun {
-        Reply::Began(Some(_)) => finished,
-        _ => begun,
+    match reply {
+        Reply::Flag(done) => !*done,
+        Reply::Began(_) => true,
+        _ => false,
     }
 }
 
-/// The reply to a request, by that to its first call and those behind it, and what is left of these for later requests.
-pub fn reply_to<'a>(
-    request: &Request,
-    first: &'a Reply,
-    behind: &'a [Reply],
-) -> (&'a Reply, &'a [Reply])
-    ensures reply { result.0.now ≡ (reply_to request.now first.now behind.now).0 }
-    ensures left { result.1.now ≡ (reply_to request.now first.now behind.now).1 }
+// The last of these replies that says something, and else the one before them.
+fn last_said<'a>(before: &'a Reply, replies: &'a [Reply]) -> &'a Reply
+    ensures { result.now ≡ last_said before.now replies.now }
 {
-    match behind {
-        [finished, later @ ..] if has_job(request) => (ended(first, finished), later),
-        _ => (first, behind),
+    let mut said = before;
+    for reply in replies {
+        if !is_idle(reply) {
+            said = reply;
+        }
     }
+    said
 }
 
 // What a request is answered that is done: the number of a transaction that begins, and else `ok`.
@@ -110,8 +109,8 @@ fn number_text(alloc: Global, request: &Request, count: u64) -> Result<String, A
     }
 }
 
-/// What a request is answered, by its reply, where a snapshot that it opens, or a transaction that it begins, gets this number.
-pub fn answer(
+// What a request is answered, by its reply, where a snapshot that it opens, or a transaction that it begins, gets this number.
+fn reply_text(
     alloc: Global,
     request: &Request,
     reply: &Reply,
@@ -148,4 +147,18 @@ pub fn answer(
         }
         Reply::Refused(error) => Refusal(*error).to_string(alloc),
     }
+}
+
+/// What a request is answered, by the replies to its calls, where a snapshot that it opens, or a transaction that it begins, gets this
+/// number.
+pub fn answer(
+    alloc: Global,
+    request: &Request,
+    replies: &[Reply],
+    number: usize,
+) -> Result<String, AllocError>
+    ensures { IfOk result (λ text. string_bytes text ≡ reply_text number request.now (reply_to replies.now)) }
+{
+    let nothing_done = Reply::Flag(false);
+    reply_text(alloc, request, last_said(&nothing_done, replies), number)
 }

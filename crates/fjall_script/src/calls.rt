@@ -1,7 +1,7 @@
 //! The calls that lines make, and the snapshots and transactions that they name.
 
-ghost use Rattle.std.specs.Prelude.{◌≡◌, ◌<◌, ◌+◌, ◌∷◌, ◌^◌, IfOk, IsOkUnless, OnOk, length, map};
-ghost use Rattle.fjall_script.specs.Requests.{AddsCalls, all_pairs, AreCalls, asked_with, calls_in, finishes, has_job, IsBatch, IsCallOf, item_of, named, nowhere, numbers_in, op_of, openings_from, opens, place_by, request_of, requests_of};
+ghost use Rattle.std.specs.Prelude.{◌≡◌, ◌<◌, ◌+◌, ◌++◌, ◌∷◌, ◌^◌, [], IfOk, IsOkUnless, OnOk, length, map};
+ghost use Rattle.fjall_script.specs.Requests.{AddsCalls, AreOfLines, LineAdds, all_pairs, asked_with, begun_with, calls_with, finish_of, IsBatch, IsCallOf, is_same, item_of, job_of, left_of, named, nowhere, numbered_with, numbers_in, op_of, opens, place_by, request_of};
 ghost use Rattle.fjall_options.specs.Options.{default_options};
 ghost use Rattle.fjall_state.specs.declared.call.Call.TheVariants as calls;
 ghost use Rattle.fjall_calls.specs.declared.call.TxCall.TheVariants as tx;
@@ -11,7 +11,7 @@ use fjall_calls::{Kind, TxCall, Within};
 use fjall_core::{BatchItem, Call, JobId, Op, PersistMode, Ticket, View};
 use fjall_lines::{Command, Request, Write};
 use fjall_options::KeyspaceCreateOptions;
-use std::alloc::{AllocError, Global};
+use std::alloc::Global;
 use std::ops::Bound;
 
 // Whether a request opens a snapshot or begins a transaction, and so gets a number.
@@ -19,20 +19,6 @@ fn opens(request: &Request) -> bool
     ensures { result ≡ opens request.now }
 {
     matches!(request, Request::Snapshot | Request::Begin)
-}
-
-/// Whether a request makes two calls: a flush or a merge is begun, and then finished.
-pub(crate) fn has_job(request: &Request) -> bool
-    ensures { result ≡ has_job request.now }
-{
-    matches!(request, Request::Flush(_) | Request::Merge(_))
-}
-
-// How many calls a request makes.
-fn calls_in(request: &Request) -> u64
-    ensures { result ≡ calls_in request.now }
-{
-    if has_job(request) { 2 } else { 1 }
 }
 
 // How many numbers were asked for, where so many were before this request.
@@ -57,37 +43,55 @@ pub(crate) fn asked_in(earlier: usize, commands: &[Option<Command>]) -> usize
     asked
 }
 
-// The places of the calls that open a snapshot or begin a transaction, behind one that stands nowhere.
-fn openings(
-    alloc: Global,
-    commands: &[Option<Command>],
-) -> std::result::Result<Vec<u64>, AllocError>
-    ensures { IfOk result (λ places. places.items ≡ nowhere ∷ openings_from 0 (requests_of commands.now)) }
-{
-    let mut places = Vec::new(alloc);
-    places.push(u64::MAX)?;
-    let mut place = 0;
-    for found in commands {
-        if let Some(Command::Ask(request)) = found {
-            if opens(request) {
-                places.push(place)?;
-            }
-            place += calls_in(request);
-        }
-    }
-    Ok(places)
+/// A job that lines ask for, of the keyspace of an id.
+#[derive(Clone, Copy)]
+pub(crate) enum Job {
+    Flush(u64),
+    Merge(u64),
 }
 
-// What the numbers of snapshots and transactions stand for in one list of calls: the places of the calls that open or begin
-// them, and how many were asked for before the list.
+// The job that a request asks for.
+fn job_of(request: &Request) -> Option<Job>
+    ensures { result ≡ job_of request.now }
+{
+    match request {
+        Request::Flush(id) => Some(Job::Flush(*id)),
+        Request::Merge(id) => Some(Job::Merge(*id)),
+        _ => None,
+    }
+}
+
+// Whether two jobs are of one kind and of one keyspace.
+fn is_same(job: Job, other: Job) -> bool
+    ensures { result ≡ is_same job other }
+{
+    match (job, other) {
+        (Job::Flush(id), Job::Flush(of)) | (Job::Merge(id), Job::Merge(of)) => id == of,
+        _ => false,
+    }
+}
+
+// The call that finishes a job, which the call at this place began.
+fn finish_of(job: Job, place: u64) -> TxCall
+    ensures { result ≡ finish_of job place }
+{
+    let begun = JobId::of_call(place);
+    TxCall::Core(match job {
+        Job::Flush(_) => Call::FlushFinish(begun),
+        Job::Merge(_) => Call::MergeFinish(begun),
+    })
+}
+
+// What the numbers of snapshots and transactions stand for in one list of calls: the places of the calls so far that open or begin
+// them, behind one that stands nowhere, and how many were asked for before the list.
 #[derive(Drop)]
-struct Numbers {
-    places: Vec<u64>,
-    earlier: usize,
+pub(crate) struct Numbers {
+    pub(crate) places: Vec<u64>,
+    pub(crate) earlier: usize,
 }
 
 impl Numbers {
-    // The place of the call that got a number. One that another list asked for, or none did, stands nowhere.
+    // The place of the call that a number was given to. One that another list asked for, or none did, stands nowhere.
     fn place(&self, number: u64) -> u64
         ensures { result ≡ place_by self.now number }
     {
@@ -104,6 +108,29 @@ impl Numbers {
     {
         Ticket::of_call(self.place(number))
     }
+
+    // Keeps the place of a request's call, where it opens a snapshot or begins a transaction.
+    fn keep(&mut self, request: &Request, place: u64) -> Result<()>
+        ensures ok { OnOk result (self.new.places.items ≡ numbered_with self.old.places.items place request.now) }
+        ensures earlier { self.new.earlier ≡ self.old.earlier }
+        ensures only { IsOkUnless result Error.OutOfMemory }
+    {
+        if opens(request) {
+            self.places.push(place)?;
+        }
+        Ok(())
+    }
+}
+
+/// The calls of one list of lines.
+#[derive(Drop)]
+pub(crate) struct LineCalls {
+    pub(crate) calls: Vec<TxCall>,
+    /// How many calls each request makes.
+    pub(crate) counts: Vec<usize>,
+    pub(crate) numbers: Numbers,
+    /// The jobs that were begun, each with the place of the call that began it.
+    pub(crate) begun: Vec<(Job, u64)>,
 }
 
 // The call for a keyspace of this name.
@@ -155,7 +182,7 @@ fn batch(alloc: Global, writes: &[Write]) -> Result<Call>
     Ok(Call::CommitBatch(items, Some(PersistMode::Buffer)))
 }
 
-// The call that a request makes, for a flush and a merge the first of two, where numbers stand for these places.
+// The call that a request makes, for a flush and a merge the one that begins it, where numbers stand for these places.
 fn call_of(alloc: Global, request: &Request, numbers: &Numbers) -> Result<TxCall>
     ensures ok { IfOk result (λ call. IsCallOf (place_by numbers.now) request.now call) }
     ensures only { IsOkUnless result Error.OutOfMemory }
@@ -196,52 +223,99 @@ fn call_of(alloc: Global, request: &Request, numbers: &Numbers) -> Result<TxCall
     Ok(TxCall::Core(call))
 }
 
-// The call that finishes the job that a request began.
-fn finish_of(request: &Request, job: JobId) -> Call
-    ensures { result ≡ finishes request.now job }
-{
-    match request {
-        Request::Merge(_) => Call::MergeFinish(job),
-        _ => Call::FlushFinish(job),
-    }
-}
-
-// Adds the calls that a line makes to those of the lines before it.
-fn add_calls(
-    alloc: Global,
-    found: &Option<Command>,
-    numbers: &Numbers,
-    calls: &mut Vec<TxCall>,
-) -> Result<()>
-    ensures ok { OnOk result (AddsCalls (place_by numbers.now) (request_of found.now) calls.old.items calls.new.items) }
+// Adds the calls that finish what earlier lines may have left of a job.
+fn add_left(job: Job, begun: &[(Job, u64)], calls: &mut Vec<TxCall>) -> Result<()>
+    ensures ok { OnOk result (calls.new.items ≡ calls.old.items ++ left_of job begun.now) }
     ensures only { IsOkUnless result Error.OutOfMemory }
 {
-    let Some(Command::Ask(request)) = found else {
-        return Ok(());
-    };
-    let place = calls.len() as u64;
-    calls.push(call_of(alloc, request, numbers)?)?;
-    if has_job(request) {
-        let finish = finish_of(request, JobId::of_call(place));
-        calls.push(TxCall::Core(finish))?;
+    for (other, place) in begun {
+        if is_same(job, *other) {
+            calls.push(finish_of(job, *place))?;
+        }
     }
     Ok(())
 }
 
-// The calls of one list of lines, where so many numbers were asked for before it.
-pub(crate) fn calls_of(
-    alloc: Global,
-    commands: &[Option<Command>],
-    earlier: usize,
-) -> Result<Vec<TxCall>>
-    ensures ok { IfOk result (λ calls. AreCalls earlier commands.now calls.items) }
+// Adds the calls of a request whose own call is this one, and keeps the job that it begins.
+fn add_calls(
+    request: &Request,
+    call: TxCall,
+    begun: &mut Vec<(Job, u64)>,
+    calls: &mut Vec<TxCall>,
+) -> Result<()>
+    ensures calls { OnOk result (calls.new.items ≡ calls.old.items ++ calls_with begun.old.items (length calls.old.items) (job_of request.now) call) }
+    ensures begun { OnOk result (begun.new.items ≡ begun_with begun.old.items (length calls.old.items) (job_of request.now)) }
     ensures only { IsOkUnless result Error.OutOfMemory }
 {
-    let places = openings(alloc, commands)?;
-    let numbers = Numbers { places, earlier };
-    let mut calls = Vec::new(alloc);
-    for found in commands {
-        add_calls(alloc, found, &numbers, &mut calls)?;
+    let Some(job) = job_of(request) else {
+        calls.push(call)?;
+        return Ok(());
+    };
+    add_left(job, begun.as_slice(), calls)?;
+    let place = calls.len() as u64;
+    calls.push(call)?;
+    calls.push(finish_of(job, place))?;
+    begun.push((job, place))?;
+    Ok(())
+}
+
+impl LineCalls {
+    // No calls, where so many numbers were asked for before.
+    fn new(alloc: Global, earlier: usize) -> Result<LineCalls>
+        ensures calls { IfOk result (λ lines. lines.calls.items ≡ []) }
+        ensures counts { IfOk result (λ lines. lines.counts.items ≡ []) }
+        ensures numbers { IfOk result (λ lines. lines.numbers.places.items ≡ nowhere ∷ []) }
+        ensures begun { IfOk result (λ lines. lines.begun.items ≡ []) }
+        ensures earlier { IfOk result (λ lines. lines.numbers.earlier ≡ earlier) }
+        ensures only { IsOkUnless result Error.OutOfMemory }
+    {
+        let mut places = Vec::new(alloc);
+        places.push(u64::MAX)?;
+        Ok(LineCalls {
+            calls: Vec::new(alloc),
+            counts: Vec::new(alloc),
+            numbers: Numbers { places, earlier },
+            begun: Vec::new(alloc),
+        })
     }
-    Ok(calls)
+
+    // Adds the calls that a request makes.
+    fn ask(&mut self, alloc: Global, request: &Request) -> Result<()>
+        ensures ok { OnOk result (AddsCalls request.now self.old self.new) }
+        ensures only { IsOkUnless result Error.OutOfMemory }
+    {
+        let before = self.calls.len();
+        let call = call_of(alloc, request, &self.numbers)?;
+        self.numbers.keep(request, before as u64)?;
+        add_calls(request, call, &mut self.begun, &mut self.calls)?;
+        self.counts.push(self.calls.len() - before)?;
+        Ok(())
+    }
+
+    // Adds the calls that a line makes.
+    fn add(&mut self, alloc: Global, found: &Option<Command>) -> Result<()>
+        ensures ok { OnOk result (LineAdds (request_of found.now) self.old self.new) }
+        ensures only { IsOkUnless result Error.OutOfMemory }
+    {
+        match found {
+            Some(Command::Ask(request)) => self.ask(alloc, request),
+            _ => Ok(()),
+        }
+    }
+
+    /// The calls of one list of lines, where so many numbers were asked for before it.
+    pub(crate) fn of_lines(
+        alloc: Global,
+        commands: &[Option<Command>],
+        earlier: usize,
+    ) -> Result<LineCalls>
+        ensures ok { IfOk result (AreOfLines earlier commands.now) }
+        ensures only { IsOkUnless result Error.OutOfMemory }
+    {
+        let mut lines = LineCalls::new(alloc, earlier)?;
+        for found in commands {
+            lines.add(alloc, found)?;
+        }
+        Ok(lines)
+    }
 }

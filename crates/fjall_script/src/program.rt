@@ -2,12 +2,14 @@
 
 ghost use Rattle.std.specs.Prelude.{◌≡◌, true, false, ◌≢◌, ◌↔◌, IfErr, OnOk, length};
 ghost use Rattle.std.specs.Io.KnownBytes.{Appends};
-ghost use Rattle.fjall_script.specs.Answers.{refusal_line};
+ghost use Rattle.fjall_script.specs.Answers.{refusal_line, usage_line};
+ghost use Rattle.fjall_script.specs.Outputs.{AppendsFront};
 ghost use Rattle.std.specs.Process.{exit_status};
 ghost use Rattle.fjall_script.specs.Runs.{AnswersKnown, FailsKnown, IfFails, in_memory};
 ghost use Rattle.fjall_script.specs.Statuses.{status_code};
 
 use crate::answer::Refusal;
+use crate::output::write_text;
 use crate::place::{Folder, Memory, Place};
 use crate::session::{begun, run_session};
 use fjall_base::{Error, Result};
@@ -17,8 +19,8 @@ use std::io;
 use std::io::{Read, Write};
 use std::process::ExitCode;
 
-/// What wrong arguments are answered.
-pub const USAGE: &str = "usage: fjall-run memory|FOLDER";
+/// The line that wrong arguments are answered.
+pub const USAGE: &str = "usage: fjall-run memory|FOLDER\n";
 
 /// How the program ends.
 #[derive(Clone, Copy, Debug, PartialEq, Eq)]
@@ -150,11 +152,12 @@ pub fn run_folder<R: Read, W: Write, E: Write>(
     run_over(alloc, &Folder { rt, alloc, path }, input, output, errors)
 }
 
-/// Tells how the program is called.
+/// Tells how the program is called. Where `errors` fails, it got a beginning of the line.
 pub fn usage<E: Write>(errors: &mut E) -> Status
-    ensures { result ≡ Status.Usage }
+    ensures status { result ≡ Status.Usage }
+    ensures line { AppendsFront (E.contents errors.old) (E.contents errors.new) usage_line }
 {
-    let _ = writeln!(errors, "{USAGE}");
+    let _ = write_text(USAGE.as_bytes(), errors);
     Status::Usage
 }
 
@@ -167,6 +170,7 @@ pub fn run<R: Read, W: Write, E: Write>(
     errors: &mut E,
 ) -> Status
     ensures usage { (result ≡ Status.Usage) ↔ (length arguments.now ≢ 1) }
+    ensures line { result ≡ Status.Usage → AppendsFront (E.contents errors.old) (E.contents errors.new) usage_line }
     ensures answered { result ≡ Status.Success → AnswersKnown (in_memory arguments.now) (R.remaining input.old) W.contents output.old output.new }
     ensures failed { IfFails result (in_memory arguments.now) (R.remaining input.old) W.contents output.old output.new E.contents errors.old errors.new }
     ensures quiet { result ≡ Status.Success → E.contents errors.new ≡ E.contents errors.old }

@@ -1,14 +1,14 @@
 //! Runs commands over a core, list by list, and prints the answers of each as soon as it has run.
 
-ghost use Rattle.std.specs.Prelude.{◌≡◌, ◌<◌, ◌+◌, ◌^◌, true, IfErr, IfOk, IsOkUnless, OnOk, length, string_bytes};
+ghost use Rattle.std.specs.Prelude.{◌≡◌, ◌<◌, ◌+◌, ◌^◌, true, IfErr, IfOk, IsOkUnless, OnOk, drop, length, string_bytes, take};
 ghost use Rattle.std.specs.List.{position};
 ghost use Rattle.fjall_script.specs.Answers.{text_of};
 ghost use Rattle.fjall_script.specs.Machine.{Begins, NotBegun, OpenedOn, RefusedOn};
 ghost use Rattle.fjall_script.specs.Requests.{is_stop};
 ghost use Rattle.fjall_script.specs.Sessions.{AnsweredFront, answers_to, FrontFails, NotRestarted, PrintsAll, PrintsUntil, Restarts, RunsFront};
 
-use crate::answer::{BAD_LINE, answer, reply_to};
-use crate::calls::{asked_in, asked_with, calls_of};
+use crate::answer::{BAD_LINE, answer};
+use crate::calls::{LineCalls, asked_in, asked_with};
 use crate::output::write_text;
 use crate::place::Place;
 use fjall_base::{Disk, Error, Result};
@@ -32,17 +32,27 @@ fn first_stop(commands: &[Option<Command>]) -> Option<usize>
     commands.iter().position(|found| is_stop(found))
 }
 
-// The answers to lines, a line for each, where so many numbers were asked for before.
+// The first so many replies, or all where there are fewer, and those behind them.
+fn split(replies: &[Reply], count: usize) -> (&[Reply], &[Reply])
+    ensures front { result.0.now ≡ take count replies.now }
+    ensures back { result.1.now ≡ drop count replies.now }
+{
+    replies.split_at(count.min(replies.len()))
+}
+
+// The answers to lines, a line for each, by so many replies to each request, where so many numbers were asked for before.
 fn answers_to(
     alloc: Global,
     commands: &[Option<Command>],
+    counts: &[usize],
     replies: &[Reply],
     earlier: usize,
 ) -> std::result::Result<String, AllocError>
     requires { earlier + length commands.now < 2 ^ 63 }
-    ensures { IfOk result (λ text. string_bytes text ≡ text_of (answers_to earlier commands.now replies.now)) }
+    ensures { IfOk result (λ text. string_bytes text ≡ text_of (answers_to earlier commands.now counts.now replies.now)) }
 {
     let mut text = String::new(alloc);
+    let mut counted = counts;
     let mut left = replies;
     let mut asked = earlier;
     for found in commands {
@@ -50,12 +60,13 @@ fn answers_to(
             None => text.push_str(BAD_LINE)?,
             Some(command) => match command {
                 Command::Ask(request) => {
-                    let Some((first, behind)) = left.split_first() else {
+                    let Some((count, others)) = counted.split_first() else {
                         return Ok(text);
                     };
-                    let (reply, later) = reply_to(request, first, behind);
-                    text.push_str(answer(alloc, request, reply, asked + 1)?.as_str())?;
+                    let (mine, later) = split(left, *count);
+                    text.push_str(answer(alloc, request, mine, asked + 1)?.as_str())?;
                     asked = asked_with(asked, request);
+                    counted = others;
                     left = later;
                 }
                 Command::Crash(_) => text.push_str("ok")?,
@@ -82,8 +93,9 @@ fn answer_front<'a, D: Disk>(
 {
     let end = first_stop(commands).unwrap_or(commands.len());
     let (front, rest) = commands.split_at(end);
-    let replies = run(alloc, core, transactions, calls_of(alloc, front, earlier)?)?;
-    let text = answers_to(alloc, front, replies.as_slice(), earlier)?;
+    let LineCalls { calls, counts, .. } = LineCalls::of_lines(alloc, front, earlier)?;
+    let replies = run(alloc, core, transactions, calls)?;
+    let text = answers_to(alloc, front, counts.as_slice(), replies.as_slice(), earlier)?;
     Ok((rest, text, asked_in(earlier, front)))
 }
 
