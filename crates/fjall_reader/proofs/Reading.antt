@@ -1,9 +1,11 @@
 -- What one read of a core shows, why it is refused, and what it leaves.
-use Rattle.std.proofs.Common.{◌≡◌, ℕ, Bool, IsTrue, List, [], ◌∷◌, Option, None, Some, Result, Ok, Err, IfErr, IfOk, IfSome, OnOk, Vec, inl, inr, refl, sym, ◌∙◌, ap, subst}
+use Rattle.std.proofs.Common.{◌≡◌, ℕ, Bool, IsTrue, true, false, if◌then◌else◌, List, [], ◌∷◌, Option, None, Some, Result, Ok, Err, IfErr, IfOk, IfSome, Vec, length, inl, inr, refl, sym, ◌∙◌, ap, subst}
 use Rattle.std.specs.Prelude.{⊤}
 use Rattle.std.specs.Result.{result_err}
 use Rattle.std.specs.declared.alloc.Global.{Global}
+use Rattle.fjall_base.specs.Disk.{Meaning, Took}
 use Rattle.fjall_base.specs.Pairs.{Bytes, KeyRange, Pairs, lookup, page, pairs_between}
+use Rattle.fjall_base.specs.Store.{Command}
 use Rattle.fjall_base.specs.declared.error.Error.{Error}
 use Rattle.fjall_base.specs.declared.error.Error.TheVariants.{Io, NumbersUsedUp, OutOfMemory, Poisoned, Storage, TooManyItems, ValueTooLong}
 use Rattle.fjall_blocks.specs.Readers.{Reader}
@@ -21,12 +23,17 @@ use Rattle.fjall_history.specs.Queries.{Get, Page, Query, Tells}
 use Rattle.fjall_state.specs.Machine.{MayFail, Refuses, State, StepOf, due}
 use Rattle.fjall_state.specs.Reads as reads
 use Rattle.fjall_state.specs.Remembered.{Remembered, instant_in}
+use Rattle.fjall_state.specs.Remembered as memory
 use Rattle.fjall_state.specs.Shapes.{OfRead}
 use Rattle.fjall_state.proofs.SameTrees.{none_same, same_in}
+use Rattle.fjall_state.proofs.Standing as law
+use Rattle.fjall_core.specs.Crashes.{attempt, is_io}
+use Rattle.fjall_core.specs.Durables.{Passes}
 use Rattle.fjall_core.specs.Holding.{Held}
-use Rattle.fjall_core.specs.Standing.{GivesRead, Looks, LooksAt, Owes, OwesFailure, OwesRefusal, ReadsOn, Serves, StandsFor, held_due, pairs_reply, tables_of, value_reply}
+use Rattle.fjall_core.specs.Standing.{DiskRead, GivesRead, Looks, LooksAt, OnDisk, Owes, OwesFailure, OwesRefusal, ReadsOn, Serves, StandsFor, StandsOn, pairs_reply, tables_of, value_reply}
 use Rattle.fjall_reader.specs.Shown.{IsReadRefusal, IsRefusedFor, Shows, read_due}
-use Rattle.fjall_reader.specs.Going.{looks_none}
+use Rattle.fjall_reader.specs.Leaving.{LeavesStanding}
+use Rattle.fjall_reader.specs.Going.{looks_none, took_none}
 
 -- ---- what it leaves
 
@@ -92,10 +99,10 @@ pub page_cause : (old new : Held) (view : View) (id : ℕ) (range : KeyRange) (b
 page_cause old new view id range back max (Ok found) owes = tt
 page_cause old new view id range back max (Err error) owes = refused_for old new view id (Page range back max) (read_due old view id) error owes
 
--- so it is refused for some keyspace
-pub some_cause : {T : Type 0} (old new : Held) (view : View) (id : ℕ) (result : Result T Error) → IfErr result (IsRefusedFor old view id new) → IfSome (result_err result) (IsReadRefusal old view new)
-some_cause old new view id (Ok found) cause = tt
-some_cause old new view id (Err error) cause = inr (id, cause)
+-- so is a reader's read
+pub read_cause : {T : Type 0} (old new : Held) (view : View) (id : ℕ) (result : Result T Error) → IfErr result (IsRefusedFor old view id new) → IfSome (result_err result) (IsReadRefusal old view id new)
+read_cause old new view id (Ok found) cause = tt
+read_cause old new view id (Err error) cause = inr cause
 
 -- ---- what it shows
 
@@ -129,7 +136,7 @@ page_shown honest old new view id range back max (Ok found) owes serves map (inr
     let tells = ((serves h).goes_on s stands on).3.1.0 in
     ap pairs_of tells.1 ∙ tells.2 ∙ ap (λ (p : Pairs). page back max (pairs_between range p)) (sym is)
 
--- ---- what it goes on to show
+-- ---- it moves no state
 
 fails_still : (s t : State) (view : View) (id : ℕ) (query : Query) (error : Error) → MayFail (OfRead view id query) error s t → t ≡ s
 fails_still s t view id query (Io kind) (inl changed) = absurd changed.0
@@ -155,22 +162,79 @@ page_still : (s t : State) (view : View) (id : ℕ) (range : KeyRange) (back : B
 page_still s t view id range back max (Ok found) step = step.1.1
 page_still s t view id range back max (Err error) step = refused_still s t view id (Page range back max) (due s (OfRead view id (Page range back max))) error step
 
--- the core goes on standing for each state whose tables its disk has
-abbrev KeepsStates : Bool → Held → Held → Type 0
-KeepsStates honest old new = IsTrue honest → (s : State) → StandsFor old s → ReadsOn old s → StandsFor new s × ReadsOn new s
+-- ---- what stands behind it
 
-pub value_keeps : (honest : Bool) (old new : Held) (view : View) (id : ℕ) (key : Bytes) (result : Result (Option Bytes) Error) → (IsTrue honest → Serves old (OfRead view id (Get key)) (value_reply result) new) → KeepsStates honest old new
-value_keeps honest old new view id key result serves h s stands on =
-    let goes = (serves h).goes_on s stands on in
-    let same = value_still s goes.0 view id key result goes.3 in
-    (subst (StandsFor new) same goes.1, subst (ReadsOn new) same goes.2)
+looked_stands : (old new : Held) (s : State) → Looks old new → StandsFor old s → StandsFor new s
+looked_stands old new s looks stands = record {
+  remembered = subst (λ (m : Remembered). memory.StandsFor m new.catalog.next_table_id s) (sym looks.memory_is)
+      (subst (λ c. memory.StandsFor (memory.with_trees new.memory.trees old.memory) c s) (ap (λ c. c.next_table_id) (sym looks.catalog))
+      (law.a_read_stands old.memory old.catalog.next_table_id s stands.remembered new.memory.trees looks.trees));
+  journal = stands.journal ∙ ap (λ j. j.len) (sym looks.journal);
+  buffer = stands.buffer ∙ ap (λ j. length j.buffer) (sym looks.journal);
+}
 
-pub page_keeps : (honest : Bool) (old new : Held) (view : View) (id : ℕ) (range : KeyRange) (back : Bool) (max : ℕ) (result : Result (Vec (Bytes × Bytes) Global) Error)
-    → (IsTrue honest → Serves old (OfRead view id (Page range back max)) (pairs_reply result) new) → KeepsStates honest old new
-page_keeps honest old new view id range back max result serves h s stands on =
-    let goes = (serves h).goes_on s stands on in
-    let same = page_still s goes.0 view id range back max result goes.3 in
-    (subst (StandsFor new) same goes.1, subst (ReadsOn new) same goes.2)
+took_same : (old new : Held) → new.disk ≡ old.disk → Took old.disk new.disk []
+took_same old new same = subst (λ (m : Meaning). Took old.disk m []) (sym same) (took_none old.disk)
+
+took_read : (old new : Held) (tables : List Reader) → DiskRead tables old new → Took old.disk new.disk []
+took_read old new [] same = took_same old new same
+took_read old new (t ∷ tables) took = took
+
+took_refused : (old new : Held) (view : View) (id : ℕ) (query : Query) (error : Error) → OnDisk old (OfRead view id query) (replies.Refused error) new → Took old.disk new.disk []
+took_refused old new view id query (Io kind) on = on
+took_refused old new view id query OutOfMemory on = took_read old new (tables_of old id) on
+took_refused old new view id query (Storage told) on = took_read old new (tables_of old id) on
+took_refused old new view id query error on = took_same old new on
+
+value_took : (old new : Held) (view : View) (id : ℕ) (key : Bytes) (result : Result (Option Bytes) Error) → OnDisk old (OfRead view id (Get key)) (value_reply result) new → Took old.disk new.disk []
+value_took old new view id key (Ok found) on = took_read old new (tables_of old id) on
+value_took old new view id key (Err error) on = took_refused old new view id (Get key) error on
+
+page_took : (old new : Held) (view : View) (id : ℕ) (range : KeyRange) (back : Bool) (max : ℕ) (result : Result (Vec (Bytes × Bytes) Global) Error) → OnDisk old (OfRead view id (Page range back max)) (pairs_reply result) new → Took old.disk new.disk []
+page_took old new view id range back max (Ok found) on = took_read old new (tables_of old id) on
+page_took old new view id range back max (Err error) on = took_refused old new view id (Page range back max) error on
+
+abbrev no_commands : List Command
+no_commands = []
+
+none_tried : (b : Bool) → (if b then no_commands else no_commands) ≡ []
+none_tried true = refl
+none_tried false = refl
+
+value_tries : (s : State) (view : View) (id : ℕ) (key : Bytes) (result : Result (Option Bytes) Error) → attempt s (OfRead view id (Get key)) (value_reply result) ≡ []
+value_tries s view id key (Ok found) = refl
+value_tries s view id key (Err error) = none_tried (is_io error)
+
+page_tries : (s : State) (view : View) (id : ℕ) (range : KeyRange) (back : Bool) (max : ℕ) (result : Result (Vec (Bytes × Bytes) Global) Error) → attempt s (OfRead view id (Page range back max)) (pairs_reply result) ≡ []
+page_tries s view id range back max (Ok found) = refl
+page_tries s view id range back max (Err error) = none_tried (is_io error)
+
+-- a read that looks, takes nothing of the disk, moves no state and tries no command
+stands_behind : (honest : Bool) (old new : Held) (view : View) (id : ℕ) (query : Query) (reply : Reply) → Looks old new → (IsTrue honest → Took old.disk new.disk []) → (IsTrue honest → Serves old (OfRead view id query) reply new)
+    → ((s t : State) → StepOf s (OfRead view id query) reply t → t ≡ s) → ((s : State) → attempt s (OfRead view id query) reply ≡ []) → LeavesStanding honest old new
+stands_behind honest old new view id query reply looks took serves still none = record {
+  stands = λ s stands. looked_stands old new s looks stands;
+  took = took;
+  reads = λ h s stands reads. let goes = (serves h).goes_on s stands reads in subst (ReadsOn new) (still s goes.0 goes.3) goes.2;
+  on = λ h s d stands reads on.
+      let goes = (serves h).goes_on s stands reads in
+      let way = goes.4 d on in
+      (way.0, subst (λ (t : State). StandsOn new t.parts.entries way.0) (still s goes.0 goes.3) way.1, subst (λ l. Passes d l way.0) (none s) way.2.0);
+}
+
+pub value_stands : (honest : Bool) (old new : Held) (view : View) (id : ℕ) (key : Bytes) (result : Result (Option Bytes) Error) → Owes old (OfRead view id (Get key)) (value_reply result) new
+    → (IsTrue honest → Serves old (OfRead view id (Get key)) (value_reply result) new) → LeavesStanding honest old new
+value_stands honest old new view id key result owes serves =
+    stands_behind honest old new view id (Get key) (value_reply result) (value_looks old new view id key result owes) (λ h. value_took old new view id key result (serves h).disk) serves
+    (λ s t step. value_still s t view id key result step) (λ s. value_tries s view id key result)
+
+pub page_stands : (honest : Bool) (old new : Held) (view : View) (id : ℕ) (range : KeyRange) (back : Bool) (max : ℕ) (result : Result (Vec (Bytes × Bytes) Global) Error) → Owes old (OfRead view id (Page range back max)) (pairs_reply result) new
+    → (IsTrue honest → Serves old (OfRead view id (Page range back max)) (pairs_reply result) new) → LeavesStanding honest old new
+page_stands honest old new view id range back max result owes serves =
+    stands_behind honest old new view id (Page range back max) (pairs_reply result) (page_looks old new view id range back max result owes) (λ h. page_took old new view id range back max result (serves h).disk) serves
+    (λ s t step. page_still s t view id range back max result step) (λ s. page_tries s view id range back max result)
+
+-- ---- what it goes on to show
 
 instant_looked : (old new : Held) (view : View) → Looks old new → instant_in new.memory view ≡ instant_in old.memory view
 instant_looked old new Present looks = ap (λ (m : Remembered). instant_in m Present) looks.memory_is
@@ -179,11 +243,9 @@ instant_looked old new (At ticket) looks = ap (λ (m : Remembered). instant_in m
 bare_same : (id instant : ℕ) (old new : Forest) → AreSameTrees old new → pairs_in id instant old ≡ pairs_in id instant new
 bare_same id instant old new same = sym (bare_pairs id instant old) ∙ sym (same_pairs no_entries id instant old new same) ∙ bare_pairs id instant new
 
-pub shows_on : (honest : Bool) (old new : Held) (view : View) → Looks old new → KeepsStates honest old new → (id : ℕ) (map : Pairs) → Shows honest old view id map → Shows honest new view id map
-shows_on honest old new view looks keeps id map (inl (none, is)) = inl (
+pub shows_on : (honest : Bool) (old new : Held) (view : View) → Looks old new → LeavesStanding honest old new → (id : ℕ) (map : Pairs) → Shows honest old view id map → Shows honest new view id map
+shows_on honest old new view looks stand id map (inl (none, is)) = inl (
   none_same (tables_of old id) (tables_of new id) (same_in id old.memory.trees new.memory.trees looks.trees).tables none,
   is ∙ bare_same id (instant_in old.memory view) old.memory.trees new.memory.trees looks.trees ∙ ap (λ (instant : ℕ). pairs_in id instant new.memory.trees) (sym (instant_looked old new view looks)),
 )
-shows_on honest old new view looks keeps id map (inr (h, (s, stands, on, is))) =
-    let kept = keeps h s stands on in
-    inr (h, (s, kept.0, kept.1, is))
+shows_on honest old new view looks stand id map (inr (h, (s, stands, on, is))) = inr (h, (s, stand.stands s stands, stand.reads h s stands on, is))

@@ -1,3 +1,4 @@
 pub mod Alike
+pub mod Leaving
 pub mod Shown
 pub mod Going

@@ -12,6 +12,7 @@ use Rattle.fjall_state.specs.Reads as reads
 use Rattle.fjall_state.specs.Remembered.{facts_of, instant_in}
 use Rattle.fjall_core.specs.Holding.{Held}
 use Rattle.fjall_core.specs.Standing.{Looks, ReadsOn, StandsFor, tables_of}
+use Rattle.fjall_reader.specs.Leaving.{LeavesStanding}
 
 -- A core shows this map of a keyspace in a view. Of a keyspace without tables it is the one that stands in memory; over a disk that
 -- returns what it holds, it is the one of each state that the core stands for and whose tables its disk has.
@@ -29,14 +30,15 @@ read_due core view id = first_due (view_refusals (facts_of core.memory core.cata
 abbrev pub IsRefusedFor : Held → View → ℕ → Held → Error → Type 0
 IsRefusedFor old view id new error = reads.IsReadRefusal (read_due old view id) ⊤ (tables_of old id) old.disk new.disk error
 
--- so is a read of some keyspace, or memory is used up
-abbrev pub IsReadRefusal : Held → View → Held → Error → Type 0
-IsReadRefusal old view new error = (error ≡ OutOfMemory) ⊎ ((id : ℕ) × IsRefusedFor old view id new error)
+-- so is a reader's read of it, or memory is used up
+abbrev pub IsReadRefusal : Held → View → ℕ → Held → Error → Type 0
+IsReadRefusal old view id new error = (error ≡ OutOfMemory) ⊎ IsRefusedFor old view id new error
 
--- Reads leave the core, which stays lent, as it was but for what is kept of its tables, and the view as it was; and the error that
--- they met, where they met one, is such a refusal.
-pub record Reads (old : MutBor Held) (from : View) (error : Option Error) (new : MutBor Held) (to : View) : Type 0 where
+-- Reads of a keyspace leave the core, which stays lent, as it was but for what is kept of its tables, and the view as it was; what stood
+-- stands; and the error that they met, where they met one, is such a refusal.
+pub record Reads (honest : Bool) (old : MutBor Held) (from : View) (id : ℕ) (error : Option Error) (new : MutBor Held) (to : View) : Type 0 where
   pub looks : Looks old.now new.now
+  pub stand : LeavesStanding honest old.now new.now
   pub lent : new.ghost_name ≡ old.ghost_name
   pub same : to ≡ from
-  pub cause : IfSome error (IsReadRefusal old.now from new.now)
+  pub cause : IfSome error (IsReadRefusal old.now from id new.now)

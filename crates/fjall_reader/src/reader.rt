@@ -60,7 +60,10 @@ impl<'a, D: Disk> Reader<'a, D> {
 impl<'a, D: Disk> Pages for Reader<'a, D> {
     ghost shows = { λ reader id map. Shows D.honest reader.core.now reader.view id map };
 
-    ghost reads = { λ old error new. Reads old.core old.view error new.core new.view };
+    ghost reads = { λ old id error new. Reads D.honest old.core old.view id error new.core new.view };
+
+    // It takes no note of what is read.
+    ghost paging = { λ old id error new. Reads D.honest old.core old.view id error new.core new.view };
 
     fn alloc(&self) -> Global {
         self.alloc
@@ -69,7 +72,7 @@ impl<'a, D: Disk> Pages for Reader<'a, D> {
     fn page(&mut self, id: u64, range: &KeyRange, back: bool, max: usize) -> Result<Vec<KvPair>>
         ensures ok { (map : Pairs) → Shows D.honest self.old.core.now self.old.view id map → IfOk result (λ found. found.items ≡ page back max (pairs_between range.now map)) }
         ensures same { (i : ℕ) (map : Pairs) → Shows D.honest self.old.core.now self.old.view i map → Shows D.honest self.new.core.now self.new.view i map }
-        ensures reads { Reads self.old.core self.old.view (result_err result) self.new.core self.new.view }
+        ensures paging { Reads D.honest self.old.core self.old.view id (result_err result) self.new.core self.new.view }
         ensures due { OnOk result (read_due self.old.core.now self.old.view id ≡ None) }
         ensures cause { IfErr result (IsRefusedFor self.old.core.now self.old.view id self.new.core.now) }
         // It is the call of the core, over any disk and over one that returns what it holds.
@@ -79,18 +82,26 @@ impl<'a, D: Disk> Pages for Reader<'a, D> {
         self.core.page_at(self.view, id, range, back, max)
     }
 
-    ghost reads_none = { λ pages. reads_none pages.core pages.view };
+    ghost reads_none = { λ reader id. reads_none D.honest reader.core reader.view id };
 
-    ghost reads_on = { λ old mid new error. reads_go_on old.core mid.core new.core old.view mid.view new.view error };
+    ghost reads_on = { λ old mid new first id error. reads_go_on D.honest old.core mid.core new.core old.view mid.view new.view first id error };
 
-    ghost reads_short = { λ old new. reads_short old.core new.core old.view new.view };
+    ghost reads_short = { λ old new id. reads_short D.honest old.core new.core old.view new.view id };
+
+    ghost paging_none = { λ reader id. reads_none D.honest reader.core reader.view id };
+
+    ghost paging_on = { λ old mid new first id error. reads_go_on D.honest old.core mid.core new.core old.view mid.view new.view first id error };
+
+    ghost paging_short = { λ old new id. reads_short D.honest old.core new.core old.view new.view id };
+
+    ghost paging_reads = { λ old new id error reads. reads };
 }
 
 impl<'a, D: Disk> Readable for Reader<'a, D> {
     fn get<K: Identified>(&mut self, keyspace: &K, key: &[u8]) -> Result<Option<UserValue>>
         ensures ok { (map : Pairs) → Shows D.honest self.old.core.now self.old.view (K.identity keyspace.now) map → IfOk result (λ found. found ≡ lookup map key.now) }
         ensures same { (i : ℕ) (map : Pairs) → Shows D.honest self.old.core.now self.old.view i map → Shows D.honest self.new.core.now self.new.view i map }
-        ensures reads { Reads self.old.core self.old.view (result_err result) self.new.core self.new.view }
+        ensures reads { Reads D.honest self.old.core self.old.view (K.identity keyspace.now) (result_err result) self.new.core self.new.view }
         ensures due { OnOk result (read_due self.old.core.now self.old.view (K.identity keyspace.now) ≡ None) }
         ensures cause { IfErr result (IsRefusedFor self.old.core.now self.old.view (K.identity keyspace.now) self.new.core.now) }
         ensures owes { Owes self.old.core.now (OfRead self.old.view (K.identity keyspace.now) (Get key.now)) (value_reply result) self.new.core.now }

@@ -1,11 +1,11 @@
 //! Pairs from both ends of a range, page by page.
 
-ghost use Rattle.std.specs.Prelude.{◌≡◌, ◌++◌, [], ◌∷◌, ℕ, IfOk, IsOkUnless, OnOk, None, MatchOption, IfNone};
+ghost use Rattle.std.specs.Prelude.{◌≡◌, ◌++◌, [], ◌∷◌, ℕ, IfOk, IsOkUnless, OnOk, None, MatchOption, IfNone, IfSome, true, false};
 ghost use Rattle.std.specs.Result.{result_err};
 ghost use Rattle.fjall_base.specs.Pairs.{Bytes, Pairs, page, pairs_between};
 ghost use Rattle.fjall_base.specs.declared.error.Error.TheVariants.{OutOfMemory};
 ghost use Rattle.fjall_reading.specs.Rests.{IsLeftAhead, IsLeftBehind, TakesFirst, TakesLast, error_in};
-ghost use Rattle.fjall_reading.specs.Cursors.{left};
+ghost use Rattle.fjall_reading.specs.Cursors.{IsOver, left};
 
 use crate::pages::{KeyRange, PAGE, Pages};
 use fjall_base::{KvPair, Result};
@@ -60,9 +60,18 @@ impl Cursor {
         }
     }
 
+    // Whether it gives no pair more, and asks for no page more.
+    fn is_over(&self) -> bool
+        ensures yes { result ≡ true → IsOver self.now }
+        ensures no { result ≡ false → IsOver self.now → ⊥ }
+    {
+        self.middle.is_none() && self.front.is_empty() && self.back.is_empty()
+    }
+
     // Nothing is left.
     pub(crate) fn end(&mut self)
         ensures left { (pairs : Pairs) → left self.new pairs ≡ [] }
+        ensures over { IsOver self.new }
         ensures id { self.new.id ≡ self.old.id }
     {
         self.middle = None;
@@ -76,7 +85,7 @@ impl Cursor {
         ensures left { (map : Pairs) → P.shows pages.old self.old.id map → OnOk result (left self.new map ≡ left self.old map) }
         ensures fetched { OnOk result (self.new.front.items ≡ [] → self.new.middle ≡ None) }
         ensures same { (i : ℕ) (map : Pairs) → P.shows pages.old i map → P.shows pages.new i map }
-        ensures reads { P.reads pages.old (result_err result) pages.new }
+        ensures paging { P.paging pages.old self.old.id (result_err result) pages.new }
         ensures id { self.new.id ≡ self.old.id }
     {
         let Some(range) = self.middle.take() else {
@@ -116,9 +125,16 @@ impl Cursor {
     pub fn next<P: Pages>(&mut self, pages: &mut P) -> Option<Result<KvPair>>
         ensures taken { (map : Pairs) → P.shows pages.old self.old.id map → TakesFirst (left self.old map) result (left self.new map) }
         ensures same { (i : ℕ) (map : Pairs) → P.shows pages.old i map → P.shows pages.new i map }
-        ensures reads { P.reads pages.old (error_in result) pages.new }
+        ensures paging { P.paging pages.old self.old.id (error_in result) pages.new }
         ensures id { self.new.id ≡ self.old.id }
+        // Behind the last pair, and behind a fault, there is none, and no page is asked for.
+        ensures ends { IfNone result (IsOver self.new) }
+        ensures fails { IfSome (error_in result) (λ _. IsOver self.new) }
+        ensures over { IsOver self.old → (result ≡ None) × (self.new ≡ self.old) × (pages.new ≡ pages.old) }
     {
+        if self.is_over() {
+            return None;
+        }
         if self.front.is_empty() {
             if let Err(error) = self.fetch(pages) {
                 self.end();
@@ -128,7 +144,10 @@ impl Cursor {
         self.turn();
         match self.take_first() {
             Some(pair) => Some(Ok(pair)),
-            None => None,
+            None => {
+                self.end();
+                None
+            }
         }
     }
 }
@@ -140,7 +159,7 @@ impl Cursor {
         ensures left { (map : Pairs) → P.shows pages.old self.old.id map → OnOk result (left self.new map ≡ left self.old map) }
         ensures fetched { OnOk result (self.new.back.items ≡ [] → self.new.middle ≡ None) }
         ensures same { (i : ℕ) (map : Pairs) → P.shows pages.old i map → P.shows pages.new i map }
-        ensures reads { P.reads pages.old (result_err result) pages.new }
+        ensures paging { P.paging pages.old self.old.id (result_err result) pages.new }
         ensures id { self.new.id ≡ self.old.id }
     {
         let Some(range) = self.middle.take() else {
@@ -179,9 +198,16 @@ impl Cursor {
     pub fn next_back<P: Pages>(&mut self, pages: &mut P) -> Option<Result<KvPair>>
         ensures taken { (map : Pairs) → P.shows pages.old self.old.id map → TakesLast (left self.old map) result (left self.new map) }
         ensures same { (i : ℕ) (map : Pairs) → P.shows pages.old i map → P.shows pages.new i map }
-        ensures reads { P.reads pages.old (error_in result) pages.new }
+        ensures paging { P.paging pages.old self.old.id (error_in result) pages.new }
         ensures id { self.new.id ≡ self.old.id }
+        // Behind the last pair, and behind a fault, there is none, and no page is asked for.
+        ensures ends { IfNone result (IsOver self.new) }
+        ensures fails { IfSome (error_in result) (λ _. IsOver self.new) }
+        ensures over { IsOver self.old → (result ≡ None) × (self.new ≡ self.old) × (pages.new ≡ pages.old) }
     {
+        if self.is_over() {
+            return None;
+        }
         if self.back.is_empty() {
             if let Err(error) = self.fetch_back(pages) {
                 self.end();
@@ -191,7 +217,10 @@ impl Cursor {
         self.turn_back();
         match self.take_last() {
             Some(pair) => Some(Ok(pair)),
-            None => None,
+            None => {
+                self.end();
+                None
+            }
         }
     }
 }

@@ -22,8 +22,12 @@ pub trait Pages {
     /// shows none.
     ghost shows: { Self → ℕ → Pairs → Type 0 };
 
-    /// How reads go: what it was, the error that they met where they met one, and what it is then.
-    ghost reads: { Self → Option Error → Self → Type 0 };
+    /// How reads of a keyspace go, for whoever asks: what it was, the error that they met where they met one, and what it is then.
+    ghost reads: { Self → ℕ → Option Error → Self → Type 0 };
+
+    /// How pages of a keyspace are read, in the same terms. One that takes note of what is read takes none of its pages: whoever
+    /// asks for them does.
+    ghost paging: { Self → ℕ → Option Error → Self → Type 0 };
 
     /// What bounds of ranges and pairs are kept in.
     fn alloc(&self) -> Global;
@@ -33,14 +37,26 @@ pub trait Pages {
     fn page(&mut self, id: u64, range: &KeyRange, back: bool, max: usize) -> Result<Vec<KvPair>>
         ensures ok { (map : Pairs) → shows self.old id map → IfOk result (λ found. found.items ≡ page back max (pairs_between range.now map)) }
         ensures same { (i : ℕ) (map : Pairs) → shows self.old i map → shows self.new i map }
-        ensures reads { reads self.old (result_err result) self.new };
+        ensures paging { paging self.old id (result_err result) self.new };
 
     /// No read changes nothing.
-    ghost reads_none: { (pages : Self) → reads pages None pages };
+    ghost reads_none: { (reader : Self) (id : ℕ) → reads reader id None reader };
 
-    /// Reads go on from what those before left.
-    ghost reads_on: { (old mid new : Self) (error : Option Error) → reads old None mid → reads mid error new → reads old error new };
+    /// Reads go on from what those before left, of whichever keyspace.
+    ghost reads_on: { (old mid new : Self) (first id : ℕ) (error : Option Error) → reads old first None mid → reads mid id error new → reads old id error new };
 
     /// Behind reads memory may be used up.
-    ghost reads_short: { (old new : Self) → reads old None new → reads old (Some OutOfMemory) new };
+    ghost reads_short: { (old new : Self) (id : ℕ) → reads old id None new → reads old id (Some OutOfMemory) new };
+
+    /// No page changes nothing.
+    ghost paging_none: { (reader : Self) (id : ℕ) → paging reader id None reader };
+
+    /// Pages go on from what those before left, of whichever keyspace.
+    ghost paging_on: { (old mid new : Self) (first id : ℕ) (error : Option Error) → paging old first None mid → paging mid id error new → paging old id error new };
+
+    /// Behind pages memory may be used up.
+    ghost paging_short: { (old new : Self) (id : ℕ) → paging old id None new → paging old id (Some OutOfMemory) new };
+
+    /// Whoever reads pages reads.
+    ghost paging_reads: { (old new : Self) (id : ℕ) (error : Option Error) → paging old id error new → reads old id error new };
 }

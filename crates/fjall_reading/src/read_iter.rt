@@ -1,10 +1,10 @@
 //! The pairs of a range, read from both ends.
 
-ghost use Rattle.std.specs.Prelude.{◌≡◌, ℕ, Some, Err, true, false};
+ghost use Rattle.std.specs.Prelude.{◌≡◌, ℕ, None, Some, Err, IfNone, IfSome, true, false};
 ghost use Rattle.fjall_base.specs.Pairs.{Pairs, pairs_between};
 ghost use Rattle.fjall_base.specs.declared.error.Error.TheVariants.{OutOfMemory};
 ghost use Rattle.fjall_reading.specs.Rests.{TakesFirst, TakesLast, error_in};
-ghost use Rattle.fjall_reading.specs.ReadIters.{IsShown, left_of};
+ghost use Rattle.fjall_reading.specs.ReadIters.{IsDone, IsShown, left_of};
 
 use crate::cursor::Cursor;
 use crate::guard::Guard;
@@ -27,6 +27,7 @@ impl<'a, R: Pages> ReadIter<'a, R> {
     pub fn new(reader: &'a mut R, id: u64, range: KeyRange) -> ReadIter<'a, R>
         ensures left { (map : Pairs) → R.shows reader.old id map → IsShown R.shows result map × (left_of map result ≡ pairs_between range map) }
         ensures short { result.short ≡ false }
+        ensures keyspace { result.cursor.id ≡ id }
         ensures reader { result.reader.now ≡ reader.old }
         ensures same_reader { result.reader.ghost_name ≡ reader.entry.ghost_name }
     {
@@ -41,6 +42,7 @@ impl<'a, R: Pages> ReadIter<'a, R> {
     /// No pair, since memory was used up: the first call answers that.
     pub fn out_of_memory(reader: &'a mut R, id: u64) -> ReadIter<'a, R>
         ensures short { result.short ≡ true }
+        ensures keyspace { result.cursor.id ≡ id }
         ensures reader { result.reader.now ≡ reader.old }
         ensures same_reader { result.reader.ghost_name ≡ reader.entry.ghost_name }
     {
@@ -59,8 +61,15 @@ impl<'a, R: Pages> ReadIter<'a, R> {
         ensures told { self.new.short ≡ false }
         ensures same { (i : ℕ) (map : Pairs) → R.shows self.old.reader.now i map → R.shows self.new.reader.now i map }
         ensures shown { (map : Pairs) → IsShown R.shows self.old map → IsShown R.shows self.new map }
-        ensures reads { R.reads self.old.reader.now (error_in result) self.new.reader.now }
+        ensures reads { R.reads self.old.reader.now self.old.cursor.id (error_in result) self.new.reader.now }
+        // What it leaves is what pages leave: its reader took note of them when it was made.
+        ensures paging { R.paging self.old.reader.now self.old.cursor.id (error_in result) self.new.reader.now }
+        ensures same_keyspace { self.new.cursor.id ≡ self.old.cursor.id }
         ensures same_reader { self.new.reader.ghost_name ≡ self.old.reader.ghost_name }
+        // Behind the last pair, and behind a fault, both ends give none.
+        ensures ends { IfNone result (IsDone self.new) }
+        ensures fails { IfSome (error_in result) (λ _. IsDone self.new) }
+        ensures done { IsDone self.old → (result ≡ None) × IsDone self.new × (self.new.reader.now ≡ self.old.reader.now) }
     {
         if mem::take(&mut self.short) {
             self.cursor.end();
@@ -79,8 +88,15 @@ impl<'a, R: Pages> ReadIter<'a, R> {
         ensures told { self.new.short ≡ false }
         ensures same { (i : ℕ) (map : Pairs) → R.shows self.old.reader.now i map → R.shows self.new.reader.now i map }
         ensures shown { (map : Pairs) → IsShown R.shows self.old map → IsShown R.shows self.new map }
-        ensures reads { R.reads self.old.reader.now (error_in result) self.new.reader.now }
+        ensures reads { R.reads self.old.reader.now self.old.cursor.id (error_in result) self.new.reader.now }
+        // What it leaves is what pages leave: its reader took note of them when it was made.
+        ensures paging { R.paging self.old.reader.now self.old.cursor.id (error_in result) self.new.reader.now }
+        ensures same_keyspace { self.new.cursor.id ≡ self.old.cursor.id }
         ensures same_reader { self.new.reader.ghost_name ≡ self.old.reader.ghost_name }
+        // Behind the last pair, and behind a fault, both ends give none.
+        ensures ends { IfNone result (IsDone self.new) }
+        ensures fails { IfSome (error_in result) (λ _. IsDone self.new) }
+        ensures done { IsDone self.old → (result ≡ None) × IsDone self.new × (self.new.reader.now ≡ self.old.reader.now) }
     {
         if mem::take(&mut self.short) {
             self.cursor.end();

@@ -28,13 +28,13 @@ pub trait Readable: Pages {
     fn get<K: Identified>(&mut self, keyspace: &K, key: &[u8]) -> Result<Option<UserValue>>
         ensures ok { (map : Pairs) → Self.shows self.old (K.identity keyspace.now) map → IfOk result (λ found. found ≡ lookup map key.now) }
         ensures same { (i : ℕ) (map : Pairs) → Self.shows self.old i map → Self.shows self.new i map }
-        ensures reads { Self.reads self.old (result_err result) self.new };
+        ensures reads { Self.reads self.old (K.identity keyspace.now) (result_err result) self.new };
 
     /// Whether a key has a value.
     fn contains_key<K: Identified>(&mut self, keyspace: &K, key: &[u8]) -> Result<bool>
         ensures ok { (map : Pairs) → Self.shows self.old (K.identity keyspace.now) map → IfOk result (λ found. found ≡ is_some (lookup map key.now)) }
         ensures same { (i : ℕ) (map : Pairs) → Self.shows self.old i map → Self.shows self.new i map }
-        ensures reads { Self.reads self.old (result_err result) self.new }
+        ensures reads { Self.reads self.old (K.identity keyspace.now) (result_err result) self.new }
     {
         Ok(self.get(keyspace, key)?.is_some())
     }
@@ -44,7 +44,7 @@ pub trait Readable: Pages {
     fn size_of<K: Identified>(&mut self, keyspace: &K, key: &[u8]) -> Result<Option<u32>>
         ensures ok { (map : Pairs) → Self.shows self.old (K.identity keyspace.now) map → IfOk result (λ found. found ≡ option_map size_of (lookup map key.now)) }
         ensures same { (i : ℕ) (map : Pairs) → Self.shows self.old i map → Self.shows self.new i map }
-        ensures reads { Self.reads self.old (result_err result) self.new }
+        ensures reads { Self.reads self.old (K.identity keyspace.now) (result_err result) self.new }
     {
         match self.get(keyspace, key)? {
             Some(value) => Ok(Some(size_of(&value))),
@@ -56,7 +56,7 @@ pub trait Readable: Pages {
     fn first_key_value<K: Identified>(&mut self, keyspace: &K) -> Option<Guard>
         ensures found { (map : Pairs) → Self.shows self.old (K.identity keyspace.now) map → FindsOf (first_of (all_of map)) result }
         ensures same { (i : ℕ) (map : Pairs) → Self.shows self.old i map → Self.shows self.new i map }
-        ensures reads { Self.reads self.old (error_in result) self.new }
+        ensures reads { Self.reads self.old (K.identity keyspace.now) (error_in result) self.new }
     {
         first_pair(self, keyspace.id())
     }
@@ -65,7 +65,7 @@ pub trait Readable: Pages {
     fn last_key_value<K: Identified>(&mut self, keyspace: &K) -> Option<Guard>
         ensures found { (map : Pairs) → Self.shows self.old (K.identity keyspace.now) map → FindsOf (last_of (all_of map)) result }
         ensures same { (i : ℕ) (map : Pairs) → Self.shows self.old i map → Self.shows self.new i map }
-        ensures reads { Self.reads self.old (error_in result) self.new }
+        ensures reads { Self.reads self.old (K.identity keyspace.now) (error_in result) self.new }
     {
         last_pair(self, keyspace.id())
     }
@@ -75,7 +75,7 @@ pub trait Readable: Pages {
     fn len<K: Identified>(&mut self, keyspace: &K) -> Result<usize>
         ensures ok { (map : Pairs) → Self.shows self.old (K.identity keyspace.now) map → IfOk result (λ count. count ≡ count_of map) }
         ensures same { (i : ℕ) (map : Pairs) → Self.shows self.old i map → Self.shows self.new i map }
-        ensures reads { Self.reads self.old (result_err result) self.new }
+        ensures reads { Self.reads self.old (K.identity keyspace.now) (result_err result) self.new }
     {
         pair_count(self, keyspace.id())
     }
@@ -84,7 +84,7 @@ pub trait Readable: Pages {
     fn is_empty<K: Identified>(&mut self, keyspace: &K) -> Result<bool>
         ensures ok { (map : Pairs) → Self.shows self.old (K.identity keyspace.now) map → IfOk result (λ empty. empty ≡ is_none_of (all_of map)) }
         ensures same { (i : ℕ) (map : Pairs) → Self.shows self.old i map → Self.shows self.new i map }
-        ensures reads { Self.reads self.old (result_err result) self.new }
+        ensures reads { Self.reads self.old (K.identity keyspace.now) (result_err result) self.new }
     {
         has_no_pair(self, keyspace.id())
     }
@@ -95,7 +95,8 @@ pub trait Readable: Pages {
         // It takes no memory, so that its first call is told of no want of it.
         ensures whole { result.short ≡ false }
         ensures same { (i : ℕ) (map : Pairs) → Self.shows self.old i map → Self.shows result.reader.now i map }
-        ensures reads { Self.reads self.old None result.reader.now }
+        ensures reads { Self.reads self.old (K.identity keyspace.now) None result.reader.now }
+        ensures keyspace { result.cursor.id ≡ K.identity keyspace.now }
         ensures same_reader { result.reader.ghost_name ≡ self.entry.ghost_name }
     {
         ReadIter::new(self, keyspace.id(), (Bound::Unbounded, Bound::Unbounded))
@@ -107,7 +108,8 @@ pub trait Readable: Pages {
         ensures left { result.short ≡ false → (map : Pairs) → Self.shows self.old (K.identity keyspace.now) map
             → IsShown Self.shows result map × (left_of map result ≡ pairs_between (key_range range.entry) map) }
         ensures same { (i : ℕ) (map : Pairs) → Self.shows self.old i map → Self.shows result.reader.now i map }
-        ensures reads { Self.reads self.old None result.reader.now }
+        ensures reads { Self.reads self.old (K.identity keyspace.now) None result.reader.now }
+        ensures keyspace { result.cursor.id ≡ K.identity keyspace.now }
         ensures same_reader { result.reader.ghost_name ≡ self.entry.ghost_name }
     {
         match range_of(self.alloc(), range) {
@@ -122,7 +124,8 @@ pub trait Readable: Pages {
         ensures left { result.short ≡ false → (map : Pairs) → Self.shows self.old (K.identity keyspace.now) map
             → IsShown Self.shows result map × (left_of map result ≡ pairs_between (prefix_range prefix.now) map) }
         ensures same { (i : ℕ) (map : Pairs) → Self.shows self.old i map → Self.shows result.reader.now i map }
-        ensures reads { Self.reads self.old None result.reader.now }
+        ensures reads { Self.reads self.old (K.identity keyspace.now) None result.reader.now }
+        ensures keyspace { result.cursor.id ≡ K.identity keyspace.now }
         ensures same_reader { result.reader.ghost_name ≡ self.entry.ghost_name }
     {
         match prefix_to_range(self.alloc(), prefix) {

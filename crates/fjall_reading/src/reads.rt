@@ -16,7 +16,7 @@ use std::ops::Bound;
 pub fn first_pair<P: Pages>(pages: &mut P, id: u64) -> Option<Guard>
     ensures found { (map : Pairs) → P.shows pages.old id map → FindsOf (first_of (all_of map)) result }
     ensures same { (i : ℕ) (map : Pairs) → P.shows pages.old i map → P.shows pages.new i map }
-    ensures reads { P.reads pages.old (error_in result) pages.new }
+    ensures paging { P.paging pages.old id (error_in result) pages.new }
 {
     match pages.page(id, &(Bound::Unbounded, Bound::Unbounded), false, 1) {
         Ok(mut found) => found.pop().map(|pair| Guard::new(Ok(pair))),
@@ -28,7 +28,7 @@ pub fn first_pair<P: Pages>(pages: &mut P, id: u64) -> Option<Guard>
 pub fn last_pair<P: Pages>(pages: &mut P, id: u64) -> Option<Guard>
     ensures found { (map : Pairs) → P.shows pages.old id map → FindsOf (last_of (all_of map)) result }
     ensures same { (i : ℕ) (map : Pairs) → P.shows pages.old i map → P.shows pages.new i map }
-    ensures reads { P.reads pages.old (error_in result) pages.new }
+    ensures paging { P.paging pages.old id (error_in result) pages.new }
 {
     match pages.page(id, &(Bound::Unbounded, Bound::Unbounded), true, 1) {
         Ok(mut found) => found.pop().map(|pair| Guard::new(Ok(pair))),
@@ -40,7 +40,7 @@ pub fn last_pair<P: Pages>(pages: &mut P, id: u64) -> Option<Guard>
 pub fn has_no_pair<P: Pages>(pages: &mut P, id: u64) -> Result<bool>
     ensures ok { (map : Pairs) → P.shows pages.old id map → IfOk result (λ empty. empty ≡ is_none_of (all_of map)) }
     ensures same { (i : ℕ) (map : Pairs) → P.shows pages.old i map → P.shows pages.new i map }
-    ensures reads { P.reads pages.old (result_err result) pages.new }
+    ensures paging { P.paging pages.old id (result_err result) pages.new }
 {
     let found = pages.page(id, &(Bound::Unbounded, Bound::Unbounded), false, 1)?;
     Ok(found.is_empty())
@@ -51,7 +51,7 @@ pub fn has_no_pair<P: Pages>(pages: &mut P, id: u64) -> Result<bool>
 pub fn pair_count<P: Pages>(pages: &mut P, id: u64) -> Result<usize>
     ensures ok { (map : Pairs) → P.shows pages.old id map → IfOk result (λ count. count ≡ count_of map) }
     ensures same { (i : ℕ) (map : Pairs) → P.shows pages.old i map → P.shows pages.new i map }
-    ensures reads { P.reads pages.old (result_err result) pages.new }
+    ensures paging { P.paging pages.old id (result_err result) pages.new }
 {
     let mut count: usize = 0;
     let mut rest = Some((Bound::Unbounded, Bound::Unbounded));

@@ -35,5 +35,5 @@ loop-rest-preserved g c =
           page_counted c.deref.result.now c.in-Some.range c.in_ok-rest.rest map c.loop-rest.count c.saturating_add-count.result (2 ^ 64 - 1) (count_of map) next parts so_far;
       fits = omega (arith, next);
       same = λ i map shown. c.page.ensures.same i map (invariant.same i map shown);
-      read = g.met.P.Pages.reads_on c.args.pages.now c.loop-rest.pages c.page.new.self _ invariant.read c.in_ok-found.ensures.reads;
+      read = g.met.P.Pages.paging_on c.args.pages.now c.loop-rest.pages c.page.new.self c.args.id c.args.id _ invariant.read c.in_ok-found.ensures.paging;
     }

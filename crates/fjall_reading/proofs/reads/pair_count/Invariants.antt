@@ -11,7 +11,7 @@ invariant-loop-rest g l = record {
   counted : (map : Pairs) → g.P.Pages.shows l.fn.pages l.id map → min (l.count + length (middle l.rest map)) (2 ^ 64 - 1) ≡ count_of map;
   fits : l.count ≤ 2 ^ 64 - 1;
   same : (i : ℕ) (map : Pairs) → g.P.Pages.shows l.fn.pages i map → g.P.Pages.shows l.pages i map;
-  read : g.P.Pages.reads l.fn.pages None l.pages;
+  read : g.P.Pages.paging l.fn.pages l.fn.id None l.pages;
 }
 
 abbrev pub decreases-loop-rest : goal.decreases-loop-rest

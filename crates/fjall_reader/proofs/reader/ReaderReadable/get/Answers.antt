@@ -1,10 +1,11 @@
-use Rattle.std.proofs.Common.{◌≡◌, ℕ, IfErr, IfOk, IsTrue, refl, subst}
+use Rattle.std.proofs.Common.{◌≡◌, ℕ, IfErr, IfOk, IfSome, IsTrue, refl, subst}
+use Rattle.std.specs.Result.{result_err}
 use Rattle.fjall_base.specs.Pairs.{Pairs, lookup}
 use Rattle.fjall_history.specs.Queries.{Get}
 use Rattle.fjall_state.specs.Shapes.{OfRead}
 use Rattle.fjall_core.specs.Standing.{Owes, Serves, value_reply}
-use Rattle.fjall_reader.specs.Shown.{IsRefusedFor, Shows}
-use Rattle.fjall_reader.proofs.Reading.{shows_on, some_cause, value_cause, value_keeps, value_looks, value_shown}
+use Rattle.fjall_reader.specs.Shown.{IsReadRefusal, IsRefusedFor, Shows}
+use Rattle.fjall_reader.proofs.Reading.{read_cause, shows_on, value_cause, value_looks, value_shown, value_stands}
 use Rattle.fjall_reader.proofs.reader.ReaderReadable.get.Goals as goal
 
 pub returns-clause-ok : goal.returns-clause-ok
@@ -17,17 +18,19 @@ pub returns-clause-same : goal.returns-clause-same
 returns-clause-same g c =
     let self = c.args.self.now in
     let looks = value_looks self.core.now c.get_at.new.self self.view c.id.result c.args.key.now c.get_at.result c.get_at.ensures.owes in
-    let keeps = value_keeps g.D.Disk.honest self.core.now c.get_at.new.self self.view c.id.result c.args.key.now c.get_at.result c.get_at.ensures.serves in
-    shows_on g.D.Disk.honest self.core.now c.get_at.new.self self.view looks keeps
+    let stand = value_stands g.D.Disk.honest self.core.now c.get_at.new.self self.view c.id.result c.args.key.now c.get_at.result c.get_at.ensures.owes c.get_at.ensures.serves in
+    shows_on g.D.Disk.honest self.core.now c.get_at.new.self self.view looks stand
 
 pub returns-clause-reads : goal.returns-clause-reads
 returns-clause-reads g c =
     let self = c.args.self.now in
     let cause = value_cause self.core.now c.get_at.new.self self.view c.id.result c.args.key.now c.get_at.result c.get_at.ensures.owes in record {
       looks = value_looks self.core.now c.get_at.new.self self.view c.id.result c.args.key.now c.get_at.result c.get_at.ensures.owes;
+      stand = value_stands g.D.Disk.honest self.core.now c.get_at.new.self self.view c.id.result c.args.key.now c.get_at.result c.get_at.ensures.owes c.get_at.ensures.serves;
       lent = refl;
       same = refl;
-      cause = some_cause self.core.now c.get_at.new.self self.view c.id.result c.get_at.result cause;
+      cause = subst (λ (id : ℕ). IfSome (result_err c.get_at.result) (IsReadRefusal self.core.now self.view id c.get_at.new.self)) c.id.ensures
+          (read_cause self.core.now c.get_at.new.self self.view c.id.result c.get_at.result cause);
     }
 
 pub returns-clause-cause : goal.returns-clause-cause
