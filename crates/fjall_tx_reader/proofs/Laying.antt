@@ -62,8 +62,8 @@ read_either old new mark short (inl is) = read_marked old new mark is
 read_either old new mark short (inr (is, told)) = read_nothing old new is
 
 -- a mark alone leaves what a reader's reads leave
-pub only_marked : (core : MutBor Held) (view : View) (tx after : MutBor Tx) → HasReadOn tx.now after.now → after.ghost_name ≡ tx.ghost_name → ReadsWithin core view tx None core view after
-only_marked core view tx after grown lent = record { reads = reads_none core view; grown = grown; lent = lent }
+pub only_marked : (honest : Bool) (core : MutBor Held) (view : View) (tx after : MutBor Tx) (id : ℕ) → HasReadOn tx.now after.now → after.ghost_name ≡ tx.ghost_name → ReadsWithin honest core view tx id None core view after
+only_marked honest core view tx after id grown lent = record { reads = reads_none honest core view id; grown = grown; lent = lent }
 
 -- and what is seen
 pub still_seen : (honest : Bool) (core : Held) (view : View) (old new : Tx) → HasReadOn old new → (i : ℕ) (map : Pairs) → Sees honest core view old.own i map → Sees honest core view new.own i map

@@ -26,11 +26,17 @@ pub record HasReadOn (old new : Tx) : Type 0 where
   pub more : List Mark
   pub is : new ≡ having_reads old more
 
--- Reads within a transaction leave the core as a reader's reads do, and the transaction, which stays lent, as it was but for more read
--- marks.
-pub record ReadsWithin (core : MutBor Held) (from : View) (tx : MutBor Tx) (error : Option Error) (left : MutBor Held) (to : View) (after : MutBor Tx) : Type 0 where
-  pub reads : Reads core from error left to
+-- Reads of a keyspace within a transaction leave the core as a reader's reads do, and the transaction, which stays lent, as it was but
+-- for more read marks.
+pub record ReadsWithin (honest : Bool) (core : MutBor Held) (from : View) (tx : MutBor Tx) (id : ℕ) (error : Option Error) (left : MutBor Held) (to : View) (after : MutBor Tx) : Type 0 where
+  pub reads : Reads honest core from id error left to
   pub grown : HasReadOn tx.now after.now
+  pub lent : after.ghost_name ≡ tx.ghost_name
+
+-- Pages of a keyspace leave the core so too, and the transaction as it was: whoever asks for them marks what they are of.
+pub record PagesWithin (honest : Bool) (core : MutBor Held) (from : View) (tx : MutBor Tx) (id : ℕ) (error : Option Error) (left : MutBor Held) (to : View) (after : MutBor Tx) : Type 0 where
+  pub reads : Reads honest core from id error left to
+  pub unmarked : after.now ≡ tx.now
   pub lent : after.ghost_name ≡ tx.ghost_name
 
 -- the mark of a whole keyspace

@@ -1,82 +1,56 @@
-//! Own writes over the pages of a reader.
+//! Own writes over the pages of a core's reader.
 
-ghost use Rattle.std.specs.Prelude.{◌≡◌, ℕ, IfOk};
+ghost use Rattle.std.specs.Prelude.{◌≡◌, ℕ, None, IfErr, IfOk, OnOk};
 ghost use Rattle.std.specs.Result.{result_err};
 ghost use Rattle.fjall_base.specs.Pairs.{Pairs, page, pairs_between};
-ghost use Rattle.fjall_reading.specs.Readers.{all_of, count_of, first_of, last_of};
+ghost use Rattle.fjall_reading.specs.Readers.{all_of, first_of, last_of};
+ghost use Rattle.fjall_reader.specs.Shown.{IsRefusedFor, Reads, Shows, read_due};
 ghost use Rattle.fjall_tx_reader.specs.Laid.{laid};
 
-use fjall_base::{KvPair, Result};
+use fjall_base::{Disk, Error, KvPair, Result};
 use fjall_own::OwnWrites;
-use fjall_reading::{KeyRange, Pages, pair_count};
-use std::alloc::Global;
+use fjall_reader::Reader;
+use fjall_reading::{KeyRange, Pages};
 use std::ops::Bound;
 
-// What a reader shows, with own writes applied.
-#[derive(Drop)]
-struct Overlay<'a, P> {
-    pages: &'a mut P,
-    own: &'a OwnWrites,
-}
-
-impl<'a, P: Pages> Pages for Overlay<'a, P> {
-    ghost use Rattle.std.proofs.Common.{◌≡◌, ◌∙◌, refl};
-    ghost use Rattle.fjall_tx_reader.specs.Overlays.{IsLaid, LaidReads};
-
-    ghost shows = { λ o id map. IsLaid (P.shows o.pages.now id) o.own.now id map };
-
-    ghost reads = { λ old error new. LaidReads P.shows P.reads old.pages old.own.now error new.pages new.own.now };
-
-    fn alloc(&self) -> Global {
-        self.pages.alloc()
-    }
-
-    fn page(&mut self, id: u64, range: &KeyRange, back: bool, max: usize) -> Result<Vec<KvPair>> {
-        laid_page(self.pages, self.own, id, range, back, max)
-    }
-
-    ghost reads_none = { λ o. record { read = P.reads_none o.pages.now; same = λ i map shown. shown; lent = refl; kept = refl } };
-
-    ghost reads_on = { λ old mid new error first then. record {
-      read = P.reads_on old.pages.now mid.pages.now new.pages.now error first.read then.read;
-      same = λ i map shown. then.same i map (first.same i map shown);
-      lent = then.lent ∙ first.lent;
-      kept = then.kept ∙ first.kept;
-    } };
-
-    ghost reads_short = { λ old new r. record { read = P.reads_short old.pages.now new.pages.now r.read; same = r.same; lent = r.lent; kept = r.kept } };
-}
-
-/// A page of what a reader shows, with own writes applied.
-pub(crate) fn laid_page<P: Pages>(
-    pages: &mut P,
+/// A page of what a core's reader shows, with own writes applied. Want of memory is told where nothing else refuses the read.
+pub(crate) fn laid_page<D: Disk>(
+    reader: &mut Reader<'_, D>,
     own: &OwnWrites,
     id: u64,
     range: &KeyRange,
     back: bool,
     max: usize,
 ) -> Result<Vec<KvPair>>
-    ensures ok { (below : Pairs) → P.shows pages.old id below → IfOk result (λ found. found.items ≡ page back max (pairs_between range.now (laid own.now id below))) }
-    ensures same { (i : ℕ) (map : Pairs) → P.shows pages.old i map → P.shows pages.new i map }
-    ensures reads { P.reads pages.old (result_err result) pages.new }
+    ensures ok { (below : Pairs) → Shows D.honest reader.old.core.now reader.old.view id below
+        → IfOk result (λ found. found.items ≡ page back max (pairs_between range.now (laid own.now id below))) }
+    ensures same { (i : ℕ) (map : Pairs) → Shows D.honest reader.old.core.now reader.old.view i map → Shows D.honest reader.new.core.now reader.new.view i map }
+    ensures reads { Reads D.honest reader.old.core reader.old.view id (result_err result) reader.new.core reader.new.view }
+    ensures due { OnOk result (read_due reader.old.core.now reader.old.view id ≡ None) }
+    ensures cause { IfErr result (IsRefusedFor reader.old.core.now reader.old.view id reader.new.core.now) }
 {
-    let wanted = own.wanted(id, range, max)?;
-    let found = pages.page(id, range, back, wanted)?;
+    let Ok(wanted) = own.wanted(id, range, max) else {
+        reader.page(id, range, back, 0)?;
+        return Err(Error::OutOfMemory);
+    };
+    let found = reader.page(id, range, back, wanted)?;
     own.lay_over(id, range, back, max, found)
 }
 
-/// The first pair of a keyspace that a reader shows, with own writes applied.
-pub(crate) fn laid_first<P: Pages>(
-    pages: &mut P,
+/// The first pair of a keyspace that a core's reader shows, with own writes applied.
+pub(crate) fn laid_first<D: Disk>(
+    reader: &mut Reader<'_, D>,
     own: &OwnWrites,
     id: u64,
 ) -> Result<Option<KvPair>>
-    ensures ok { (below : Pairs) → P.shows pages.old id below → IfOk result (λ found. found ≡ first_of (all_of (laid own.now id below))) }
-    ensures same { (i : ℕ) (map : Pairs) → P.shows pages.old i map → P.shows pages.new i map }
-    ensures reads { P.reads pages.old (result_err result) pages.new }
+    ensures ok { (below : Pairs) → Shows D.honest reader.old.core.now reader.old.view id below → IfOk result (λ found. found ≡ first_of (all_of (laid own.now id below))) }
+    ensures same { (i : ℕ) (map : Pairs) → Shows D.honest reader.old.core.now reader.old.view i map → Shows D.honest reader.new.core.now reader.new.view i map }
+    ensures reads { Reads D.honest reader.old.core reader.old.view id (result_err result) reader.new.core reader.new.view }
+    ensures due { OnOk result (read_due reader.old.core.now reader.old.view id ≡ None) }
+    ensures cause { IfErr result (IsRefusedFor reader.old.core.now reader.old.view id reader.new.core.now) }
 {
     let mut found = laid_page(
-        pages,
+        reader,
         own,
         id,
         &(Bound::Unbounded, Bound::Unbounded),
@@ -86,14 +60,20 @@ pub(crate) fn laid_first<P: Pages>(
     Ok(found.pop())
 }
 
-/// The last pair of a keyspace that a reader shows, with own writes applied.
-pub(crate) fn laid_last<P: Pages>(pages: &mut P, own: &OwnWrites, id: u64) -> Result<Option<KvPair>>
-    ensures ok { (below : Pairs) → P.shows pages.old id below → IfOk result (λ found. found ≡ last_of (all_of (laid own.now id below))) }
-    ensures same { (i : ℕ) (map : Pairs) → P.shows pages.old i map → P.shows pages.new i map }
-    ensures reads { P.reads pages.old (result_err result) pages.new }
+/// The last pair of a keyspace that a core's reader shows, with own writes applied.
+pub(crate) fn laid_last<D: Disk>(
+    reader: &mut Reader<'_, D>,
+    own: &OwnWrites,
+    id: u64,
+) -> Result<Option<KvPair>>
+    ensures ok { (below : Pairs) → Shows D.honest reader.old.core.now reader.old.view id below → IfOk result (λ found. found ≡ last_of (all_of (laid own.now id below))) }
+    ensures same { (i : ℕ) (map : Pairs) → Shows D.honest reader.old.core.now reader.old.view i map → Shows D.honest reader.new.core.now reader.new.view i map }
+    ensures reads { Reads D.honest reader.old.core reader.old.view id (result_err result) reader.new.core reader.new.view }
+    ensures due { OnOk result (read_due reader.old.core.now reader.old.view id ≡ None) }
+    ensures cause { IfErr result (IsRefusedFor reader.old.core.now reader.old.view id reader.new.core.now) }
 {
     let mut found = laid_page(
-        pages,
+        reader,
         own,
         id,
         &(Bound::Unbounded, Bound::Unbounded),
@@ -101,13 +81,4 @@ pub(crate) fn laid_last<P: Pages>(pages: &mut P, own: &OwnWrites, id: u64) -> Re
         1,
     )?;
     Ok(found.pop())
-}
-
-/// How many pairs a keyspace has that a reader shows, with own writes applied.
-pub(crate) fn laid_count<P: Pages>(pages: &mut P, own: &OwnWrites, id: u64) -> Result<usize>
-    ensures ok { (below : Pairs) → P.shows pages.old id below → IfOk result (λ count. count ≡ count_of (laid own.now id below)) }
-    ensures same { (i : ℕ) (map : Pairs) → P.shows pages.old i map → P.shows pages.new i map }
-    ensures reads { P.reads pages.old (result_err result) pages.new }
-{
-    pair_count(&mut Overlay { pages, own }, id)
 }

@@ -15,15 +15,16 @@ ghost use Rattle.fjall_reading.specs.Rests.{error_in};
 ghost use Rattle.fjall_own.specs.Owns.{Own};
 ghost use Rattle.fjall_reader.specs.Shown.{IsRefusedFor, read_due};
 ghost use Rattle.fjall_transactions.specs.Transactions.{having_read};
-ghost use Rattle.fjall_tx_reader.specs.Seeing.{IsMarkedOrShort, ReadsWithin, Sees, whole_of};
-ghost use Rattle.fjall_tx_reader.specs.Going.{within_none, within_on, within_short};
+ghost use Rattle.fjall_tx_reader.specs.Seeing.{IsMarkedOrShort, PagesWithin, ReadsWithin, Sees, whole_of};
+ghost use Rattle.fjall_tx_reader.specs.Going.{pages_none, pages_on, pages_short, pages_within, within_none, within_on, within_short};
 
-use crate::laid::{laid_count, laid_first, laid_last, laid_page};
+use crate::laid::{laid_first, laid_last, laid_page};
 use fjall_base::{Disk, Error, KeyBounds, KvPair, Result, Slice, UserValue};
 use fjall_core::{Core, View};
 use fjall_reader::Reader;
 use fjall_reading::{
-    Guard, Identified, KeyRange, Pages, ReadIter, Readable, bounds_of, prefix_to_range, range_of,
+    Guard, Identified, KeyRange, Pages, ReadIter, Readable, bounds_of, pair_count, prefix_to_range,
+    range_of,
 };
 use fjall_transactions::Transaction;
 use std::alloc::Global;
@@ -103,7 +104,7 @@ impl<'a, D: Disk> TransactionReader<'a, D> {
         ensures ok { (map : Pairs) → Sees D.honest self.old.reader.core.now self.old.reader.view self.old.transaction.now.own id map → IfOk result (λ found. found ≡ lookup map key.now) }
         ensures same { (i : ℕ) (map : Pairs) → Sees D.honest self.old.reader.core.now self.old.reader.view self.old.transaction.now.own i map
             → Sees D.honest self.new.reader.core.now self.new.reader.view self.new.transaction.now.own i map }
-        ensures reads { ReadsWithin self.old.reader.core self.old.reader.view self.old.transaction (result_err result) self.new.reader.core self.new.reader.view self.new.transaction }
+        ensures reads { ReadsWithin D.honest self.old.reader.core self.old.reader.view self.old.transaction id (result_err result) self.new.reader.core self.new.reader.view self.new.transaction }
         ensures marked { OnOk result (self.new.transaction.now ≡ having_read self.old.transaction.now (OfKey id key.now)) }
         ensures unmarked { OnErr result (self.new.transaction.now ≡ self.old.transaction.now) }
         ensures due { OnOk result (read_due self.old.reader.core.now self.old.reader.view id ≡ None) }
@@ -124,9 +125,11 @@ impl<'a, D: Disk> TransactionReader<'a, D> {
         ensures ok { (map : Pairs) → Sees D.honest self.old.reader.core.now self.old.reader.view self.old.transaction.now.own id map → IfOk result (λ found. found ≡ first_of (all_of map)) }
         ensures same { (i : ℕ) (map : Pairs) → Sees D.honest self.old.reader.core.now self.old.reader.view self.old.transaction.now.own i map
             → Sees D.honest self.new.reader.core.now self.new.reader.view self.new.transaction.now.own i map }
-        ensures reads { ReadsWithin self.old.reader.core self.old.reader.view self.old.transaction (result_err result) self.new.reader.core self.new.reader.view self.new.transaction }
+        ensures reads { ReadsWithin D.honest self.old.reader.core self.old.reader.view self.old.transaction id (result_err result) self.new.reader.core self.new.reader.view self.new.transaction }
         ensures marked { OnOk result (self.new.transaction.now ≡ having_read self.old.transaction.now (whole_of id)) }
         ensures unmarked { OnErr result (self.new.transaction.now ≡ self.old.transaction.now) }
+        ensures due { OnOk result (read_due self.old.reader.core.now self.old.reader.view id ≡ None) }
+        ensures cause { IfErr result (IsRefusedFor self.old.reader.core.now self.old.reader.view id self.new.reader.core.now) }
     {
         let found = laid_first(&mut self.reader, self.transaction.own(), id)?;
         self.transaction
@@ -139,9 +142,11 @@ impl<'a, D: Disk> TransactionReader<'a, D> {
         ensures ok { (map : Pairs) → Sees D.honest self.old.reader.core.now self.old.reader.view self.old.transaction.now.own id map → IfOk result (λ found. found ≡ last_of (all_of map)) }
         ensures same { (i : ℕ) (map : Pairs) → Sees D.honest self.old.reader.core.now self.old.reader.view self.old.transaction.now.own i map
             → Sees D.honest self.new.reader.core.now self.new.reader.view self.new.transaction.now.own i map }
-        ensures reads { ReadsWithin self.old.reader.core self.old.reader.view self.old.transaction (result_err result) self.new.reader.core self.new.reader.view self.new.transaction }
+        ensures reads { ReadsWithin D.honest self.old.reader.core self.old.reader.view self.old.transaction id (result_err result) self.new.reader.core self.new.reader.view self.new.transaction }
         ensures marked { OnOk result (self.new.transaction.now ≡ having_read self.old.transaction.now (whole_of id)) }
         ensures unmarked { OnErr result (self.new.transaction.now ≡ self.old.transaction.now) }
+        ensures due { OnOk result (read_due self.old.reader.core.now self.old.reader.view id ≡ None) }
+        ensures cause { IfErr result (IsRefusedFor self.old.reader.core.now self.old.reader.view id self.new.reader.core.now) }
     {
         let found = laid_last(&mut self.reader, self.transaction.own(), id)?;
         self.transaction
@@ -149,16 +154,34 @@ impl<'a, D: Disk> TransactionReader<'a, D> {
         Ok(found)
     }
 
+    // How many pairs a keyspace has. Want of memory is told where nothing else refuses the read.
+    fn count_pairs(&mut self, id: u64) -> Result<usize>
+        ensures ok { (map : Pairs) → Sees D.honest self.old.reader.core.now self.old.reader.view self.old.transaction.now.own id map → IfOk result (λ count. count ≡ count_of map) }
+        ensures same { (i : ℕ) (map : Pairs) → Sees D.honest self.old.reader.core.now self.old.reader.view self.old.transaction.now.own i map
+            → Sees D.honest self.new.reader.core.now self.new.reader.view self.new.transaction.now.own i map }
+        ensures reads { ReadsWithin D.honest self.old.reader.core self.old.reader.view self.old.transaction id (result_err result) self.new.reader.core self.new.reader.view self.new.transaction }
+        ensures unmarked { self.new.transaction.now ≡ self.old.transaction.now }
+        ensures due { OnOk result (read_due self.old.reader.core.now self.old.reader.view id ≡ None) }
+        ensures cause { IfErr result (IsRefusedFor self.old.reader.core.now self.old.reader.view id self.new.reader.core.now) }
+    {
+        // The iterator whose mark found no memory is gone.
+        self.short = false;
+        self.page(id, &(Bound::Unbounded, Bound::Unbounded), false, 0)?;
+        pair_count(self, id)
+    }
+
     // How many pairs a keyspace has, which it marks.
     fn read_count(&mut self, id: u64) -> Result<usize>
         ensures ok { (map : Pairs) → Sees D.honest self.old.reader.core.now self.old.reader.view self.old.transaction.now.own id map → IfOk result (λ count. count ≡ count_of map) }
         ensures same { (i : ℕ) (map : Pairs) → Sees D.honest self.old.reader.core.now self.old.reader.view self.old.transaction.now.own i map
             → Sees D.honest self.new.reader.core.now self.new.reader.view self.new.transaction.now.own i map }
-        ensures reads { ReadsWithin self.old.reader.core self.old.reader.view self.old.transaction (result_err result) self.new.reader.core self.new.reader.view self.new.transaction }
+        ensures reads { ReadsWithin D.honest self.old.reader.core self.old.reader.view self.old.transaction id (result_err result) self.new.reader.core self.new.reader.view self.new.transaction }
         ensures marked { OnOk result (self.new.transaction.now ≡ having_read self.old.transaction.now (whole_of id)) }
         ensures unmarked { OnErr result (self.new.transaction.now ≡ self.old.transaction.now) }
+        ensures due { OnOk result (read_due self.old.reader.core.now self.old.reader.view id ≡ None) }
+        ensures cause { IfErr result (IsRefusedFor self.old.reader.core.now self.old.reader.view id self.new.reader.core.now) }
     {
-        let found = laid_count(&mut self.reader, self.transaction.own(), id)?;
+        let found = self.count_pairs(id)?;
         self.transaction
             .mark_range(id, (Bound::Unbounded, Bound::Unbounded))?;
         Ok(found)
@@ -195,7 +218,9 @@ impl<'a, D: Disk> TransactionReader<'a, D> {
 impl<'a, D: Disk> Pages for TransactionReader<'a, D> {
     ghost shows = { λ r id map. Sees D.honest r.reader.core.now r.reader.view r.transaction.now.own id map };
 
-    ghost reads = { λ old error new. ReadsWithin old.reader.core old.reader.view old.transaction error new.reader.core new.reader.view new.transaction };
+    ghost reads = { λ old id error new. ReadsWithin D.honest old.reader.core old.reader.view old.transaction id error new.reader.core new.reader.view new.transaction };
+
+    ghost paging = { λ old id error new. PagesWithin D.honest old.reader.core old.reader.view old.transaction id error new.reader.core new.reader.view new.transaction };
 
     fn alloc(&self) -> Global {
         self.reader.alloc()
@@ -205,11 +230,13 @@ impl<'a, D: Disk> Pages for TransactionReader<'a, D> {
         ensures ok { (map : Pairs) → Sees D.honest self.old.reader.core.now self.old.reader.view self.old.transaction.now.own id map → IfOk result (λ found. found.items ≡ page back max (pairs_between range.now map)) }
         ensures same { (i : ℕ) (map : Pairs) → Sees D.honest self.old.reader.core.now self.old.reader.view self.old.transaction.now.own i map
             → Sees D.honest self.new.reader.core.now self.new.reader.view self.new.transaction.now.own i map }
-        ensures reads { ReadsWithin self.old.reader.core self.old.reader.view self.old.transaction (result_err result) self.new.reader.core self.new.reader.view self.new.transaction }
+        ensures paging { PagesWithin D.honest self.old.reader.core self.old.reader.view self.old.transaction id (result_err result) self.new.reader.core self.new.reader.view self.new.transaction }
         // It marks nothing: whoever asks for pages marks what they are of.
         ensures unmarked { self.new.transaction.now ≡ self.old.transaction.now }
         ensures short { self.old.short ≡ true → result ≡ Err OutOfMemory }
         ensures told { self.new.short ≡ false }
+        ensures due { OnOk result (read_due self.old.reader.core.now self.old.reader.view id ≡ None) }
+        ensures cause { self.old.short ≡ false → IfErr result (IsRefusedFor self.old.reader.core.now self.old.reader.view id self.new.reader.core.now) }
     {
         if mem::take(&mut self.short) {
             return Err(Error::OutOfMemory);
@@ -224,11 +251,19 @@ impl<'a, D: Disk> Pages for TransactionReader<'a, D> {
         )
     }
 
-    ghost reads_none = { λ r. within_none r.reader.core r.reader.view r.transaction };
+    ghost reads_none = { λ r id. within_none D.honest r.reader.core r.reader.view r.transaction id };
 
-    ghost reads_on = { λ old mid new error. within_on old.reader.core mid.reader.core new.reader.core old.reader.view mid.reader.view new.reader.view old.transaction mid.transaction new.transaction error };
+    ghost reads_on = { λ old mid new first id error. within_on D.honest old.reader.core mid.reader.core new.reader.core old.reader.view mid.reader.view new.reader.view old.transaction mid.transaction new.transaction first id error };
 
-    ghost reads_short = { λ old new. within_short old.reader.core new.reader.core old.reader.view new.reader.view old.transaction new.transaction };
+    ghost reads_short = { λ old new id. within_short D.honest old.reader.core new.reader.core old.reader.view new.reader.view old.transaction new.transaction id };
+
+    ghost paging_none = { λ r id. pages_none D.honest r.reader.core r.reader.view r.transaction id };
+
+    ghost paging_on = { λ old mid new first id error. pages_on D.honest old.reader.core mid.reader.core new.reader.core old.reader.view mid.reader.view new.reader.view old.transaction mid.transaction new.transaction first id error };
+
+    ghost paging_short = { λ old new id. pages_short D.honest old.reader.core new.reader.core old.reader.view new.reader.view old.transaction new.transaction id };
+
+    ghost paging_reads = { λ old new id error. pages_within D.honest old.reader.core new.reader.core old.reader.view new.reader.view old.transaction new.transaction id error };
 }
 
 impl<'a, D: Disk> Readable for TransactionReader<'a, D> {
@@ -236,9 +271,11 @@ impl<'a, D: Disk> Readable for TransactionReader<'a, D> {
         ensures ok { (map : Pairs) → Sees D.honest self.old.reader.core.now self.old.reader.view self.old.transaction.now.own (K.identity keyspace.now) map → IfOk result (λ found. found ≡ lookup map key.now) }
         ensures same { (i : ℕ) (map : Pairs) → Sees D.honest self.old.reader.core.now self.old.reader.view self.old.transaction.now.own i map
             → Sees D.honest self.new.reader.core.now self.new.reader.view self.new.transaction.now.own i map }
-        ensures reads { ReadsWithin self.old.reader.core self.old.reader.view self.old.transaction (result_err result) self.new.reader.core self.new.reader.view self.new.transaction }
+        ensures reads { ReadsWithin D.honest self.old.reader.core self.old.reader.view self.old.transaction (K.identity keyspace.now) (result_err result) self.new.reader.core self.new.reader.view self.new.transaction }
         ensures marked { OnOk result (self.new.transaction.now ≡ having_read self.old.transaction.now (OfKey (K.identity keyspace.now) key.now)) }
         ensures unmarked { OnErr result (self.new.transaction.now ≡ self.old.transaction.now) }
+        ensures due { OnOk result (read_due self.old.reader.core.now self.old.reader.view (K.identity keyspace.now) ≡ None) }
+        ensures cause { IfErr result (IsRefusedFor self.old.reader.core.now self.old.reader.view (K.identity keyspace.now) self.new.reader.core.now) }
     {
         self.read_key(keyspace.id(), key)
     }
@@ -247,9 +284,11 @@ impl<'a, D: Disk> Readable for TransactionReader<'a, D> {
         ensures ok { (map : Pairs) → Sees D.honest self.old.reader.core.now self.old.reader.view self.old.transaction.now.own (K.identity keyspace.now) map → IfOk result (λ found. found ≡ is_some (lookup map key.now)) }
         ensures same { (i : ℕ) (map : Pairs) → Sees D.honest self.old.reader.core.now self.old.reader.view self.old.transaction.now.own i map
             → Sees D.honest self.new.reader.core.now self.new.reader.view self.new.transaction.now.own i map }
-        ensures reads { ReadsWithin self.old.reader.core self.old.reader.view self.old.transaction (result_err result) self.new.reader.core self.new.reader.view self.new.transaction }
+        ensures reads { ReadsWithin D.honest self.old.reader.core self.old.reader.view self.old.transaction (K.identity keyspace.now) (result_err result) self.new.reader.core self.new.reader.view self.new.transaction }
         ensures marked { OnOk result (self.new.transaction.now ≡ having_read self.old.transaction.now (OfKey (K.identity keyspace.now) key.now)) }
         ensures unmarked { OnErr result (self.new.transaction.now ≡ self.old.transaction.now) }
+        ensures due { OnOk result (read_due self.old.reader.core.now self.old.reader.view (K.identity keyspace.now) ≡ None) }
+        ensures cause { IfErr result (IsRefusedFor self.old.reader.core.now self.old.reader.view (K.identity keyspace.now) self.new.reader.core.now) }
     {
         Ok(self.read_key(keyspace.id(), key)?.is_some())
     }
@@ -258,9 +297,11 @@ impl<'a, D: Disk> Readable for TransactionReader<'a, D> {
         ensures ok { (map : Pairs) → Sees D.honest self.old.reader.core.now self.old.reader.view self.old.transaction.now.own (K.identity keyspace.now) map → IfOk result (λ found. found ≡ option_map size_of (lookup map key.now)) }
         ensures same { (i : ℕ) (map : Pairs) → Sees D.honest self.old.reader.core.now self.old.reader.view self.old.transaction.now.own i map
             → Sees D.honest self.new.reader.core.now self.new.reader.view self.new.transaction.now.own i map }
-        ensures reads { ReadsWithin self.old.reader.core self.old.reader.view self.old.transaction (result_err result) self.new.reader.core self.new.reader.view self.new.transaction }
+        ensures reads { ReadsWithin D.honest self.old.reader.core self.old.reader.view self.old.transaction (K.identity keyspace.now) (result_err result) self.new.reader.core self.new.reader.view self.new.transaction }
         ensures marked { OnOk result (self.new.transaction.now ≡ having_read self.old.transaction.now (OfKey (K.identity keyspace.now) key.now)) }
         ensures unmarked { OnErr result (self.new.transaction.now ≡ self.old.transaction.now) }
+        ensures due { OnOk result (read_due self.old.reader.core.now self.old.reader.view (K.identity keyspace.now) ≡ None) }
+        ensures cause { IfErr result (IsRefusedFor self.old.reader.core.now self.old.reader.view (K.identity keyspace.now) self.new.reader.core.now) }
     {
         match self.read_key(keyspace.id(), key)? {
             Some(value) => Ok(Some(bytes_in(&value))),
@@ -272,9 +313,11 @@ impl<'a, D: Disk> Readable for TransactionReader<'a, D> {
         ensures found { (map : Pairs) → Sees D.honest self.old.reader.core.now self.old.reader.view self.old.transaction.now.own (K.identity keyspace.now) map → FindsOf (first_of (all_of map)) result }
         ensures same { (i : ℕ) (map : Pairs) → Sees D.honest self.old.reader.core.now self.old.reader.view self.old.transaction.now.own i map
             → Sees D.honest self.new.reader.core.now self.new.reader.view self.new.transaction.now.own i map }
-        ensures reads { ReadsWithin self.old.reader.core self.old.reader.view self.old.transaction (error_in result) self.new.reader.core self.new.reader.view self.new.transaction }
+        ensures reads { ReadsWithin D.honest self.old.reader.core self.old.reader.view self.old.transaction (K.identity keyspace.now) (error_in result) self.new.reader.core self.new.reader.view self.new.transaction }
         ensures marked { IfNone (error_in result) (self.new.transaction.now ≡ having_read self.old.transaction.now (whole_of (K.identity keyspace.now))) }
         ensures unmarked { IfSome (error_in result) (λ _. self.new.transaction.now ≡ self.old.transaction.now) }
+        ensures due { IfNone (error_in result) (read_due self.old.reader.core.now self.old.reader.view (K.identity keyspace.now) ≡ None) }
+        ensures cause { IfSome (error_in result) (IsRefusedFor self.old.reader.core.now self.old.reader.view (K.identity keyspace.now) self.new.reader.core.now) }
     {
         guarded(self.read_first(keyspace.id()))
     }
@@ -283,9 +326,11 @@ impl<'a, D: Disk> Readable for TransactionReader<'a, D> {
         ensures found { (map : Pairs) → Sees D.honest self.old.reader.core.now self.old.reader.view self.old.transaction.now.own (K.identity keyspace.now) map → FindsOf (last_of (all_of map)) result }
         ensures same { (i : ℕ) (map : Pairs) → Sees D.honest self.old.reader.core.now self.old.reader.view self.old.transaction.now.own i map
             → Sees D.honest self.new.reader.core.now self.new.reader.view self.new.transaction.now.own i map }
-        ensures reads { ReadsWithin self.old.reader.core self.old.reader.view self.old.transaction (error_in result) self.new.reader.core self.new.reader.view self.new.transaction }
+        ensures reads { ReadsWithin D.honest self.old.reader.core self.old.reader.view self.old.transaction (K.identity keyspace.now) (error_in result) self.new.reader.core self.new.reader.view self.new.transaction }
         ensures marked { IfNone (error_in result) (self.new.transaction.now ≡ having_read self.old.transaction.now (whole_of (K.identity keyspace.now))) }
         ensures unmarked { IfSome (error_in result) (λ _. self.new.transaction.now ≡ self.old.transaction.now) }
+        ensures due { IfNone (error_in result) (read_due self.old.reader.core.now self.old.reader.view (K.identity keyspace.now) ≡ None) }
+        ensures cause { IfSome (error_in result) (IsRefusedFor self.old.reader.core.now self.old.reader.view (K.identity keyspace.now) self.new.reader.core.now) }
     {
         guarded(self.read_last(keyspace.id()))
     }
@@ -294,9 +339,11 @@ impl<'a, D: Disk> Readable for TransactionReader<'a, D> {
         ensures ok { (map : Pairs) → Sees D.honest self.old.reader.core.now self.old.reader.view self.old.transaction.now.own (K.identity keyspace.now) map → IfOk result (λ count. count ≡ count_of map) }
         ensures same { (i : ℕ) (map : Pairs) → Sees D.honest self.old.reader.core.now self.old.reader.view self.old.transaction.now.own i map
             → Sees D.honest self.new.reader.core.now self.new.reader.view self.new.transaction.now.own i map }
-        ensures reads { ReadsWithin self.old.reader.core self.old.reader.view self.old.transaction (result_err result) self.new.reader.core self.new.reader.view self.new.transaction }
+        ensures reads { ReadsWithin D.honest self.old.reader.core self.old.reader.view self.old.transaction (K.identity keyspace.now) (result_err result) self.new.reader.core self.new.reader.view self.new.transaction }
         ensures marked { OnOk result (self.new.transaction.now ≡ having_read self.old.transaction.now (whole_of (K.identity keyspace.now))) }
         ensures unmarked { OnErr result (self.new.transaction.now ≡ self.old.transaction.now) }
+        ensures due { OnOk result (read_due self.old.reader.core.now self.old.reader.view (K.identity keyspace.now) ≡ None) }
+        ensures cause { IfErr result (IsRefusedFor self.old.reader.core.now self.old.reader.view (K.identity keyspace.now) self.new.reader.core.now) }
     {
         self.read_count(keyspace.id())
     }
@@ -305,9 +352,11 @@ impl<'a, D: Disk> Readable for TransactionReader<'a, D> {
         ensures ok { (map : Pairs) → Sees D.honest self.old.reader.core.now self.old.reader.view self.old.transaction.now.own (K.identity keyspace.now) map → IfOk result (λ empty. empty ≡ is_none_of (all_of map)) }
         ensures same { (i : ℕ) (map : Pairs) → Sees D.honest self.old.reader.core.now self.old.reader.view self.old.transaction.now.own i map
             → Sees D.honest self.new.reader.core.now self.new.reader.view self.new.transaction.now.own i map }
-        ensures reads { ReadsWithin self.old.reader.core self.old.reader.view self.old.transaction (result_err result) self.new.reader.core self.new.reader.view self.new.transaction }
+        ensures reads { ReadsWithin D.honest self.old.reader.core self.old.reader.view self.old.transaction (K.identity keyspace.now) (result_err result) self.new.reader.core self.new.reader.view self.new.transaction }
         ensures marked { OnOk result (self.new.transaction.now ≡ having_read self.old.transaction.now (whole_of (K.identity keyspace.now))) }
         ensures unmarked { OnErr result (self.new.transaction.now ≡ self.old.transaction.now) }
+        ensures due { OnOk result (read_due self.old.reader.core.now self.old.reader.view (K.identity keyspace.now) ≡ None) }
+        ensures cause { IfErr result (IsRefusedFor self.old.reader.core.now self.old.reader.view (K.identity keyspace.now) self.new.reader.core.now) }
     {
         Ok(self.read_first(keyspace.id())?.is_none())
     }
@@ -318,7 +367,8 @@ impl<'a, D: Disk> Readable for TransactionReader<'a, D> {
         ensures whole { result.short ≡ false }
         ensures same { (i : ℕ) (map : Pairs) → Sees D.honest self.old.reader.core.now self.old.reader.view self.old.transaction.now.own i map
             → Sees D.honest result.reader.now.reader.core.now result.reader.now.reader.view result.reader.now.transaction.now.own i map }
-        ensures reads { ReadsWithin self.old.reader.core self.old.reader.view self.old.transaction None result.reader.now.reader.core result.reader.now.reader.view result.reader.now.transaction }
+        ensures reads { ReadsWithin D.honest self.old.reader.core self.old.reader.view self.old.transaction (K.identity keyspace.now) None result.reader.now.reader.core result.reader.now.reader.view result.reader.now.transaction }
+        ensures keyspace { result.cursor.id ≡ K.identity keyspace.now }
         ensures same_reader { result.reader.ghost_name ≡ self.entry.ghost_name }
         // Where the mark finds no memory, the first page is refused for it.
         ensures marked { IsMarkedOrShort self.old.transaction.now (whole_of (K.identity keyspace.now)) result.reader.now.transaction.now result.reader.now.short }
@@ -333,7 +383,8 @@ impl<'a, D: Disk> Readable for TransactionReader<'a, D> {
             → (Sees D.honest result.reader.now.reader.core.now result.reader.now.reader.view result.reader.now.transaction.now.own result.cursor.id map) × (left_of map result ≡ pairs_between (key_range range.entry) map) }
         ensures same { (i : ℕ) (map : Pairs) → Sees D.honest self.old.reader.core.now self.old.reader.view self.old.transaction.now.own i map
             → Sees D.honest result.reader.now.reader.core.now result.reader.now.reader.view result.reader.now.transaction.now.own i map }
-        ensures reads { ReadsWithin self.old.reader.core self.old.reader.view self.old.transaction None result.reader.now.reader.core result.reader.now.reader.view result.reader.now.transaction }
+        ensures reads { ReadsWithin D.honest self.old.reader.core self.old.reader.view self.old.transaction (K.identity keyspace.now) None result.reader.now.reader.core result.reader.now.reader.view result.reader.now.transaction }
+        ensures keyspace { result.cursor.id ≡ K.identity keyspace.now }
         ensures same_reader { result.reader.ghost_name ≡ self.entry.ghost_name }
         ensures marked { result.short ≡ false → result.reader.now.transaction.now ≡ having_read self.old.transaction.now (OfRange (K.identity keyspace.now) (key_range range.entry).0 (key_range range.entry).1) }
         ensures unmarked { result.short ≡ true → result.reader.now.transaction.now ≡ self.old.transaction.now }
@@ -351,7 +402,8 @@ impl<'a, D: Disk> Readable for TransactionReader<'a, D> {
             → (Sees D.honest result.reader.now.reader.core.now result.reader.now.reader.view result.reader.now.transaction.now.own result.cursor.id map) × (left_of map result ≡ pairs_between (prefix_range prefix.now) map) }
         ensures same { (i : ℕ) (map : Pairs) → Sees D.honest self.old.reader.core.now self.old.reader.view self.old.transaction.now.own i map
             → Sees D.honest result.reader.now.reader.core.now result.reader.now.reader.view result.reader.now.transaction.now.own i map }
-        ensures reads { ReadsWithin self.old.reader.core self.old.reader.view self.old.transaction None result.reader.now.reader.core result.reader.now.reader.view result.reader.now.transaction }
+        ensures reads { ReadsWithin D.honest self.old.reader.core self.old.reader.view self.old.transaction (K.identity keyspace.now) None result.reader.now.reader.core result.reader.now.reader.view result.reader.now.transaction }
+        ensures keyspace { result.cursor.id ≡ K.identity keyspace.now }
         ensures same_reader { result.reader.ghost_name ≡ self.entry.ghost_name }
         ensures marked { result.short ≡ false → result.reader.now.transaction.now ≡ having_read self.old.transaction.now (OfRange (K.identity keyspace.now) (prefix_range prefix.now).0 (prefix_range prefix.now).1) }
         ensures unmarked { result.short ≡ true → result.reader.now.transaction.now ≡ self.old.transaction.now }

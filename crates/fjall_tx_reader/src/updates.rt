@@ -81,7 +81,7 @@ impl<'a, D: Disk> TransactionReader<'a, D> {
         // What was seen with whichever own writes is seen with them still.
         ensures same { (own : Own) (i : ℕ) (map : Pairs) → Sees D.honest self.old.reader.core.now self.old.reader.view own i map
             → Sees D.honest self.new.reader.core.now self.new.reader.view own i map }
-        ensures reads { Reads self.old.reader.core self.old.reader.view None self.new.reader.core self.new.reader.view }
+        ensures reads { Reads D.honest self.old.reader.core self.old.reader.view id None self.new.reader.core self.new.reader.view }
         ensures lent { self.new.transaction.ghost_name ≡ self.old.transaction.ghost_name }
     {
         self.fetch_update(id, key, |_| Ok(None))
@@ -106,7 +106,7 @@ impl<'a, D: Disk> TransactionReader<'a, D> {
         ensures refused { IfErr result (IsUpdateRefusal (Makes F.FnOnce f) D.honest self.old.reader.core.now self.old.reader.view self.old.transaction.now.own id key self.new.reader.core.now) }
         ensures same { (own : Own) (i : ℕ) (map : Pairs) → Sees D.honest self.old.reader.core.now self.old.reader.view own i map
             → Sees D.honest self.new.reader.core.now self.new.reader.view own i map }
-        ensures reads { Reads self.old.reader.core self.old.reader.view None self.new.reader.core self.new.reader.view }
+        ensures reads { Reads D.honest self.old.reader.core self.old.reader.view id None self.new.reader.core self.new.reader.view }
         ensures lent { self.new.transaction.ghost_name ≡ self.old.transaction.ghost_name }
     {
         let found = self.read_key(id, key.as_slice())?;
@@ -129,7 +129,7 @@ impl<'a, D: Disk> TransactionReader<'a, D> {
         ensures refused { IfErr result (IsUpdateRefusal (Makes F.FnOnce f) D.honest self.old.reader.core.now self.old.reader.view self.old.transaction.now.own id key self.new.reader.core.now) }
         ensures same { (own : Own) (i : ℕ) (map : Pairs) → Sees D.honest self.old.reader.core.now self.old.reader.view own i map
             → Sees D.honest self.new.reader.core.now self.new.reader.view own i map }
-        ensures reads { Reads self.old.reader.core self.old.reader.view None self.new.reader.core self.new.reader.view }
+        ensures reads { Reads D.honest self.old.reader.core self.old.reader.view id None self.new.reader.core self.new.reader.view }
         ensures lent { self.new.transaction.ghost_name ≡ self.old.transaction.ghost_name }
     {
         let found = self.read_key(id, key.as_slice())?;

@@ -110,7 +110,9 @@ impl Pages for Kept {
     // It promises no map: what it gives is tested, not proved.
     ghost shows = { λ kept id map. ⊥ };
 
-    ghost reads = { λ old error new. ⊤ };
+    ghost reads = { λ old id error new. ⊤ };
+
+    ghost paging = { λ old id error new. ⊤ };
 
     fn alloc(&self) -> Global {
         self.alloc
@@ -132,11 +134,19 @@ impl Pages for Kept {
         )
     }
 
-    ghost reads_none = { λ pages. tt };
+    ghost reads_none = { λ kept id. tt };
 
-    ghost reads_on = { λ old mid new error first second. tt };
+    ghost reads_on = { λ old mid new first id error before then. tt };
 
-    ghost reads_short = { λ old new reads. tt };
+    ghost reads_short = { λ old new id reads. tt };
+
+    ghost paging_none = { λ kept id. tt };
+
+    ghost paging_on = { λ old mid new first id error before then. tt };
+
+    ghost paging_short = { λ old new id pages. tt };
+
+    ghost paging_reads = { λ old new id error pages. tt };
 }
 
 /// The keys a, b, c and d of the keyspace 1.

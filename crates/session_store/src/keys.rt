@@ -15,7 +15,7 @@ use std::alloc::Global;
 fn take_keys<R: Pages>(alloc: Global, pairs: &mut ReadIter<'_, R>) -> Result<Vec<UserKey>>
     ensures keys { (map : Pairs) → IsShown R.shows pairs.old map → IfOk result (λ keys. keys.items ≡ keys_in (left_of map pairs.old)) }
     ensures short { pairs.old.short ≡ true → result ≡ Err OutOfMemory }
-    ensures reads { R.reads pairs.old.reader.now (result_err result) pairs.new.reader.now }
+    ensures reads { R.reads pairs.old.reader.now pairs.old.cursor.id (result_err result) pairs.new.reader.now }
     ensures same_reader { pairs.new.reader.ghost_name ≡ pairs.old.reader.ghost_name }
 {
     let mut keys = Vec::new(alloc);
@@ -36,7 +36,7 @@ pub fn read_keys<R: Readable>(
     range: &KeyRange,
 ) -> Result<Vec<UserKey>>
     ensures keys { (map : Pairs) → R.shows reader.old keyspace map → IfOk result (λ keys. keys.items ≡ keys_in (pairs_between range.now map)) }
-    ensures reads { R.reads reader.old (result_err result) reader.new }
+    ensures reads { R.reads reader.old keyspace (result_err result) reader.new }
 {
     let alloc = reader.alloc();
     let mut pairs = reader.range(&keyspace, bounds_of(range));

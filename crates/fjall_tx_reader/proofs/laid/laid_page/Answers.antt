@@ -7,4 +7,4 @@ pub returns-clause-ok : goal.returns-clause-ok
 returns-clause-ok g c below shown =
     let a = c.args in
     c.lay_over.ensures.ok (insert {R = nat_cmp} empty a.id below)
-    (wanted_of_one a.own.now a.id a.range.now a.back a.max c.in_ok-wanted.wanted below c.in_ok-found.found.items c.in_ok-wanted.ensures.ok (c.in_ok-found.ensures.ok below shown))
+    (wanted_of_one a.own.now a.id a.range.now a.back a.max c.in-Ok.wanted below c.in_ok-found.found.items c.in-Ok.ensures.ok (c.in_ok-found.ensures.ok below shown))

@@ -10,6 +10,7 @@ invariant-loop g l = record {
   keys : (map : Pairs) → IsShown g.R.Pages.shows l.initial.pairs map → l.keys.items ++ keys_in (left_of map l.pairs) ≡ keys_in (left_of map l.initial.pairs);
   shown : (map : Pairs) → IsShown g.R.Pages.shows l.initial.pairs map → IsShown g.R.Pages.shows l.pairs map;
   short : l.initial.pairs.short ≡ true → l.pairs.short ≡ true;
-  reads : g.R.Pages.reads l.initial.pairs.reader.now None l.pairs.reader.now;
+  reads : g.R.Pages.reads l.initial.pairs.reader.now l.initial.pairs.cursor.id None l.pairs.reader.now;
+  same_keyspace : l.pairs.cursor.id ≡ l.initial.pairs.cursor.id;
   same_reader : l.pairs.reader.ghost_name ≡ l.initial.pairs.reader.ghost_name;
 }

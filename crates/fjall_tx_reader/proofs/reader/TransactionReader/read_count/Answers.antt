@@ -1,39 +1,25 @@
-use Rattle.std.proofs.Common.{rules, ◌≡◌, ◌∙◌, ap, refl, sym}
-use Rattle.fjall_base.specs.Pairs.{Pairs}
-use Rattle.fjall_own.specs.Owns.{Own}
-use Rattle.fjall_reading.specs.Readers.{count_of}
-use Rattle.fjall_transactions.specs.Transactions.{Tx}
-use Rattle.fjall_tx_reader.specs.Laid.{laid}
+use Rattle.std.proofs.Common.{rules, ◌∙◌, ap}
+use Rattle.fjall_transactions.specs.Transactions.{Tx, having_read}
 use Rattle.fjall_tx_reader.specs.Seeing.{whole_of}
 use Rattle.fjall_tx_reader.proofs.Laying.{read_marked, sees_on}
 use Rattle.fjall_tx_reader.proofs.reader.TransactionReader.read_count.Goals as goal
 
-pub returns-in_err-found-clause-same : goal.returns-in_err-found-clause-same
-returns-in_err-found-clause-same g c =
-    let self = c.args.self.now in
-    let own = self.transaction.now.own in
-    sees_on g.D.Disk.honest self.reader.core.now c.laid_count.new.pages.core.now self.reader.view c.laid_count.new.pages.view own own c.laid_count.ensures.same refl
-
 pub returns-in_err-mark_range-clause-same : goal.returns-in_err-mark_range-clause-same
-returns-in_err-mark_range-clause-same g c =
-    let self = c.args.self.now in
-    sees_on g.D.Disk.honest self.reader.core.now c.laid_count.new.pages.core.now self.reader.view c.laid_count.new.pages.view self.transaction.now.own c.mark_range.new.self.own c.laid_count.ensures.same
-    (ap (λ (tx : Tx). tx.own) c.in_err-mark_range.ensures.unchanged)
-
-pub returns-clause-ok : goal.returns-clause-ok
-returns-clause-ok g c map (below, shown, is) =
-    let a = c.args in
-    let seen : map ≡ laid c.own.result.now a.id below = is ∙ ap (λ (own : Own). laid own a.id below) (sym c.own.ensures) in
-    c.in_ok-found.ensures.ok below shown ∙ ap (λ (m : Pairs). count_of m) (sym seen)
+returns-in_err-mark_range-clause-same g c i map seen =
+    let mid = c.count_pairs.new.self in
+    sees_on g.D.Disk.honest mid.reader.core.now mid.reader.core.now mid.reader.view mid.reader.view mid.transaction.now.own c.mark_range.new.self.own (λ i map shown. shown)
+    (ap (λ (tx : Tx). tx.own) c.in_err-mark_range.ensures.unchanged) i map (c.in_ok-found.ensures.same i map seen)
 
 pub returns-clause-same : goal.returns-clause-same
-returns-clause-same g c =
-    let self = c.args.self.now in
-    sees_on g.D.Disk.honest self.reader.core.now c.laid_count.new.pages.core.now self.reader.view c.laid_count.new.pages.view self.transaction.now.own c.mark_range.new.self.own c.laid_count.ensures.same
-    (ap (λ (tx : Tx). tx.own) c.in_ok-mark_range.ensures.ok)
+returns-clause-same g c i map seen =
+    let mid = c.count_pairs.new.self in
+    sees_on g.D.Disk.honest mid.reader.core.now mid.reader.core.now mid.reader.view mid.reader.view mid.transaction.now.own c.mark_range.new.self.own (λ i map shown. shown)
+    (ap (λ (tx : Tx). tx.own) c.in_ok-mark_range.ensures.ok) i map (c.in_ok-found.ensures.same i map seen)
 
 pub returns-clause-reads : goal.returns-clause-reads
 returns-clause-reads g c =
     let self = c.args.self.now in
-    let grown = read_marked self.transaction.now c.mark_range.new.self (whole_of c.args.id) c.in_ok-mark_range.ensures.ok in
-    record { reads = search rules; grown = grown; lent = search rules }
+    let read = c.in_ok-found.ensures.reads in
+    let grown = read_marked self.transaction.now c.mark_range.new.self (whole_of c.args.id)
+    (c.in_ok-mark_range.ensures.ok ∙ ap (λ (tx : Tx). having_read tx (whole_of c.args.id)) c.in_ok-found.ensures.unmarked) in
+    record { reads = read.reads; grown = grown; lent = search rules }

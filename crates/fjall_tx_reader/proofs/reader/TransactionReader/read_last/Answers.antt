@@ -12,12 +12,12 @@ pub returns-in_err-found-clause-same : goal.returns-in_err-found-clause-same
 returns-in_err-found-clause-same g c =
     let self = c.args.self.now in
     let own = self.transaction.now.own in
-    sees_on g.D.Disk.honest self.reader.core.now c.laid_last.new.pages.core.now self.reader.view c.laid_last.new.pages.view own own c.laid_last.ensures.same refl
+    sees_on g.D.Disk.honest self.reader.core.now c.laid_last.new.reader.core.now self.reader.view c.laid_last.new.reader.view own own c.laid_last.ensures.same refl
 
 pub returns-in_err-mark_range-clause-same : goal.returns-in_err-mark_range-clause-same
 returns-in_err-mark_range-clause-same g c =
     let self = c.args.self.now in
-    sees_on g.D.Disk.honest self.reader.core.now c.laid_last.new.pages.core.now self.reader.view c.laid_last.new.pages.view self.transaction.now.own c.mark_range.new.self.own c.laid_last.ensures.same
+    sees_on g.D.Disk.honest self.reader.core.now c.laid_last.new.reader.core.now self.reader.view c.laid_last.new.reader.view self.transaction.now.own c.mark_range.new.self.own c.laid_last.ensures.same
     (ap (λ (tx : Tx). tx.own) c.in_err-mark_range.ensures.unchanged)
 
 pub returns-clause-ok : goal.returns-clause-ok
@@ -29,7 +29,7 @@ returns-clause-ok g c map (below, shown, is) =
 pub returns-clause-same : goal.returns-clause-same
 returns-clause-same g c =
     let self = c.args.self.now in
-    sees_on g.D.Disk.honest self.reader.core.now c.laid_last.new.pages.core.now self.reader.view c.laid_last.new.pages.view self.transaction.now.own c.mark_range.new.self.own c.laid_last.ensures.same
+    sees_on g.D.Disk.honest self.reader.core.now c.laid_last.new.reader.core.now self.reader.view c.laid_last.new.reader.view self.transaction.now.own c.mark_range.new.self.own c.laid_last.ensures.same
     (ap (λ (tx : Tx). tx.own) c.in_ok-mark_range.ensures.ok)
 
 pub returns-clause-reads : goal.returns-clause-reads

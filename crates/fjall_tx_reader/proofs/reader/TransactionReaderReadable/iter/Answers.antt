@@ -24,4 +24,4 @@ returns-clause-reads g c =
     let self = c.args.self.now in
     let mid = c.mark_whole.new.self in
     let grown = read_either self.transaction.now mid.transaction.now (whole_of c.id-id.result) mid.short c.mark_whole.ensures.marked in
-    rw (c.new.ensures.reader, c.mark_whole.ensures.reader) (only_marked self.reader.core self.reader.view self.transaction mid.transaction grown c.mark_whole.ensures.same_transaction)
+    rw (c.new.ensures.reader, c.mark_whole.ensures.reader) (only_marked g.D.Disk.honest self.reader.core self.reader.view self.transaction mid.transaction _ grown c.mark_whole.ensures.same_transaction)

@@ -29,7 +29,7 @@ returns-in-Ok-clause-reads g c =
     let self = c.args.self.now in
     let mid = c.mark_between.new.self in
     let grown = read_marked self.transaction.now mid.transaction.now (OfRange c.id-id.result c.in-Ok.range.0 c.in-Ok.range.1) c.in-Ok.ensures.marked in
-    rw (c.new.ensures.reader, c.mark_between.ensures.reader) (only_marked self.reader.core self.reader.view self.transaction mid.transaction grown c.mark_between.ensures.same_transaction)
+    rw (c.new.ensures.reader, c.mark_between.ensures.reader) (only_marked g.D.Disk.honest self.reader.core self.reader.view self.transaction mid.transaction _ grown c.mark_between.ensures.same_transaction)
 
 pub returns-in-Err-clause-same : goal.returns-in-Err-clause-same
 returns-in-Err-clause-same g c i map seen =
@@ -43,4 +43,4 @@ returns-in-Err-clause-reads g c =
     let self = c.args.self.now in
     let mid = c.mark_between.new.self in
     let grown = read_nothing self.transaction.now mid.transaction.now c.in-Err.ensures.unmarked in
-    rw (c.out_of_memory.ensures.reader, c.mark_between.ensures.reader) (only_marked self.reader.core self.reader.view self.transaction mid.transaction grown c.mark_between.ensures.same_transaction)
+    rw (c.out_of_memory.ensures.reader, c.mark_between.ensures.reader) (only_marked g.D.Disk.honest self.reader.core self.reader.view self.transaction mid.transaction _ grown c.mark_between.ensures.same_transaction)
