@@ -101,7 +101,7 @@ pub fn told(alloc: Global, wording: Wording, reply: &Reply, number: usize) -> Te
             format!(in alloc; "ticket {} at {}", ticket.id, ticket.instant)
         }
         (Reply::Opened(_), _) => format!(in alloc; "snapshot {number}"),
-        (Reply::Began(job), Wording::Job | Wording::Begun) => flag(alloc, job.is_some()),
+        (Reply::Began(job), Wording::Begun) => flag(alloc, job.is_some()),
         (Reply::Began(Some(job)), _) => {
             format!(in alloc; "job {} of {}", job.number, job.keyspace_id)
         }
@@ -111,10 +111,27 @@ pub fn told(alloc: Global, wording: Wording, reply: &Reply, number: usize) -> Te
     }
 }
 
-// The reply that is told of those to a line: of a job that was begun the second, of many the first refusal.
+// Whether a reply says nothing of its line: a job isn't out, so that it could not be finished; or one was begun, or there was none
+// to begin.
+fn is_idle(reply: &Reply) -> bool {
+    matches!(reply, Reply::Flag(false) | Reply::Began(_))
+}
+
+// The last of these replies that says something, or the last.
+fn last_said(replies: &[Reply]) -> Option<&Reply> {
+    let mut said = replies.last();
+    for reply in replies {
+        if !is_idle(reply) {
+            said = Some(reply);
+        }
+    }
+    said
+}
+
+// The reply that is told of those to a line: of a job the last that says something, of many the first refusal.
 fn chosen<'a>(wording: Wording, replies: &'a [Reply]) -> Option<&'a Reply> {
     match (wording, replies) {
-        (Wording::Job, [Reply::Began(Some(_)), finished]) => Some(finished),
+        (Wording::Job(_), replies) => last_said(replies),
         (Wording::Many(_), replies) => {
             let refused = replies
                 .iter()

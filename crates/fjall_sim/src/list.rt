@@ -24,8 +24,8 @@ pub enum Wording {
     Keys,
     /// Whether a job was begun, which is let go.
     Begun,
-    /// Two calls: a job is begun and finished.
-    Job,
+    /// So many calls: what earlier lines left of a job is finished, and another is begun and finished.
+    Job(usize),
     /// So many calls that are told as one.
     Many(usize),
 }
@@ -34,8 +34,7 @@ impl Wording {
     /// How many calls the line makes.
     pub fn calls(self) -> usize {
         match self {
-            Wording::Job => 2,
-            Wording::Many(count) => count,
+            Wording::Job(count) | Wording::Many(count) => count,
             _ => 1,
         }
     }
@@ -86,6 +85,8 @@ struct BegunJob {
     keyspace_id: u64,
     is_merge: bool,
     place: u64,
+    // whether the line that begins it finishes it too
+    is_whole: bool,
 }
 
 /// The calls that lines make.
@@ -196,16 +197,21 @@ impl List {
         self.add(Wording::Begin, TxCall::Begin(kind))
     }
 
-    /// Adds a call that begins a job of the keyspace of an id.
-    pub fn begin_job(&mut self, id: &str, work: Work) -> Parsed<Wording> {
-        let keyspace_id = number(id)?;
+    // Adds a call that begins a job.
+    fn begin(&mut self, keyspace_id: u64, work: Work, is_whole: bool) -> Parsed<Wording> {
         let begun = BegunJob {
             keyspace_id,
             is_merge: work.is_merge(),
             place: self.calls.len() as u64,
+            is_whole,
         };
         self.begun.push(begun)?;
         self.plain(work.begin(keyspace_id))
+    }
+
+    /// Adds a call that begins a job of the keyspace of an id.
+    pub fn begin_job(&mut self, id: &str, work: Work) -> Parsed<Wording> {
+        self.begin(number(id)?, work, false)
     }
 
     /// Adds a call that begins a job which nothing finishes.
@@ -220,11 +226,30 @@ impl List {
         self.plain(work.finish(job))
     }
 
-    /// Adds a job that is begun and finished.
+    // The places of the calls that began what earlier lines may have left of a job.
+    fn left(&self, keyspace_id: u64, work: Work) -> Parsed<Vec<u64>> {
+        let mut places = Vec::new(self.alloc);
+        for begun in &self.begun {
+            if begun.is_whole
+                && begun.keyspace_id == keyspace_id
+                && begun.is_merge == work.is_merge()
+            {
+                places.push(begun.place)?;
+            }
+        }
+        Ok(places)
+    }
+
+    /// Adds a job that is begun and finished. What earlier lines left of it is finished first.
     pub fn whole_job(&mut self, id: &str, work: Work) -> Parsed<Wording> {
-        self.begin_job(id, work)?;
+        let keyspace_id = number(id)?;
+        let before = self.calls.len();
+        for place in self.left(keyspace_id, work)? {
+            self.plain(work.finish(JobId::of_call(place)))?;
+        }
+        self.begin(keyspace_id, work, true)?;
         self.finish_job(id, work)?;
-        Ok(Wording::Job)
+        Ok(Wording::Job(self.calls.len().saturating_sub(before)))
     }
 
     /// Adds what a line asks for; where it isn't done, the list is as it was.
