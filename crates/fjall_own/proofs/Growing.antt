@@ -1,5 +1,5 @@
 -- One more own write is one more item behind the others, and so are many.
-use Rattle.std.proofs.Common.{◌≡◌, ℕ, Bool, true, false, cond, List, [], ◌∷◌, map, Option, None, Some, unwrap_or, refl, sym, ◌∙◌, ap}
+use Rattle.std.proofs.Common.{◌≡◌, ℕ, Bool, true, false, cond, List, [], ◌∷◌, map, Option, Some, unwrap_or, refl, sym, ◌∙◌, ap}
 use Rattle.std.specs.Ordering.{eq_by_cmp, nat_cmp}
 use Rattle.std.specs.Cmp.{nat_cmp_total}
 use Rattle.std.specs.Cmp.Lexicographic.{nat_list_cmp_total}

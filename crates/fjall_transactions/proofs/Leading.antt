@@ -1,6 +1,5 @@
 -- What a crash leaves of a commit, by the calls of the core that it was.
-use Rattle.std.proofs.Common.{◌≡◌, ⊎_elim, ◌⊎◌, inl, inr, ℕ, Bool, List, [], ◌∷◌, ◌++◌, Option, None, Some, cond, map, refl, sym, ap, subst, ◌∙◌, append_assoc}
-use Rattle.std.specs.Prelude.{is_some, length}
+use Rattle.std.proofs.Common.{◌≡◌, ◌⊎◌, inl, inr, ℕ, List, [], ◌∷◌, ◌++◌, Option, None, Some, map, sym, ap, subst, ◌∙◌, append_assoc}
 use Rattle.std.specs.FinMap.{empty, entries, get, len-empty, len-entries}
 use Rattle.std.proofs.lemmas.List.{append-nil, nil_from_length}
 use Rattle.fjall_base.specs.Disk.{Meaning}
@@ -19,14 +18,14 @@ use Rattle.fjall_history.specs.declared.reply.Reply.TheVariants.{Done, Refused}
 use Rattle.fjall_history.proofs.Tracking.{closing_due}
 use Rattle.fjall_history.proofs.Views.{fold_append}
 use Rattle.fjall_core.specs.Shapes.{ByMode, Close, OfChange, OfTickets, Shape}
-use Rattle.fjall_core.specs.Machine.{Refuses, State, StepOf, due}
+use Rattle.fjall_core.specs.Machine.{Refuses, State, due}
 use Rattle.fjall_core.specs.Holding.{Held}
 use Rattle.fjall_core.specs.Durables.{Durable, Passes}
-use Rattle.fjall_core.specs.Crashes.{CallPasses, IsSync}
+use Rattle.fjall_core.specs.Crashes.{CallPasses}
 use Rattle.fjall_core.specs.Standing.{LeadsOn, ReadsOn, Serves, StandsFor, StandsOn}
 use Rattle.fjall_core.proofs.ServedCalls.{due_serves}
 use Rattle.fjall_transactions.specs.Commits.{change_of}
-use Rattle.fjall_transactions.specs.Standing.{CommitLeadsOn, CommitPasses}
+use Rattle.fjall_transactions.specs.Standing.{CommitLeadsOn}
 use Rattle.fjall_transactions.specs.Transactions.{Tx}
 
 -- the reply of the core to a transaction's own writes, where they were written or refused

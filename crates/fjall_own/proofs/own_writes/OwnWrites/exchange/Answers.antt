@@ -1,4 +1,4 @@
-use Rattle.std.proofs.Common.{◌≡◌, ◌≤◌, ◌<◌, ◌^◌, ap, length, sym, ◌∙◌, subst, arith, List, Option}
+use Rattle.std.proofs.Common.{ap, sym, ◌∙◌, subst, arith, List, Option}
 use Rattle.std.specs.Prelude.{IfSome}
 use Rattle.std.specs.FinMap as fin
 use Rattle.std.specs.List.{AllByRecursion}

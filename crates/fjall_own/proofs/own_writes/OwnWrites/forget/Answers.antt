@@ -1,4 +1,4 @@
-use Rattle.std.proofs.Common.{◌≡◌, ◌≤◌, ◌+◌, Bool, true, false, cond, length, subst, arith, List, sym}
+use Rattle.std.proofs.Common.{subst, arith, List, sym}
 use Rattle.std.specs.List.{AllByRecursion}
 use Rattle.fjall_journal.specs.declared.op.Op.{Op}
 use Rattle.fjall_own.specs.declared.key.Key.{Key}

@@ -1,6 +1,4 @@
-use Rattle.std.proofs.Common.{◌≡◌, None, sym}
-use Rattle.fjall_base.specs.Limits.{item_refusal}
-use Rattle.fjall_journal.specs.Ops.{bytes_in}
+use Rattle.std.proofs.Common.{sym}
 use Rattle.fjall_own.proofs.Writable.{nothing_due}
 use Rattle.fjall_own.proofs.own_writes.OwnWrites.write.Goals as goal
 

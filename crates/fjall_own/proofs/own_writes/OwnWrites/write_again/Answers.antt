@@ -1,4 +1,4 @@
-use Rattle.std.proofs.Common.{◌≡◌, ◌≤◌, None, Option, length, ap, subst, arith, List, sym, ◌∙◌}
+use Rattle.std.proofs.Common.{◌≡◌, None, Option, ap, subst, arith, List, sym, ◌∙◌}
 use Rattle.std.specs.Prelude.{IsSome, is_some}
 use Rattle.std.specs.FinMap as fin
 use Rattle.std.specs.List.{AllByRecursion}

@@ -1,4 +1,4 @@
-use Rattle.std.proofs.Common.{◌≡◌, ◌≤◌, ◌+◌, None, List, length, ap, sym, subst, ◌∙◌, arith}
+use Rattle.std.proofs.Common.{◌≡◌, None, List, length, ap, sym, subst, ◌∙◌, arith}
 use Rattle.std.specs.List.{AllByRecursion}
 use Rattle.fjall_journal.specs.Ops.{BatchItem, items_refusal}
 use Rattle.fjall_own.specs.Owns.{CanTakeBack, Earlier, taken_back, with_writes}

@@ -1,5 +1,4 @@
 use Rattle.std.proofs.Common.{subst}
-use Rattle.fjall_core.specs.Machine.{State, StepOf}
 use Rattle.fjall_core.specs.Shapes.{Close, OfTickets}
 use Rattle.fjall_core.specs.Standing.{Owes, Serves, reply_of}
 use Rattle.fjall_transactions.specs.Transactions.{Tx}
