@@ -53,13 +53,13 @@ Chain Does core tx outcomes.Conflicted left = Does core (OfTickets (Close tx.tic
 Chain Does core tx (outcomes.Aborted error) left = (mid : Held) × Does core (change_of tx) (Refused error) mid × Does mid (OfTickets (Close tx.ticket.id)) Done left
 
 -- a change with some item may run out of memory
-runs_out : (items : List BatchItem) (how : Persistence) → (items ≡ [] → ⊥) → RunsOut (OfChange (Items items) how)
-runs_out [] how some = absurd (some refl)
-runs_out (item ∷ items) how some = tt
+runs_out : (core : Held) (items : List BatchItem) (how : Persistence) → (items ≡ [] → ⊥) → RunsOut core (OfChange (Items items) how)
+runs_out core [] how some = absurd (some refl)
+runs_out core (item ∷ items) how some = tt
 
 -- a refusal that the core wasn't asked for is one that it would have answered so
 abbrev MayRefuse : (Held → Shape → Reply → Held → Type 0) → Type 0
-MayRefuse Does = (core : Held) (shape : Shape) (error : Error) → RunsOut shape → IsDueOrMemory (held_due core shape) error → Does core shape (Refused error) core
+MayRefuse Does = (core : Held) (shape : Shape) (error : Error) → RunsOut core shape → IsDueOrMemory (held_due core shape) error → Does core shape (Refused error) core
 
 module _ (Does : Held → Shape → Reply → Held → Type 0) (may : MayRefuse Does) where
   comes_chain : (old new : List Committed) (core mid left : Held) (instant : ℕ) (tx : Tx) (outcome : CommitOutcome Error) → Comes Does old core instant tx outcome new mid
@@ -72,7 +72,7 @@ module _ (Does : Held → Shape → Reply → Held → Type 0) (may : MayRefuse 
       subst (λ (o : CommitOutcome Error). Chain Does core tx o left) (sym told) (mid, refused, closes)
   comes_chain old new core mid left instant tx outcome (Fails some apart error told kept (inr (due, same))) closes =
       subst (λ (o : CommitOutcome Error). Chain Does core tx o left) (sym told)
-      (core, may core (change_of tx) error (runs_out (items_of tx.own) (ByMode tx.mode) (some_items tx.own some)) due, subst (λ (h : Held). Does h (OfTickets (Close tx.ticket.id)) Done left) same closes)
+      (core, may core (change_of tx) error (runs_out core (items_of tx.own) (ByMode tx.mode) (some_items tx.own some)) due, subst (λ (h : Held). Does h (OfTickets (Close tx.ticket.id)) Done left) same closes)
   comes_chain old new core mid left instant tx outcome (Commits some apart told kept made) closes =
       subst (λ (o : CommitOutcome Error). Chain Does core tx o left) (sym told) (inr (some, mid, made, closes))
 

@@ -72,9 +72,9 @@ refused_history s t change how error (Some f) (is, same) = ap (λ (k : State). k
 refused_history s t change how error None fails = failed_history s t change how error fails
 
 -- a change of some items takes memory, and may run out of it
-takes_memory : (items : List BatchItem) (how : Persistence) → (items ≡ [] → ⊥) → RunsOut (OfChange (Items items) how)
-takes_memory [] how some = absurd (some refl)
-takes_memory (item ∷ items) how some = tt
+takes_memory : (core : Held) (items : List BatchItem) (how : Persistence) → (items ≡ [] → ⊥) → RunsOut core (OfChange (Items items) how)
+takes_memory core [] how some = absurd (some refl)
+takes_memory core (item ∷ items) how some = tt
 
 -- one that is made accepts its command
 made_history : (s t : State) (items : List BatchItem) (how : Persistence) → (items ≡ [] → ⊥) → t ≡ accepted s (Items items) how → t.history ≡ grown s.history (plain (write_of items))
@@ -194,7 +194,7 @@ Goes Does At More = (core new : Held) (shape : Shape) (reply : Reply) → (Rests
 
 -- a refusal that the core wasn't asked for is one that it would have answered so
 abbrev MayRefuse : (Held → Shape → Reply → Held → Type 0) → Type 0
-MayRefuse Does = (core : Held) (shape : Shape) (error : Error) → RunsOut shape → IsDueOrMemory (held_due core shape) error → Does core shape (Refused error) core
+MayRefuse Does = (core : Held) (shape : Shape) (error : Error) → RunsOut core shape → IsDueOrMemory (held_due core shape) error → Does core shape (Refused error) core
 
 module _ (Does : Held → Shape → Reply → Held → Type 0) (At : Held → State → Type 0) (More : Held → State → Shape → Reply → Held → State → Type 0) (goes : Goes Does At More) (may : MayRefuse Does) where
   -- what a commit comes to, behind which its ticket is closed
@@ -251,7 +251,7 @@ module _ (Does : Held → Shape → Reply → Held → Type 0) (At : Held → St
       subst (λ l. Ended core left (record kept { commits = pruned l left.memory.tickets.watermark }) t tx outcome) (sym (same_commits (kept_of_core core kept t stands)))
       (refused_ended core mid left kept t tx outcome instant error stands at there some (λ met. apart (met_kept core kept t stands tx.ticket.id instant tx.marks there met)) told refused closes)
   comes_stands core mid left kept t tx outcome instant all stands at there (Fails some apart error told same_commits (inr (due, same))) closes =
-      let refused = may core (change_of tx) error (takes_memory (items_of tx.own) (ByMode tx.mode) (some_items tx.own some)) due in
+      let refused = may core (change_of tx) error (takes_memory core (items_of tx.own) (ByMode tx.mode) (some_items tx.own some)) due in
       subst (λ l. Ended core left (record kept { commits = pruned l left.memory.tickets.watermark }) t tx outcome) (sym (same_commits (kept_of_core core kept t stands)))
       (refused_ended core core left kept t tx outcome instant error stands at there some (λ met. apart (met_kept core kept t stands tx.ticket.id instant tx.marks there met)) told refused
       (subst (λ m. Does m (OfTickets (Close tx.ticket.id)) Done left) same closes))
