@@ -9,8 +9,7 @@ use fjall_base::{Disk, Slice, UserValue};
 use fjall_core::{Config, Core, Ticket, View};
 use fjall_options::KeyspaceCreateOptions;
 use fjall_reading::Readable;
-use fjall_transactions::{CommitOutcome, Transaction, Transactions};
-use fjall_tx_reader::TransactionReader;
+use fjall_transactions::{CommitOutcome, Transaction, TransactionReader, Transactions};
 use std::alloc::Global;
 use std::ops::Bound;
 

@@ -3,7 +3,7 @@
 use crate::book::AccountBook;
 use anyhow::Result;
 use fjall_base::Disk;
-use fjall_core::View;
+use fjall_history::View;
 use std::alloc::Global;
 
 /// The accounts that the story is about.

@@ -10,19 +10,19 @@ use Rattle.fjall_base.specs.Store.{map_at}
 use Rattle.fjall_base.specs.declared.error.Error.{Error}
 use Rattle.fjall_base.specs.declared.error.Error.TheVariants.{OutOfMemory}
 use Rattle.fjall_tx.specs.Marks.{Marks, OfKey, OfRange, with_read}
-use Rattle.fjall_own.specs.Owns.{Own, own_written}
+use Rattle.fjall_tx.specs.Owns.{Own, own_written}
 use Rattle.fjall_history.specs.Histories.{History, view}
 use Rattle.fjall_history.specs.Queries.{Get, Page, Query, Tells}
 use Rattle.fjall_history.specs.declared.reply.Reply.{Reply}
 use Rattle.fjall_history.specs.declared.reply.Reply.TheVariants.{Pairs as PairsReply, Refused, Value}
 use Rattle.fjall_history.specs.declared.ticket.Ticket.{Ticket}
 use Rattle.fjall_history.specs.declared.ticket.View.TheVariants.{At}
-use Rattle.fjall_serial.proofs.Resting.{key_itself, range_itself}
-use Rattle.fjall_state.specs.Machine.{State, maps_in}
+use Rattle.fjall_history.proofs.Resting.{key_itself, range_itself}
+use Rattle.fjall_machine.specs.Machine.{State, maps_in}
 use Rattle.fjall_transactions.specs.Transactions.{Tx, having_read, replacing, with_own}
 use Rattle.fjall_calls.specs.declared.call.Within.{Within}
 use Rattle.fjall_calls.specs.declared.call.Within.TheVariants as within
-use Rattle.fjall_calls.specs.Acting.{Answers, Gets, IsNotUpdated, IsUnread, IsUnwritable, Pages, Persists, RunsOut, Updates, Writes, heard_by, seen_by, update_of, update_reply}
+use Rattle.fjall_calls.specs.Acting.{AnswersWithin, Gets, IsNotUpdated, IsUnread, IsUnwritable, Pages, Persists, RunsOut, Updates, Writes, heard_by, seen_by, update_of, update_reply}
 use Rattle.fjall_calls.specs.Worlds.{Heard}
 use Rattle.fjall_calls.specs.Hearing.{IsMarkedBy, IsOfView}
 use Rattle.fjall_calls.proofs.Marking.{Keeps, keeps_replacing}
@@ -118,7 +118,7 @@ module _ (h : History) (s : State) (tx : Tx) (shows : (view h tx.ticket.instant)
       update_heard (IsOfView h (replacing read id key found new)) call tx.own id key new found is
       (kept_of_view h read (replacing read id key found new) (keeps_replacing read id key found new) (record { id = id; query = Get key; own = tx.own; reply = Value found }) (of_key id key found finds))
 
-  pub heard_of_view : (after : Tx) (call : Within) (told : List Reply) (reply : Reply) → Answers s tx call told reply after → All (IsOfView h after) (heard_by call tx.own reply)
+  pub heard_of_view : (after : Tx) (call : Within) (told : List Reply) (reply : Reply) → AnswersWithin s tx call told reply after → All (IsOfView h after) (heard_by call tx.own reply)
   heard_of_view after call told reply (IsUnread c error) = none_heard (IsOfView h tx) c tx.own error
   heard_of_view after call told reply (RunsOut c t fine may) = none_heard (IsOfView h tx) c tx.own OutOfMemory
   heard_of_view after call told reply (Gets id key below r fine tells) = got id key r tells

@@ -9,10 +9,10 @@ use Rattle.fjall_history.specs.declared.reply.Reply.TheVariants.{Began, Done, Op
 use Rattle.fjall_history.specs.declared.job.JobId.{JobId}
 use Rattle.fjall_base.proofs.Codecs.{some_is}
 use Rattle.fjall_history.specs.declared.ticket.Ticket.{Ticket}
-use Rattle.fjall_state.specs.Machine.{State}
-use Rattle.fjall_state.specs.Shapes.{OfTickets, Open, shape_of}
-use Rattle.fjall_state.specs.declared.call.Call.{Call}
-use Rattle.fjall_state.specs.declared.call.Call.TheVariants.{Snapshot}
+use Rattle.fjall_machine.specs.Machine.{State}
+use Rattle.fjall_machine.specs.Shapes.{OfTickets, Open, shape_of}
+use Rattle.fjall_machine.specs.declared.call.Call.{Call}
+use Rattle.fjall_machine.specs.declared.call.Call.TheVariants.{Snapshot}
 use Rattle.fjall_core.specs.Holding.{Held}
 use Rattle.fjall_core.specs.Jobs.{KeepsJobs}
 use Rattle.fjall_core.specs.Standing.{Owes, Serves, StandsFor}
@@ -20,7 +20,7 @@ use Rattle.fjall_transactions.specs.Commits.{begun_reply}
 use Rattle.fjall_transactions.specs.Standing.{StandFor, Told, gone_on}
 use Rattle.fjall_transactions.specs.Transactions.{Kept, Tx, begun}
 use Rattle.fjall_transactions.proofs.Standing.{served_stands, shape_stands}
-use Rattle.fjall_calls.specs.Acting.{Acts, Asks, AsksFor, AsksNothing, call_for}
+use Rattle.fjall_calls.specs.Acting.{Acts, AsksCore, AsksFor, AsksNothing, call_for}
 use Rattle.fjall_calls.specs.Names.{Takes, is_wanted}
 use Rattle.fjall_calls.specs.Steps.{IsBegun, IsHeldBack, IsNotBegun, IsUnknown, IsWithin, first_marks, gone_by, name_in, with_begun, writer_after}
 use Rattle.fjall_calls.specs.Worlds.{Going, along}
@@ -31,7 +31,7 @@ use Rattle.fjall_calls.specs.declared.call.TxCall.TheVariants as calls
 use Rattle.fjall_calls.specs.declared.call.Within.{Within}
 use Rattle.fjall_calls.specs.declared.call.Within.TheVariants as within
 use Rattle.fjall_calls.specs.declared.named.Named.{Named}
-use Rattle.fjall_calls.specs.Serving.{ActsOn, IsReplyIn, IsReplyTo, KeepsOn, Others, ServesAll, ServesTx, may_begin}
+use Rattle.fjall_calls.specs.Serving.{ActsOn, IsReplyIn, IsReplyToCall, KeepsOn, Others, ServesAll, ServesTx, may_begin}
 use Rattle.fjall_calls.proofs.Acting.{none_made, one_made}
 use Rattle.fjall_calls.proofs.Chains.{each_replied}
 use Rattle.fjall_calls.proofs.Jobs.{kept_on, kept_still}
@@ -94,7 +94,7 @@ begun_so honest core left kept listed before kind place ticket free at serves ow
 -- ---- names
 
 -- a name of no open transaction of its kind
-pub unknown : (honest : Bool) (core : Held) (kept : Kept) (listed rest : List Named) (before : List Reply) (call : TxCall) (name : ℕ) (kind : Option Kind) → name_in call ≡ Some (name, kind) → IsReplyTo call (Refused SnapshotClosed)
+pub unknown : (honest : Bool) (core : Held) (kept : Kept) (listed rest : List Named) (before : List Reply) (call : TxCall) (name : ℕ) (kind : Option Kind) → name_in call ≡ Some (name, kind) → IsReplyToCall call (Refused SnapshotClosed)
     → Takes (is_wanted core.memory.tickets name kind) listed None rest → ServesTx honest core kept listed before call (Refused SnapshotClosed) core kept rest
 unknown honest core kept listed rest before call name kind is fits takes = record {
   made = [];
@@ -113,7 +113,7 @@ unknown honest core kept listed rest before call name kind is fits takes = recor
 
 -- what was asked leaves the core where it stands for what is told
 asked_stands : (core left : Held) (kept : Kept) (t : Told) (tx : Tx) (call : Within) (made : List Call) (told : List Reply) (s : State) → StandFor core kept t → StandsFor left s → ServesAll core made told left
-    → Asks t.state tx call made told s → StandFor left kept (gone_on t s)
+    → AsksCore t.state tx call made told s → StandFor left kept (gone_on t s)
 asked_stands core left kept t tx call _ _ _ stands is same AsksNothing =
     subst (λ (u : Told). StandFor left kept u) (sym (same_state t)) (subst (λ (h : Held). StandFor h kept t) (sym same) stands)
 asked_stands core left kept t tx call _ _ _ stands is all (AsksFor id query q reply s step) = shape_stands core left kept t s (shape_of (call_for tx id query)) reply stands step is

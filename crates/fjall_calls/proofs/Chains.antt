@@ -3,16 +3,16 @@ use Rattle.std.proofs.Common.{◌≡◌, Bool, List, [], ◌∷◌, ◌++◌, re
 use Rattle.std.proofs.lemmas.List.{append-nil}
 use Rattle.fjall_history.specs.declared.reply.Reply.{Reply}
 use Rattle.fjall_jobs.specs.declared.merge_job.MergeJob.{MergeJob}
-use Rattle.fjall_state.specs.Machine.{State}
-use Rattle.fjall_state.specs.Shapes.{shape_of}
-use Rattle.fjall_state.specs.declared.call.Call.{Call}
+use Rattle.fjall_machine.specs.Machine.{State}
+use Rattle.fjall_machine.specs.Shapes.{shape_of}
+use Rattle.fjall_machine.specs.declared.call.Call.{Call}
 use Rattle.fjall_core.specs.Durables.{Durable}
 use Rattle.fjall_core.specs.Holding.{Held}
 use Rattle.fjall_core.specs.Jobs.{KnowsMerges}
 use Rattle.fjall_core.specs.Standing.{OwesAll}
 use Rattle.fjall_core.proofs.KeptMerges.{merges_stay, serves_where}
 use Rattle.fjall_core.proofs.RunsOverCrashes.{RunsKnown, SoFar, one_more, runs_push}
-use Rattle.fjall_calls.specs.Serving.{Makes, MakesKept, ServesAll, ServesKept}
+use Rattle.fjall_calls.specs.Serving.{MakesCoreCalls, MakesKept, ServesAll, ServesKept}
 
 -- served behind a run that may crash
 pub served_on : (made : List Call) (told : List Reply) (jobs later : List MergeJob) (mid new : Held) (s : State) (d : Durable) (calls : List Call) (replies : List Reply) → SoFar jobs mid s d calls replies
@@ -45,7 +45,7 @@ kept_chain jobs (c ∷ made) (r ∷ told) old new (mid, serves, rest) = (mid, jo
 kept_chain jobs [] (r ∷ told) old new all = absurd all
 kept_chain jobs (c ∷ made) [] old new all = absurd all
 
-pub makes_kept : (honest : Bool) (jobs : List MergeJob) (old new : Held) (made : List Call) (told : List Reply) → Makes honest old made told new → MakesKept honest jobs old made told new jobs
+pub makes_kept : (honest : Bool) (jobs : List MergeJob) (old new : Held) (made : List Call) (told : List Reply) → MakesCoreCalls honest old made told new → MakesKept honest jobs old made told new jobs
 makes_kept honest jobs old new made told makes = record { serves = λ h. kept_chain jobs made told old new (makes.serves h); owes = makes.owes }
 
 -- owed behind what was owed

@@ -8,15 +8,15 @@ use Rattle.fjall_base.specs.declared.error.Error.TheVariants.{Io, NumbersUsedUp,
 use Rattle.fjall_journal.specs.Changes.{Change, Items}
 use Rattle.fjall_journal.specs.Ops.{BatchItem, write_of}
 use Rattle.fjall_tx.specs.declared.outcome.CommitOutcome.{CommitOutcome}
-use Rattle.fjall_own.specs.Owns.{items_of}
+use Rattle.fjall_tx.specs.Owns.{items_of}
 use Rattle.fjall_history.specs.declared.reply.Reply.TheVariants.{Done, Refused}
 use Rattle.fjall_history.specs.Histories.{Accepted, grown, number, plain}
 use Rattle.fjall_history.specs.Moves.{MovesOn, NoMove, OneMove}
 use Rattle.fjall_history.specs.Tickets.{Tickets, collected, counted}
 use Rattle.fjall_history.proofs.Maps.{none_left}
-use Rattle.fjall_state.specs.Shapes.{ByMode, Close, OfChange, OfTickets, Persistence}
-use Rattle.fjall_state.specs.Machine.{MayFail, Refuses, State, StepOf, accepted, due, times}
-use Rattle.fjall_state.proofs.Moving.{shape_moves}
+use Rattle.fjall_machine.specs.Shapes.{ByMode, Close, OfChange, OfTickets, Persistence}
+use Rattle.fjall_machine.specs.Machine.{MayFail, Refuses, State, StepOf, accepted, due, times}
+use Rattle.fjall_machine.proofs.Moving.{shape_moves}
 use Rattle.fjall_transactions.specs.Commits.{change_of}
 use Rattle.fjall_transactions.specs.Standing.{CommitStep, IsCommitted, IsGone, IsIdle, IsMet, IsRefused, Told, accepted_of}
 use Rattle.fjall_transactions.specs.Transactions.{Tx}

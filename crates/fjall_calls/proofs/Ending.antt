@@ -10,15 +10,15 @@ use Rattle.fjall_tx.specs.declared.outcome.CommitOutcome.{CommitOutcome}
 use Rattle.fjall_tx.specs.declared.outcome.CommitOutcome.TheVariants as outcomes
 use Rattle.fjall_tx.specs.Oracles.{pruned}
 use Rattle.fjall_tx.specs.declared.oracle.Committed.{Committed}
-use Rattle.fjall_own.specs.Owns.{items_of}
+use Rattle.fjall_tx.specs.Owns.{items_of}
 use Rattle.fjall_history.specs.Tickets.{IsDueOrMemory, is_open}
 use Rattle.fjall_history.specs.declared.job.JobId.{JobId}
 use Rattle.fjall_history.specs.declared.reply.Reply.{Reply}
 use Rattle.fjall_history.specs.declared.reply.Reply.TheVariants.{Began, Done, Refused}
-use Rattle.fjall_state.specs.Machine.{Step}
-use Rattle.fjall_state.specs.Shapes.{ByMode, Close, OfChange, OfTickets, Persistence, Shape, shape_of}
-use Rattle.fjall_state.specs.declared.call.Call.{Call}
-use Rattle.fjall_state.specs.declared.call.Call.TheVariants.{CloseSnapshot, CommitBatch}
+use Rattle.fjall_machine.specs.Machine.{Step}
+use Rattle.fjall_machine.specs.Shapes.{ByMode, CallShape, Close, OfChange, OfTickets, Persistence, shape_of}
+use Rattle.fjall_machine.specs.declared.call.Call.{Call}
+use Rattle.fjall_machine.specs.declared.call.Call.TheVariants.{CloseSnapshot, CommitBatch}
 use Rattle.fjall_core.specs.Holding.{Held}
 use Rattle.fjall_core.specs.Standing.{Owes, ReadsOn, Serves, held_due, reply_of}
 use Rattle.fjall_core.proofs.ServedCalls.{RunsOut}
@@ -35,7 +35,7 @@ use Rattle.fjall_calls.specs.Worlds.{along}
 use Rattle.fjall_calls.specs.declared.call.Kind.{Kind}
 use Rattle.fjall_calls.specs.declared.call.TxCall.TheVariants as calls
 use Rattle.fjall_calls.specs.declared.named.Named.{Named}
-use Rattle.fjall_calls.specs.Serving.{IsReplyTo, KeepsOn, Makes, Others, ServesTx}
+use Rattle.fjall_calls.specs.Serving.{IsReplyToCall, KeepsOn, MakesCoreCalls, Others, ServesTx}
 use Rattle.fjall_calls.proofs.Acting.{one_made}
 use Rattle.fjall_calls.proofs.Chains.{each_replied}
 use Rattle.fjall_calls.proofs.Jobs.{kept_on}
@@ -45,7 +45,7 @@ use Rattle.fjall_calls.proofs.Worlds.{takes_going}
 
 -- What the core is asked by a commit, one call after another, whatever that is: its own writes, where there are some and none conflicts,
 -- and the closing of its ticket.
-abbrev pub Chain : (Held → Shape → Reply → Held → Type 0) → Held → Tx → CommitOutcome Error → Held → Type 0
+abbrev pub Chain : (Held → CallShape → Reply → Held → Type 0) → Held → Tx → CommitOutcome Error → Held → Type 0
 Chain Does core tx outcomes.Ok left =
     ((tx.own ≡ empty) × Does core (OfTickets (Close tx.ticket.id)) Done left)
     ⊎ ((tx.own ≢ empty) × (mid : Held) × Does core (change_of tx) Done mid × Does mid (OfTickets (Close tx.ticket.id)) Done left)
@@ -58,10 +58,10 @@ runs_out core [] how some = absurd (some refl)
 runs_out core (item ∷ items) how some = tt
 
 -- a refusal that the core wasn't asked for is one that it would have answered so
-abbrev MayRefuse : (Held → Shape → Reply → Held → Type 0) → Type 0
-MayRefuse Does = (core : Held) (shape : Shape) (error : Error) → RunsOut core shape → IsDueOrMemory (held_due core shape) error → Does core shape (Refused error) core
+abbrev MayRefuse : (Held → CallShape → Reply → Held → Type 0) → Type 0
+MayRefuse Does = (core : Held) (shape : CallShape) (error : Error) → RunsOut core shape → IsDueOrMemory (held_due core shape) error → Does core shape (Refused error) core
 
-module _ (Does : Held → Shape → Reply → Held → Type 0) (may : MayRefuse Does) where
+module _ (Does : Held → CallShape → Reply → Held → Type 0) (may : MayRefuse Does) where
   comes_chain : (old new : List Committed) (core mid left : Held) (instant : ℕ) (tx : Tx) (outcome : CommitOutcome Error) → Comes Does old core instant tx outcome new mid
       → Does mid (OfTickets (Close tx.ticket.id)) Done left → Chain Does core tx outcome left
   comes_chain old new core mid left instant tx outcome (Idle none told kept same) closes =
@@ -84,7 +84,7 @@ module _ (Does : Held → Shape → Reply → Held → Type 0) (may : MayRefuse 
   ends_chain old new core left tx outcome there (Lets instant opened commits mid comes closes kept) = comes_chain old.commits commits core mid left instant tx outcome comes closes
 
 -- what is kept beside the core goes on with the same writer
-pub ends_writer : (Does : Held → Shape → Reply → Held → Type 0) (old new : Kept) (core left : Held) (tx : Tx) (outcome : CommitOutcome Error) → Ends Does old core tx outcome new left → new.writer ≡ old.writer
+pub ends_writer : (Does : Held → CallShape → Reply → Held → Type 0) (old new : Kept) (core left : Held) (tx : Tx) (outcome : CommitOutcome Error) → Ends Does old core tx outcome new left → new.writer ≡ old.writer
 ends_writer Does old new core left tx outcome (Gone none told kept same) = ap (λ (k : Kept). k.writer) kept
 ends_writer Does old new core left tx outcome (Lets instant opened commits mid comes closes kept) = ap (λ (k : Kept). k.writer) kept
 
@@ -92,7 +92,7 @@ ends_writer Does old new core left tx outcome (Lets instant opened commits mid c
 
 -- one call behind another
 two_made : (honest : Bool) (core left : Held) (first second : Call) (reply told : Reply) → (IsTrue honest → (mid : Held) × Serves core (shape_of first) reply mid × Serves mid (shape_of second) told left)
-    → ((mid : Held) × Owes core (shape_of first) reply mid × Owes mid (shape_of second) told left) → Makes honest core (first ∷ second ∷ []) (reply ∷ told ∷ []) left
+    → ((mid : Held) × Owes core (shape_of first) reply mid × Owes mid (shape_of second) told left) → MakesCoreCalls honest core (first ∷ second ∷ []) (reply ∷ told ∷ []) left
 two_made honest core left first second reply told serves (mid, owes, more) = record {
   serves = λ h. let (amid, one, two) = serves h in (amid, one, (left, two, refl));
   owes = (mid, owes, (left, more, refl));
@@ -100,9 +100,9 @@ two_made honest core left first second reply told serves (mid, owes, more) = rec
 
 module _ (honest : Bool) (core left : Held) (kept after : Kept) (listed rest : List Named) (before : List Reply) (kind : Kind) (name : ℕ) (named : Named) (takes : Takes (is_wanted core.memory.tickets name (Some kind)) listed (Some named) rest) (writer : after.writer ≡ kept.writer) where
   -- the steps of a commit whose calls of the core are these
-  ended : (outcome : CommitOutcome Error) (made : List Call) (told : List Reply) → Makes honest core made told left → steps.Commits named.transaction outcome made told
+  ended : (outcome : CommitOutcome Error) (made : List Call) (told : List Reply) → MakesCoreCalls honest core made told left → steps.Commits named.transaction outcome made told
       → (IsTrue honest → (t : Told) → StandFor core kept t → ReadsOn core t.state → (new : Told) × StandFor left after new × ReadsOn left new.state × CommitStep t named.transaction outcome new)
-      → IsReplyTo (calls.Commit kind name) (reply_to outcome)
+      → IsReplyToCall (calls.Commit kind name) (reply_to outcome)
       → ServesTx honest core kept listed before (calls.Commit kind name) (reply_to outcome) left after rest
   ended outcome made told makes commits goes fits = record {
     made = made;
@@ -192,7 +192,7 @@ rollback_serves honest core left kept after listed rest before name named result
       );
 }
   where
-    fits : (r : Result Unit Error) → IsReplyTo (calls.Rollback name) (reply_of r)
+    fits : (r : Result Unit Error) → IsReplyToCall (calls.Rollback name) (reply_of r)
     fits (Ok u) = tt
     fits (Err error) = tt
 

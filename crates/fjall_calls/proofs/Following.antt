@@ -9,7 +9,7 @@ use Rattle.fjall_history.specs.Moves.{Accepts, AreSound, Closes, Collects, HasGr
 use Rattle.fjall_history.specs.Tickets.{Tickets, collected, counted}
 use Rattle.fjall_history.proofs.Moving.{history_grows, sound_moves, was_open_before}
 use Rattle.fjall_history.proofs.Views.{commands_append, same_grown}
-use Rattle.fjall_state.specs.Machine.{State, times}
+use Rattle.fjall_machine.specs.Machine.{State, times}
 use Rattle.fjall_transactions.specs.Standing.{Told, gone_on, history_of}
 
 -- What is told goes on: the history has more behind what it had, ids of tickets are given out upwards, and a ticket that was closed

@@ -5,8 +5,8 @@ use Rattle.fjall_history.specs.declared.job.JobId.{JobId}
 use Rattle.fjall_history.specs.declared.reply.Reply.{Reply}
 use Rattle.fjall_history.specs.declared.reply.Reply.TheVariants.{Began}
 use Rattle.fjall_core.specs.declared.jobs.Jobs.{Jobs}
-use Rattle.fjall_state.specs.Remembered.{Remembered}
-use Rattle.fjall_state.specs.Shapes.{Shape}
+use Rattle.fjall_machine.specs.Remembered.{Remembered}
+use Rattle.fjall_machine.specs.Shapes.{CallShape}
 use Rattle.fjall_core.specs.Holding.{Held}
 use Rattle.fjall_core.specs.Jobs.{IsPlain, KeepsJobs}
 use Rattle.fjall_core.specs.Standing.{Owes}
@@ -40,7 +40,7 @@ one_reply_more m jobs replies reply none keeps = record {
 }
 
 -- a call that neither begins nor finishes a job
-pub kept_on : (old new : Held) (shape : Shape) (reply : Reply) → IsPlain shape → Owes old shape reply new → KeepsOn old new
+pub kept_on : (old new : Held) (shape : CallShape) (reply : Reply) → IsPlain shape → Owes old shape reply new → KeepsOn old new
 kept_on old new shape reply plain owes jobs replies keeps =
     fewer_replies new.memory jobs replies (reply ∷ []) (keeps_on old new jobs replies keeps shape reply owes (plain_begins shape plain))
 

@@ -9,7 +9,7 @@ use Rattle.fjall_base.specs.Store.{Store, map_at}
 use Rattle.fjall_base.specs.declared.error.Error.{Error}
 use Rattle.fjall_tx.specs.Marks.{Marks}
 use Rattle.fjall_tx.specs.declared.outcome.CommitOutcome.{CommitOutcome}
-use Rattle.fjall_own.specs.Owns.{items_of, own_written}
+use Rattle.fjall_tx.specs.Owns.{items_of, own_written}
 use Rattle.fjall_history.specs.Histories.{History, number, view}
 use Rattle.fjall_history.specs.Moves.{Rests}
 use Rattle.fjall_history.specs.Queries.{Tells}
@@ -20,17 +20,17 @@ use Rattle.fjall_history.specs.declared.ticket.Ticket.{Ticket}
 use Rattle.fjall_history.specs.declared.ticket.View.TheVariants.{At}
 use Rattle.fjall_history.proofs.Maps.{found_in}
 use Rattle.fjall_history.proofs.Views.{number_grown, view_grown}
-use Rattle.fjall_state.specs.Machine.{State, Step, maps_in}
-use Rattle.fjall_state.specs.Places.{resolved}
-use Rattle.fjall_state.specs.declared.call.Call.{Call}
-use Rattle.fjall_state.specs.declared.call.Call.TheVariants.{CloseSnapshot, Snapshot}
-use Rattle.fjall_state.proofs.Moving.{step_moves}
+use Rattle.fjall_machine.specs.Machine.{State, Step, maps_in}
+use Rattle.fjall_machine.specs.Places.{resolved}
+use Rattle.fjall_machine.specs.declared.call.Call.{Call}
+use Rattle.fjall_machine.specs.declared.call.Call.TheVariants.{CloseSnapshot, Snapshot}
+use Rattle.fjall_machine.proofs.Moving.{step_moves}
 use Rattle.fjall_transactions.specs.Transactions.{Tx, begun}
 use Rattle.fjall_transactions.specs.Standing.{CommitStep, Told, accepted_of, gone_on, history_of}
 use Rattle.fjall_calls.specs.declared.call.Kind.{Kind}
 use Rattle.fjall_calls.specs.declared.call.TxCall.{TxCall}
 use Rattle.fjall_calls.specs.declared.call.Within.{Within}
-use Rattle.fjall_calls.specs.Acting.{Acts, Asks, AsksFor, AsksNothing, call_for, heard_by}
+use Rattle.fjall_calls.specs.Acting.{Acts, AsksCore, AsksFor, AsksNothing, call_for, heard_by}
 use Rattle.fjall_calls.specs.Names.{is_of_kind}
 use Rattle.fjall_calls.specs.Steps.{IsBegun, IsEnded, IsHeldBack, IsNotBegun, IsRolledBack, IsUnknown, IsWithin, NoCall, OfCore, OneCall, TxRun, TxStep, first_marks, gone_by, gone_with, has_name}
 use Rattle.fjall_calls.specs.Worlds.{Going, Gone, Heard, World, along}
@@ -172,7 +172,7 @@ pub found_open : (w : World) (name : ℕ) (kind : Option Kind) (g : Going) → h
 found_open w name kind g found = open_at w.told.state.tickets (tx_of g).ticket.id (found_as w name kind g found).1
 
 -- what it asks of the core
-pub asked_goes_on : (w : World) (tx : Tx) (call : Within) (made : List Call) (told : List Reply) (s : State) → IsSound w.told → Asks w.told.state tx call made told s → GoesOn w.told (gone_on w.told s)
+pub asked_goes_on : (w : World) (tx : Tx) (call : Within) (made : List Call) (told : List Reply) (s : State) → IsSound w.told → AsksCore w.told.state tx call made told s → GoesOn w.told (gone_on w.told s)
 asked_goes_on w tx call made told s sound AsksNothing = goes_along w.told w.told.state sound (Rests refl)
 asked_goes_on w tx call made told s sound (AsksFor id query is reply t step) = core_goes_on w (call_for tx id query) reply t sound step
 

@@ -1,21 +1,21 @@
-pub mod Same
-pub mod Chains
-pub mod Jobs
-pub mod Runs
-pub mod SoFar
-pub mod Worlds
-pub mod Names
-pub mod Acting
-pub mod Looking
-pub mod Beginning
-pub mod Quiet
-pub mod Listed
-pub mod Ending
-pub mod Lists
-pub mod Following
-pub mod Marking
-pub mod Answering
-pub mod Commits
-pub mod KeptWorlds
-pub mod Standing
-pub mod Writing
+mod Same
+mod Chains
+mod Jobs
+mod Runs
+mod SoFar
+mod Worlds
+mod Names
+mod Acting
+mod Looking
+mod Beginning
+mod Quiet
+mod Listed
+mod Ending
+mod Lists
+mod Following
+mod Marking
+mod Answering
+mod Commits
+mod KeptWorlds
+mod Standing
+mod Writing

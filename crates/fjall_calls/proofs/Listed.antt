@@ -2,9 +2,9 @@
 use Rattle.std.proofs.Common.{◌≡◌, Bool, IsTrue, false, List, [], ◌∷◌, refl}
 use Rattle.fjall_history.specs.declared.reply.Reply.{Reply}
 use Rattle.fjall_jobs.specs.declared.merge_job.MergeJob.{MergeJob}
-use Rattle.fjall_state.specs.Places.{resolved}
-use Rattle.fjall_state.specs.Shapes.{shape_of}
-use Rattle.fjall_state.specs.declared.call.Call.{Call}
+use Rattle.fjall_machine.specs.Places.{resolved}
+use Rattle.fjall_machine.specs.Shapes.{shape_of}
+use Rattle.fjall_machine.specs.declared.call.Call.{Call}
 use Rattle.fjall_core.specs.Holding.{Held}
 use Rattle.fjall_core.specs.Jobs.{KeepsMerges, KnowsMerges}
 use Rattle.fjall_core.specs.Standing.{Owes, ServesWhere}

@@ -9,20 +9,20 @@ use Rattle.fjall_base.specs.Store.{map_at}
 use Rattle.fjall_base.specs.declared.error.Error.{Error}
 use Rattle.fjall_base.specs.declared.error.Error.TheVariants.{OutOfMemory}
 use Rattle.fjall_tx.specs.Marks.{OfRange}
-use Rattle.fjall_own.specs.Owns.{own_written, wanted}
+use Rattle.fjall_tx.specs.Owns.{own_written, wanted}
 use Rattle.fjall_history.specs.Queries.{Get, Page}
 use Rattle.fjall_history.specs.declared.reply.Reply.{Reply}
 use Rattle.fjall_history.specs.declared.reply.Reply.TheVariants.{Pairs, Refused, Value}
 use Rattle.fjall_history.specs.declared.ticket.View.TheVariants.{At}
-use Rattle.fjall_state.specs.Machine.{State, StepOf, maps_in}
-use Rattle.fjall_state.specs.Shapes.{OfRead}
-use Rattle.fjall_state.specs.declared.call.Call.TheVariants.{GetAt, PageAt}
+use Rattle.fjall_machine.specs.Machine.{State, StepOf, maps_in}
+use Rattle.fjall_machine.specs.Shapes.{OfRead}
+use Rattle.fjall_machine.specs.declared.call.Call.TheVariants.{GetAt, PageAt}
 use Rattle.fjall_core.specs.Holding.{Held}
 use Rattle.fjall_core.specs.Standing.{Owes, Serves, pairs_reply, value_reply}
 use Rattle.fjall_transactions.specs.Transactions.{Tx, having_read}
-use Rattle.fjall_calls.specs.Acting.{Answers, AsksFor, AsksNothing, IsUnread, Pages, RunsOut}
+use Rattle.fjall_calls.specs.Acting.{AnswersWithin, AsksFor, AsksNothing, IsUnread, Pages, RunsOut}
 use Rattle.fjall_calls.specs.declared.call.Within.TheVariants as within
-use Rattle.fjall_calls.specs.Serving.{ActsOn, Found, IsRefused, IsSeen, Looks}
+use Rattle.fjall_calls.specs.Serving.{ActsOn, FoundWithin, IsRefused, IsSeen, LooksWithin}
 use Rattle.fjall_calls.specs.Serving as serving
 use Rattle.fjall_calls.proofs.Acting.{none_made, one_made}
 use Rattle.fjall_calls.proofs.Jobs.{kept_on, kept_still}
@@ -35,7 +35,7 @@ value_is a b is = cc
 module _ (honest : Bool) (core left : Held) (tx : Tx) (id : ℕ) (key : Bytes) where
   -- what the core's one call told, as what is found
   looks_by : (reply : Reply) (result : Result (Option Bytes) Error) → (IsTrue honest → Serves core (OfRead (At tx.ticket) id (Get key)) reply left) → Owes core (OfRead (At tx.ticket) id (Get key)) reply left
-      → ((s t : State) → StepOf s (OfRead (At tx.ticket) id (Get key)) reply t → Found s tx id key reply result) → Looks honest core tx id key result left
+      → ((s t : State) → StepOf s (OfRead (At tx.ticket) id (Get key)) reply t → FoundWithin s tx id key reply result) → LooksWithin honest core tx id key result left
   looks_by reply result serves owes finds = record {
     reply = reply;
     makes = one_made honest core left (GetAt (At tx.ticket) id key) reply serves owes;
@@ -47,25 +47,20 @@ module _ (honest : Bool) (core left : Held) (tx : Tx) (id : ℕ) (key : Bytes) w
 
   -- the core refused
   pub look_refused : (error : Error) → (IsTrue honest → Serves core (OfRead (At tx.ticket) id (Get key)) (value_reply (Err error)) left) → Owes core (OfRead (At tx.ticket) id (Get key)) (value_reply (Err error)) left
-      → Looks honest core tx id key (Err error) left
+      → LooksWithin honest core tx id key (Err error) left
   look_refused error serves owes = looks_by (Refused error) (Err error) serves owes (λ s t step. IsRefused error)
-
-  -- memory ran out for the key's copy
-  pub look_short : (value : Option Bytes) → (IsTrue honest → Serves core (OfRead (At tx.ticket) id (Get key)) (value_reply (Ok value)) left) → Owes core (OfRead (At tx.ticket) id (Get key)) (value_reply (Ok value)) left
-      → Looks honest core tx id key (Err OutOfMemory) left
-  look_short value serves owes = looks_by (Value value) (Err OutOfMemory) serves owes (λ s t step. serving.RunsOut (Value value) tt)
 
   seen_of : (value : Option Bytes) (result : Result (Option Bytes) Error)
       → ((maps : FinMap nat_cmp pairs.Pairs) → value ≡ lookup (map_at maps id) key → IfOk result (λ seen. seen ≡ lookup (map_at (own_written maps tx.own) id) key)) → IsOkUnless result OutOfMemory
-      → (s t : State) → StepOf s (OfRead (At tx.ticket) id (Get key)) (Value value) t → Found s tx id key (Value value) result
+      → (s t : State) → StepOf s (OfRead (At tx.ticket) id (Get key)) (Value value) t → FoundWithin s tx id key (Value value) result
   seen_of value (Ok seen) ok only s t step = IsSeen (Value value) tt seen (ok (maps_in s (At tx.ticket)) (value_is value (lookup (map_at (maps_in s (At tx.ticket)) id) key) step.1.0))
-  seen_of value (Err error) ok only s t step = subst (λ (e : Error). Found s tx id key (Value value) (Err e)) (sym only) (serving.RunsOut (Value value) tt)
+  seen_of value (Err error) ok only s t step = subst (λ (e : Error). FoundWithin s tx id key (Value value) (Err e)) (sym only) (serving.RunsOut (Value value) tt)
 
   -- own writes were looked up
   pub look_seen : (value : Option Bytes) (result : Result (Option Bytes) Error)
       → (IsTrue honest → Serves core (OfRead (At tx.ticket) id (Get key)) (value_reply (Ok value)) left) → Owes core (OfRead (At tx.ticket) id (Get key)) (value_reply (Ok value)) left
       → ((maps : FinMap nat_cmp pairs.Pairs) → value ≡ lookup (map_at maps id) key → IfOk result (λ seen. seen ≡ lookup (map_at (own_written maps tx.own) id) key)) → IsOkUnless result OutOfMemory
-      → Looks honest core tx id key result left
+      → LooksWithin honest core tx id key result left
   look_seen value result serves owes ok only = looks_by (Value value) result serves owes (seen_of value result ok only)
 
 -- ---- pages
@@ -77,7 +72,7 @@ module _ (honest : Bool) (core left : Held) (tx : Tx) (id : ℕ) (range : KeyRan
   -- what the core's one call told, as what comes of the call
   page_by : (told reply : Reply) (after : Tx) → (IsTrue honest → Serves core (OfRead (At tx.ticket) id (Page range back (wanted tx.own id range max))) told left) → Owes core (OfRead (At tx.ticket) id (Page range back (wanted tx.own id range max))) told left
       → serving.IsReplyIn (within.Page id range back max) reply
-      → ((s t : State) → StepOf s (OfRead (At tx.ticket) id (Page range back (wanted tx.own id range max))) told t → Answers s tx (within.Page id range back max) (told ∷ []) reply after)
+      → ((s t : State) → StepOf s (OfRead (At tx.ticket) id (Page range back (wanted tx.own id range max))) told t → AnswersWithin s tx (within.Page id range back max) (told ∷ []) reply after)
       → ActsOn honest core tx (within.Page id range back max) reply left after
   page_by told reply after serves owes fits answers = record {
     made = PageAt (At tx.ticket) id range back (wanted tx.own id range max) ∷ [];

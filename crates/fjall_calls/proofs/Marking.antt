@@ -6,11 +6,11 @@ use Rattle.fjall_base.specs.Pairs.{Bytes}
 use Rattle.fjall_journal.specs.declared.op.Op.{Op}
 use Rattle.fjall_tx.specs.Marks.{Mark, Marks, OfKey, OfRange, with_read, with_write}
 use Rattle.fjall_history.specs.declared.reply.Reply.{Reply}
-use Rattle.fjall_serial.proofs.Resting.{more_marked}
-use Rattle.fjall_state.specs.Machine.{State}
+use Rattle.fjall_history.proofs.Resting.{more_marked}
+use Rattle.fjall_machine.specs.Machine.{State}
 use Rattle.fjall_transactions.specs.Transactions.{Tx, having_read, having_touched, is_same_value, op_of, replacing, with_own}
 use Rattle.fjall_calls.specs.declared.call.Within.{Within}
-use Rattle.fjall_calls.specs.Acting.{Answers, Gets, IsNotUpdated, IsUnread, IsUnwritable, Pages, Persists, RunsOut, Updates, Writes}
+use Rattle.fjall_calls.specs.Acting.{AnswersWithin, Gets, IsNotUpdated, IsUnread, IsUnwritable, Pages, Persists, RunsOut, Updates, Writes}
 use Rattle.fjall_calls.specs.Worlds.{Heard}
 use Rattle.fjall_calls.specs.Hearing.{IsMarkedBy}
 
@@ -62,7 +62,7 @@ keeps_replacing tx id key old new = either (is_same_value old new)
     either false = keeps_own tx id key (op_of new)
 
 -- so does each call
-pub keeps_answered : (s : State) (tx after : Tx) (call : Within) (told : List Reply) (reply : Reply) → Answers s tx call told reply after → Keeps tx after
+pub keeps_answered : (s : State) (tx after : Tx) (call : Within) (told : List Reply) (reply : Reply) → AnswersWithin s tx call told reply after → Keeps tx after
 keeps_answered s tx after call told reply (IsUnread c error) = keeps_itself tx
 keeps_answered s tx after call told reply (RunsOut c t fine may) = keeps_itself tx
 keeps_answered s tx after call told reply (Gets id key below r fine tells) = keeps_read tx (OfKey id key)

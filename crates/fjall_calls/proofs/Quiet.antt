@@ -7,17 +7,17 @@ use Rattle.fjall_history.specs.declared.reply.Reply.{Reply}
 use Rattle.fjall_history.specs.declared.reply.Reply.TheVariants.{Done, Opened, Refused}
 use Rattle.fjall_jobs.specs.declared.merge_job.MergeJob.{MergeJob}
 use Rattle.fjall_jobs.specs.Merges.{merge_task}
-use Rattle.fjall_state.specs.Machine.{State, StepOf}
-use Rattle.fjall_state.specs.Merging.{IsQuiet}
-use Rattle.fjall_state.specs.Shapes.{Close, OfTickets, Open, Shape, shape_of}
-use Rattle.fjall_state.specs.declared.call.Call.{Call}
-use Rattle.fjall_state.proofs.QuietSteps.{quiet_stays}
+use Rattle.fjall_machine.specs.Machine.{State, StepOf}
+use Rattle.fjall_machine.specs.Merging.{IsQuiet}
+use Rattle.fjall_machine.specs.Shapes.{CallShape, Close, OfTickets, Open, shape_of}
+use Rattle.fjall_machine.specs.declared.call.Call.{Call}
+use Rattle.fjall_machine.proofs.QuietSteps.{quiet_stays}
 use Rattle.fjall_core.specs.Jobs.{KnowsMerges}
 use Rattle.fjall_transactions.specs.Commits.{change_of}
 use Rattle.fjall_transactions.specs.Standing.{CommitStep, IsCommitted, IsGone, IsIdle, IsMet, IsRefused, Told}
 use Rattle.fjall_transactions.specs.Transactions.{Tx}
 use Rattle.fjall_tx.specs.declared.outcome.CommitOutcome.{CommitOutcome}
-use Rattle.fjall_calls.specs.Acting.{Asks, AsksFor, AsksNothing, call_for}
+use Rattle.fjall_calls.specs.Acting.{AsksCore, AsksFor, AsksNothing, call_for}
 use Rattle.fjall_calls.specs.Steps.{IsBegun, IsEnded, IsHeldBack, IsNotBegun, IsRolledBack, IsUnknown, IsWithin, OfCore, TxStep}
 use Rattle.fjall_calls.specs.Worlds.{World}
 use Rattle.fjall_calls.specs.declared.call.TxCall.{TxCall}
@@ -29,14 +29,14 @@ abbrev pub is_of_core : TxCall → Bool
 is_of_core (calls.Core call) = true
 is_of_core call = false
 
-known_on : (jobs : List MergeJob) (s t : State) (shape : Shape) (reply : Reply) → IsQuiet shape → StepOf s shape reply t → KnowsMerges s jobs → KnowsMerges t jobs
+known_on : (jobs : List MergeJob) (s t : State) (shape : CallShape) (reply : Reply) → IsQuiet shape → StepOf s shape reply t → KnowsMerges s jobs → KnowsMerges t jobs
 known_on jobs s t shape reply quiet step known = λ i d lt. let job = get_or jobs i d in quiet_stays s shape reply t quiet step job.target (merge_task job) (known i d lt)
 
 read_is_quiet : (tx : Tx) (id : ℕ) (query : Query) → IsQuiet (shape_of (call_for tx id query))
 read_is_quiet tx id (Get key) = tt
 read_is_quiet tx id (Page range back max) = tt
 
-asked : (jobs : List MergeJob) (s t : State) (tx : Tx) (call : Within) (made : List Call) (told : List Reply) → Asks s tx call made told t → KnowsMerges s jobs → KnowsMerges t jobs
+asked : (jobs : List MergeJob) (s t : State) (tx : Tx) (call : Within) (made : List Call) (told : List Reply) → AsksCore s tx call made told t → KnowsMerges s jobs → KnowsMerges t jobs
 asked jobs s _ tx call _ _ AsksNothing known = known
 asked jobs s _ tx call _ _ (AsksFor id query is reply t step) known = known_on jobs s t (shape_of (call_for tx id query)) reply (read_is_quiet tx id query) step known
 

@@ -2,7 +2,7 @@
 use Rattle.std.proofs.Common.{List, [], ◌∷◌, ◌++◌, sym, subst, append_assoc}
 use Rattle.std.proofs.lemmas.List.{append-nil}
 use Rattle.fjall_history.specs.declared.reply.Reply.{Reply}
-use Rattle.fjall_state.specs.declared.call.Call.{Call}
+use Rattle.fjall_machine.specs.declared.call.Call.{Call}
 use Rattle.fjall_calls.specs.declared.call.TxCall.{TxCall}
 use Rattle.fjall_calls.specs.Steps.{NoCall, OneCall, TxRun, TxStep}
 use Rattle.fjall_calls.specs.Worlds.{World}

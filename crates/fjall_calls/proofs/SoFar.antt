@@ -2,8 +2,8 @@
 use Rattle.std.proofs.Common.{Bool, IsTrue, List, [], ◌∷◌, ◌++◌, refl}
 use Rattle.fjall_history.specs.declared.reply.Reply.{Reply}
 use Rattle.fjall_jobs.specs.declared.merge_job.MergeJob.{MergeJob}
-use Rattle.fjall_state.specs.Machine.{State}
-use Rattle.fjall_state.specs.declared.call.Call.{Call}
+use Rattle.fjall_machine.specs.Machine.{State}
+use Rattle.fjall_machine.specs.declared.call.Call.{Call}
 use Rattle.fjall_core.specs.Durables.{Durable}
 use Rattle.fjall_core.specs.Holding.{Held}
 use Rattle.fjall_core.specs.Jobs.{KnowsMerges}

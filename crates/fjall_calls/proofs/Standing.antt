@@ -7,16 +7,16 @@ use Rattle.std.specs.Option.{option_map}
 use Rattle.fjall_base.specs.Store.{map_at}
 use Rattle.fjall_journal.specs.Ops.{BatchItem, item_in}
 use Rattle.fjall_tx.specs.Marks.{Mark, Marks}
-use Rattle.fjall_own.specs.Owns.{items_of, own_written}
+use Rattle.fjall_tx.specs.Owns.{items_of, own_written}
 use Rattle.fjall_history.specs.Histories.{Accepted, Commit, History, view}
 use Rattle.fjall_history.specs.Queries.{Tells}
 use Rattle.fjall_history.specs.declared.reply.Reply.{Reply}
 use Rattle.fjall_history.specs.declared.ticket.Ticket.{Ticket}
-use Rattle.fjall_serial.specs.Asks.{IsMarked}
-use Rattle.fjall_serial.specs.Checked.{IsChecked}
-use Rattle.fjall_serial.specs.Serial.{ReadsChangeByTransactions}
-use Rattle.fjall_serial.proofs.Resting.{answered_before}
-use Rattle.fjall_state.specs.declared.call.Call.{Call}
+use Rattle.fjall_history.specs.Asks.{IsMarked}
+use Rattle.fjall_history.specs.Checked.{IsChecked}
+use Rattle.fjall_history.specs.Serial.{ReadsChangeByTransactions}
+use Rattle.fjall_history.proofs.Resting.{answered_before}
+use Rattle.fjall_machine.specs.declared.call.Call.{Call}
 use Rattle.fjall_core.specs.Holding.{Held}
 use Rattle.fjall_transactions.specs.Standing.{StandFor, Told, accepted_of, history_of}
 use Rattle.fjall_transactions.specs.Transactions.{Kept, with_items}

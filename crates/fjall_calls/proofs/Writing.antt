@@ -15,10 +15,10 @@ use Rattle.fjall_history.specs.declared.reply.Reply.{Reply}
 use Rattle.fjall_history.specs.declared.reply.Reply.TheVariants.{Opened}
 use Rattle.fjall_history.specs.declared.ticket.Ticket.{Ticket}
 use Rattle.fjall_history.proofs.Views.{number_grown, view_grown, view_of_all}
-use Rattle.fjall_serial.specs.Checked.{before}
-use Rattle.fjall_state.specs.Machine.{State, Step}
-use Rattle.fjall_state.specs.declared.call.Call.{Call}
-use Rattle.fjall_state.specs.declared.call.Call.TheVariants.{Snapshot}
+use Rattle.fjall_history.specs.Checked.{before}
+use Rattle.fjall_machine.specs.Machine.{State, Step}
+use Rattle.fjall_machine.specs.declared.call.Call.{Call}
+use Rattle.fjall_machine.specs.declared.call.Call.TheVariants.{Snapshot}
 use Rattle.fjall_core.specs.Holding.{Held}
 use Rattle.fjall_transactions.specs.Transactions.{Kept, Tx, begun, no_marks}
 use Rattle.fjall_transactions.specs.Standing.{CommitStep, StandFor, Told, gone_on, history_of}

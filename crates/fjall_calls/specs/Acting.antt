@@ -9,14 +9,14 @@ use Rattle.fjall_journal.specs.Ops.{bytes_in}
 use Rattle.fjall_journal.specs.declared.op.Op.{Op}
 use Rattle.fjall_journal.specs.declared.persist_mode.PersistMode.{PersistMode}
 use Rattle.fjall_tx.specs.Marks.{OfKey, OfRange}
-use Rattle.fjall_own.specs.Owns.{Own, own_written, wanted}
+use Rattle.fjall_tx.specs.Owns.{Own, own_written, wanted}
 use Rattle.fjall_history.specs.Queries.{Get, Page, Query, Tells}
 use Rattle.fjall_history.specs.declared.reply.Reply.{Reply}
 use Rattle.fjall_history.specs.declared.reply.Reply.TheVariants.{Done, Pairs as PairsReply, Refused, Value}
 use Rattle.fjall_history.specs.declared.ticket.View.TheVariants.{At}
-use Rattle.fjall_state.specs.Machine.{State, Step, maps_in}
-use Rattle.fjall_state.specs.declared.call.Call.{Call}
-use Rattle.fjall_state.specs.declared.call.Call.TheVariants.{GetAt, PageAt}
+use Rattle.fjall_machine.specs.Machine.{State, Step, maps_in}
+use Rattle.fjall_machine.specs.declared.call.Call.{Call}
+use Rattle.fjall_machine.specs.declared.call.Call.TheVariants.{GetAt, PageAt}
 use Rattle.fjall_transactions.specs.Transactions.{Tx, having_read, replace_refusal, replacing, with_own}
 use Rattle.fjall_calls.specs.declared.call.Within.{Within}
 use Rattle.fjall_calls.specs.declared.call.Within.TheVariants as within
@@ -54,10 +54,10 @@ update_reply (within.UpdateFetch id key new) found = Value new
 update_reply other found = Value found
 
 -- What the core is asked by a call within a transaction, and its reply: nothing, or the call's query.
-pub data Asks (s : State) (tx : Tx) (call : Within) : List Call → List Reply → State → Type 0 where
-  AsksNothing : Asks s tx call [] [] s
+pub data AsksCore (s : State) (tx : Tx) (call : Within) : List Call → List Reply → State → Type 0 where
+  AsksNothing : AsksCore s tx call [] [] s
   AsksFor : (id : ℕ) (query : Query) (is : query_of call ≡ Some (id, query)) (reply : Reply) (t : State) (step : Step s (call_for tx id query) reply t)
-      → Asks s tx call (call_for tx id query ∷ []) (reply ∷ []) t
+      → AsksCore s tx call (call_for tx id query ∷ []) (reply ∷ []) t
 
 -- the core refused nothing
 abbrev pub AreFine : List Reply → Type 0
@@ -77,27 +77,27 @@ MayRunOut call (reply ∷ told) = Unit {0}
 -- What a call within a transaction is answered, where the core replied so, and the transaction afterwards: after a refusal it is as before.
 -- A read that the core doesn't refuse marks what its answer rests on, an own write is seen by later reads, and an update marks its key as read, and writes it where
 -- its value changes.
-pub data Answers (s : State) (tx : Tx) : Within → List Reply → Reply → Tx → Type 0 where
-  IsUnread : (call : Within) (error : Error) → Answers s tx call (Refused error ∷ []) (Refused error) tx
-  RunsOut : (call : Within) (told : List Reply) (fine : AreFine told) (may : MayRunOut call told) → Answers s tx call told (Refused OutOfMemory) tx
+pub data AnswersWithin (s : State) (tx : Tx) : Within → List Reply → Reply → Tx → Type 0 where
+  IsUnread : (call : Within) (error : Error) → AnswersWithin s tx call (Refused error ∷ []) (Refused error) tx
+  RunsOut : (call : Within) (told : List Reply) (fine : AreFine told) (may : MayRunOut call told) → AnswersWithin s tx call told (Refused OutOfMemory) tx
   Gets : (id : ℕ) (key : Bytes) (below reply : Reply) (fine : AreFine (below ∷ [])) (tells : Tells (Get key) (seen_by s tx id) reply)
-      → Answers s tx (within.Get id key) (below ∷ []) reply (having_read tx (OfKey id key))
+      → AnswersWithin s tx (within.Get id key) (below ∷ []) reply (having_read tx (OfKey id key))
   Pages : (id : ℕ) (range : KeyRange) (back : Bool) (max : ℕ) (below reply : Reply) (fine : AreFine (below ∷ [])) (tells : Tells (Page range back max) (seen_by s tx id) reply)
-      → Answers s tx (within.Page id range back max) (below ∷ []) reply (having_read tx (OfRange id range.0 range.1))
-  Writes : (id : ℕ) (key : Bytes) (op : Op) (fits : item_refusal key (bytes_in op) ≡ None) → Answers s tx (within.Write id key op) [] Done (with_own tx id key op)
-  IsUnwritable : (id : ℕ) (key : Bytes) (op : Op) (error : Error) (due : item_refusal key (bytes_in op) ≡ Some error) → Answers s tx (within.Write id key op) [] (Refused error) tx
+      → AnswersWithin s tx (within.Page id range back max) (below ∷ []) reply (having_read tx (OfRange id range.0 range.1))
+  Writes : (id : ℕ) (key : Bytes) (op : Op) (fits : item_refusal key (bytes_in op) ≡ None) → AnswersWithin s tx (within.Write id key op) [] Done (with_own tx id key op)
+  IsUnwritable : (id : ℕ) (key : Bytes) (op : Op) (error : Error) (due : item_refusal key (bytes_in op) ≡ Some error) → AnswersWithin s tx (within.Write id key op) [] (Refused error) tx
   Updates : (call : Within) (id : ℕ) (key : Bytes) (new found : Option Bytes) (is : update_of call ≡ Some (id, key, new)) (below : Reply) (fine : AreFine (below ∷ []))
       (finds : found ≡ lookup (seen_by s tx id) key) (fits : replace_refusal key found new ≡ None)
-      → Answers s tx call (below ∷ []) (update_reply call found) (replacing (having_read tx (OfKey id key)) id key found new)
+      → AnswersWithin s tx call (below ∷ []) (update_reply call found) (replacing (having_read tx (OfKey id key)) id key found new)
   IsNotUpdated : (call : Within) (id : ℕ) (key : Bytes) (new found : Option Bytes) (is : update_of call ≡ Some (id, key, new)) (below : Reply) (fine : AreFine (below ∷ []))
       (finds : found ≡ lookup (seen_by s tx id) key) (error : Error) (due : replace_refusal key found new ≡ Some error)
-      → Answers s tx call (below ∷ []) (Refused error) tx
-  Persists : (mode : Option PersistMode) → Answers s tx (within.Durability mode) [] Done (record tx { mode = mode })
+      → AnswersWithin s tx call (below ∷ []) (Refused error) tx
+  Persists : (mode : Option PersistMode) → AnswersWithin s tx (within.Durability mode) [] Done (record tx { mode = mode })
 
 -- A call within a transaction, from that state: what it asks of the core, and what comes of it.
 pub record Acts (s : State) (tx : Tx) (call : Within) (reply : Reply) (made : List Call) (told : List Reply) (t : State) (after : Tx) : Type 0 where
-  pub asks : Asks s tx call made told t
-  pub answers : Answers s tx call told reply after
+  pub asks : AsksCore s tx call made told t
+  pub answers : AnswersWithin s tx call told reply after
 
 -- the answers that a transaction heard by this call, with its own writes of then
 abbrev pub heard_by : Within → Own → Reply → List Heard

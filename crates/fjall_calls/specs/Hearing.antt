@@ -1,14 +1,14 @@
 -- What transactions of a list heard and what came of them, as the history tells.
 use Rattle.std.specs.Prelude.{◌≡◌, ⊤, ◌⊎◌, ℕ, All, List, [], ◌∷◌, ◌++◌, Option, None, Some, slice_get}
 use Rattle.fjall_base.specs.Store.{map_at}
-use Rattle.fjall_own.specs.Owns.{items_of, own_written}
+use Rattle.fjall_tx.specs.Owns.{items_of, own_written}
 use Rattle.fjall_tx.specs.Marks.{Marks}
 use Rattle.fjall_history.specs.Histories.{History, number, view}
 use Rattle.fjall_history.specs.Queries.{Tells}
 use Rattle.fjall_history.specs.declared.reply.Reply.{Reply}
-use Rattle.fjall_serial.specs.Asks.{IsMarked}
-use Rattle.fjall_serial.specs.Checked.{before}
-use Rattle.fjall_serial.specs.Serial.{serial_store}
+use Rattle.fjall_history.specs.Asks.{IsMarked}
+use Rattle.fjall_history.specs.Checked.{before}
+use Rattle.fjall_history.specs.Serial.{serial_store}
 use Rattle.fjall_transactions.specs.Transactions.{Tx}
 use Rattle.fjall_transactions.specs.Standing.{accepted_of, history_of}
 use Rattle.fjall_calls.specs.declared.call.Kind.TheVariants.{Single}

@@ -8,10 +8,10 @@ use Rattle.fjall_history.specs.declared.reply.Reply.{Reply}
 use Rattle.fjall_history.specs.declared.reply.Reply.TheVariants.{Done, Flag, Pairs, Refused, Value}
 use Rattle.fjall_core.specs.declared.jobs.Jobs.{Jobs}
 use Rattle.fjall_jobs.specs.declared.merge_job.MergeJob.{MergeJob}
-use Rattle.fjall_state.specs.Machine.{State, Step}
-use Rattle.fjall_state.specs.Places.{resolved}
-use Rattle.fjall_state.specs.Shapes.{shape_of}
-use Rattle.fjall_state.specs.declared.call.Call.{Call}
+use Rattle.fjall_machine.specs.Machine.{State, Step}
+use Rattle.fjall_machine.specs.Places.{resolved}
+use Rattle.fjall_machine.specs.Shapes.{shape_of}
+use Rattle.fjall_machine.specs.declared.call.Call.{Call}
 use Rattle.fjall_core.specs.Holding.{Held}
 use Rattle.fjall_core.specs.Jobs.{KeepsJobs, KeepsMerges, KnowsMerges}
 use Rattle.fjall_core.specs.Standing.{OwesAll, ReadsOn, Runs, RunsSafely, Serves, ServesWhere, StandsFor}
@@ -38,7 +38,7 @@ ServesAll old (call ∷ calls) (reply ∷ replies) new = (mid : Held) × Serves 
 ServesAll old calls replies new = ⊥
 
 -- Calls of the core, with their replies: over a disk that returns what it holds each is served, and over any disk each reply is owed.
-pub record Makes (honest : Bool) (old : Held) (made : List Call) (told : List Reply) (new : Held) : Type 0 where
+pub record MakesCoreCalls (honest : Bool) (old : Held) (made : List Call) (told : List Reply) (new : Held) : Type 0 where
   pub serves : IsTrue honest → ServesAll old made told new
   pub owes : OwesAll old made told new
 
@@ -64,18 +64,18 @@ KeepsOn old new = (jobs : Jobs) (replies : List Reply) → KeepsJobs old.memory 
 
 -- What is found of a key within a transaction, where the core replied so: the core's refusal; or the value that the transaction sees; or memory
 -- ran out.
-pub data Found (s : State) (tx : Tx) (id : ℕ) (key : Bytes) : Reply → Result (Option Bytes) Error → Type 0 where
-  IsRefused : (error : Error) → Found s tx id key (Refused error) (Err error)
-  RunsOut : (reply : Reply) (fine : AreFine (reply ∷ [])) → Found s tx id key reply (Err OutOfMemory)
-  IsSeen : (reply : Reply) (fine : AreFine (reply ∷ [])) (found : Option Bytes) (sees : found ≡ lookup (seen_by s tx id) key) → Found s tx id key reply (Ok found)
+pub data FoundWithin (s : State) (tx : Tx) (id : ℕ) (key : Bytes) : Reply → Result (Option Bytes) Error → Type 0 where
+  IsRefused : (error : Error) → FoundWithin s tx id key (Refused error) (Err error)
+  RunsOut : (reply : Reply) (fine : AreFine (reply ∷ [])) → FoundWithin s tx id key reply (Err OutOfMemory)
+  IsSeen : (reply : Reply) (fine : AreFine (reply ∷ [])) (found : Option Bytes) (sees : found ≡ lookup (seen_by s tx id) key) → FoundWithin s tx id key reply (Ok found)
 
 -- A key was looked for within a transaction, by one call of the core.
-pub record Looks (honest : Bool) (core : Held) (tx : Tx) (id : ℕ) (key : Bytes) (result : Result (Option Bytes) Error) (left : Held) : Type 0 where
+pub record LooksWithin (honest : Bool) (core : Held) (tx : Tx) (id : ℕ) (key : Bytes) (result : Result (Option Bytes) Error) (left : Held) : Type 0 where
   pub reply : Reply
-  pub makes : Makes honest core (call_for tx id (Get key) ∷ []) (reply ∷ []) left
+  pub makes : MakesCoreCalls honest core (call_for tx id (Get key) ∷ []) (reply ∷ []) left
   pub keeps : KeepsOn core left
   pub finds : IsTrue honest → (s : State) → StandsFor core s → ReadsOn core s
-      → (t : State) × StandsFor left t × ReadsOn left t × Step s (call_for tx id (Get key)) reply t × Found s tx id key reply result
+      → (t : State) × StandsFor left t × ReadsOn left t × Step s (call_for tx id (Get key)) reply t × FoundWithin s tx id key reply result
 
 -- what a call within a transaction may be answered: what it asks for, or a refusal
 abbrev pub IsReplyIn : Within → Reply → Type 0
@@ -101,7 +101,7 @@ pub record Fetches (call : Within) (id : ℕ) (key : Bytes) (new : Option Bytes)
 pub record ActsOn (honest : Bool) (core : Held) (tx : Tx) (call : Within) (reply : Reply) (left : Held) (after : Tx) : Type 0 where
   pub made : List Call
   pub told : List Reply
-  pub makes : Makes honest core made told left
+  pub makes : MakesCoreCalls honest core made told left
   pub keeps : KeepsOn core left
   pub fits : IsReplyIn call reply
   pub acts : IsTrue honest → (s : State) → StandsFor core s → ReadsOn core s
@@ -121,20 +121,20 @@ may_begin core kept Optimistic = true
 may_begin core kept Single = not (is_writing core kept.writer)
 
 -- what a call of a list may be answered, where it isn't the core's: what it asks for, or a refusal
-abbrev pub IsReplyTo : TxCall → Reply → Type 0
-IsReplyTo (calls.Core call) reply = ⊥
-IsReplyTo (calls.Within name call) reply = IsReplyIn call reply
-IsReplyTo call (Refused error) = Unit {0}
-IsReplyTo (calls.Begin kind) Done = Unit {0}
-IsReplyTo (calls.Commit kind name) (Flag committed) = Unit {0}
-IsReplyTo (calls.Rollback name) Done = Unit {0}
-IsReplyTo call reply = ⊥
+abbrev pub IsReplyToCall : TxCall → Reply → Type 0
+IsReplyToCall (calls.Core call) reply = ⊥
+IsReplyToCall (calls.Within name call) reply = IsReplyIn call reply
+IsReplyToCall call (Refused error) = Unit {0}
+IsReplyToCall (calls.Begin kind) Done = Unit {0}
+IsReplyToCall (calls.Commit kind name) (Flag committed) = Unit {0}
+IsReplyToCall (calls.Rollback name) Done = Unit {0}
+IsReplyToCall call reply = ⊥
 
 -- The calls of the core that a call of a list comes to, with their replies: of the core's own calls that call, with its reply; of one of a
 -- transaction, which has a reply of its kind, as many as there are replies to them.
 pub data ComesTo (before : List Reply) : TxCall → Reply → List Call → List Reply → Type 0 where
   Itself : (call : Call) (reply : Reply) → ComesTo before (calls.Core call) reply (resolved before call ∷ []) (reply ∷ [])
-  Others : (call : TxCall) (reply : Reply) (fits : IsReplyTo call reply) (made : List Call) (told : List Reply) (each : length made ≡ length told)
+  Others : (call : TxCall) (reply : Reply) (fits : IsReplyToCall call reply) (made : List Call) (told : List Reply) (each : length made ≡ length told)
       → ComesTo before call reply made told
 
 -- the same of calls one after another, behind those that got the first replies
@@ -148,7 +148,7 @@ pub data AllCome : List Reply → List TxCall → List Reply → List Call → L
 pub record ServesTx (honest : Bool) (core : Held) (kept : Kept) (listed : List Named) (before : List Reply) (call : TxCall) (reply : Reply) (left : Held) (after : Kept) (rest : List Named) : Type 0 where
   pub made : List Call
   pub told : List Reply
-  pub makes : Makes honest core made told left
+  pub makes : MakesCoreCalls honest core made told left
   pub comes : ComesTo before call reply made told
   pub steps : IsTrue honest → (w : World) → Stands core kept listed w → ReadsOn core w.told.state
       → (v : World) × Stands left after rest v × ReadsOn left v.told.state × TxStep w before call reply made told v

@@ -8,15 +8,15 @@ use Rattle.fjall_journal.specs.Ops.{BatchItem}
 use Rattle.fjall_tx.specs.Marks.{Marks}
 use Rattle.fjall_tx.specs.declared.outcome.CommitOutcome.{CommitOutcome}
 use Rattle.fjall_tx.specs.declared.outcome.CommitOutcome.TheVariants as outcomes
-use Rattle.fjall_own.specs.Owns.{items_of}
+use Rattle.fjall_tx.specs.Owns.{items_of}
 use Rattle.fjall_history.specs.Tickets.{Tickets, is_open}
 use Rattle.fjall_history.specs.declared.ticket.Ticket.{Ticket}
 use Rattle.fjall_history.specs.declared.reply.Reply.{Reply}
 use Rattle.fjall_history.specs.declared.reply.Reply.TheVariants.{Done, Flag, Opened, Refused}
-use Rattle.fjall_state.specs.Machine.{State, Step}
-use Rattle.fjall_state.specs.Places.{resolved}
-use Rattle.fjall_state.specs.declared.call.Call.{Call}
-use Rattle.fjall_state.specs.declared.call.Call.TheVariants.{CloseSnapshot, CommitBatch, Snapshot}
+use Rattle.fjall_machine.specs.Machine.{State, Step}
+use Rattle.fjall_machine.specs.Places.{resolved}
+use Rattle.fjall_machine.specs.declared.call.Call.{Call}
+use Rattle.fjall_machine.specs.declared.call.Call.TheVariants.{CloseSnapshot, CommitBatch, Snapshot}
 use Rattle.fjall_transactions.specs.Transactions.{Tx, begun, no_marks}
 use Rattle.fjall_transactions.specs.Standing.{CommitStep, Told}
 use Rattle.fjall_calls.specs.declared.call.Kind.{Kind}

@@ -1,10 +1,10 @@
 -- A core with its transactions, as a list of calls goes through it.
 use Rattle.std.specs.Prelude.{ℕ, List, [], Option}
-use Rattle.fjall_own.specs.Owns.{Own}
+use Rattle.fjall_tx.specs.Owns.{Own}
 use Rattle.fjall_history.specs.declared.ticket.Ticket.{Ticket}
 use Rattle.fjall_history.specs.declared.reply.Reply.{Reply}
 use Rattle.fjall_history.specs.Queries.{Query}
-use Rattle.fjall_state.specs.Machine.{State}
+use Rattle.fjall_machine.specs.Machine.{State}
 use Rattle.fjall_transactions.specs.Standing.{Told, gone_on}
 use Rattle.fjall_calls.specs.declared.named.Named.{Named}
 

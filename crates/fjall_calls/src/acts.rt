@@ -10,10 +10,10 @@ ghost use Rattle.fjall_base.specs.declared.error.Error.TheVariants.{OutOfMemory}
 ghost use Rattle.fjall_journal.specs.Ops.{bytes_in};
 ghost use Rattle.fjall_journal.specs.declared.persist_mode.PersistMode.{PersistMode};
 ghost use Rattle.fjall_tx.specs.Marks.{OfKey, OfRange};
-ghost use Rattle.fjall_own.specs.Owns.{own_written, wanted};
+ghost use Rattle.fjall_tx.specs.Owns.{own_written, wanted};
 ghost use Rattle.fjall_core.specs.Standing.{pairs_reply, value_reply};
 ghost use Rattle.fjall_transactions.specs.Transactions.{having_read, replace_refusal, replacing, with_own};
-ghost use Rattle.fjall_calls.specs.Serving.{ActsOn, Fetches, Looks};
+ghost use Rattle.fjall_calls.specs.Serving.{ActsOn, Fetches, LooksWithin};
 ghost use Rattle.fjall_calls.specs.declared.call.Within.{Within as Call};
 ghost use Rattle.fjall_calls.specs.declared.call.Within.TheVariants as calls;
 
@@ -44,7 +44,7 @@ fn look<D: Disk>(
     id: u64,
     key: &UserKey,
 ) -> Result<Option<UserValue>>
-    ensures { Looks D.honest core.old transaction.now id key.now result core.new }
+    ensures { LooksWithin D.honest core.old transaction.now id key.now result core.new }
 {
     match core.get_at(View::At(transaction.ticket()), id, key) {
         Ok(found) => seen(transaction, id, key, found),

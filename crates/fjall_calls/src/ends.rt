@@ -6,7 +6,7 @@ ghost use Rattle.fjall_core.specs.Jobs.{KeepsJobs};
 ghost use Rattle.fjall_core.specs.Standing.{Owes, Serves};
 ghost use Rattle.fjall_history.specs.declared.reply.Reply.{Reply as Told};
 ghost use Rattle.fjall_core.specs.declared.jobs.Jobs.{Jobs};
-ghost use Rattle.fjall_state.specs.Shapes.{OfTickets, Open};
+ghost use Rattle.fjall_machine.specs.Shapes.{OfTickets, Open};
 ghost use Rattle.fjall_transactions.specs.Commits.{begun_reply};
 ghost use Rattle.fjall_transactions.specs.Transactions.{Kept, begun};
 ghost use Rattle.fjall_calls.specs.Steps.{first_marks, reply_to, writer_after};

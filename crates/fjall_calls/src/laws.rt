@@ -4,9 +4,9 @@ ghost use Rattle.std.specs.Prelude.{◌≡◌, [], All, List, None, Some, slice_
 ghost use Rattle.fjall_core.specs.Holding.{Held};
 ghost use Rattle.fjall_history.specs.Histories.{Accepted, Commit, latest, view};
 ghost use Rattle.fjall_history.specs.declared.reply.Reply.{Reply};
-ghost use Rattle.fjall_serial.specs.Checked.{before};
-ghost use Rattle.fjall_serial.specs.Serial.{ReadsChangeByTransactions};
-ghost use Rattle.fjall_state.specs.declared.call.Call.{Call};
+ghost use Rattle.fjall_history.specs.Checked.{before};
+ghost use Rattle.fjall_history.specs.Serial.{ReadsChangeByTransactions};
+ghost use Rattle.fjall_machine.specs.declared.call.Call.{Call};
 ghost use Rattle.fjall_transactions.specs.Standing.{StandFor, Told, history_of};
 ghost use Rattle.fjall_transactions.specs.Transactions.{Kept};
 ghost use Rattle.fjall_calls.specs.declared.call.TxCall.{TxCall};

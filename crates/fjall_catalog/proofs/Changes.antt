@@ -3,25 +3,25 @@ use Rattle.std.proofs.Common.{◌≡◌, ◌≢◌, inl, inr, ⊎_elim, ℕ, ◌
 use Rattle.std.specs.Option.{option_map}
 use Rattle.std.proofs.lemmas.List.Elements.{All-cons, All-head, All-nil}
 use Rattle.fjall_base.specs.declared.error.Error.{Error}
-use Rattle.fjall_base.specs.Disk.{Name, File, Missing, State, Image, Meaning, LeavesOnly}
+use Rattle.fjall_base.specs.Disk.{Name, File, Missing, DiskState, Image, Meaning, LeavesOnly}
 use Rattle.fjall_base.proofs.Moments.{weaken}
 use Rattle.fjall_files.specs.Names.{table_name}
 use Rattle.fjall_files.specs.Tidy.{FitsAt}
 use Rattle.fjall_files.proofs.Fitting.{fits_table}
 use Rattle.fjall_table.specs.declared.table_info.TableInfo.{TableInfo}
-use Rattle.fjall_tree.specs.Records.{Fields, IsRecord}
-use Rattle.fjall_home.specs.declared.writing.TableFile.{TableFile}
-use Rattle.fjall_home.specs.Homes as homes
-use Rattle.fjall_home.specs.Homes.{HasHome, Home, IsFree, SyncedStays}
-use Rattle.fjall_home.specs.Changes as changes
-use Rattle.fjall_home.specs.Changes.{AreKeptOrNew, AreNewTables, AreUnnamed, HasEither, IsNext}
+use Rattle.fjall_manifest.specs.Records.{Fields, IsRecord}
+use Rattle.fjall_manifest.specs.declared.writing.TableFile.{TableFile}
+use Rattle.fjall_manifest.specs.Homes as homes
+use Rattle.fjall_manifest.specs.Homes.{HasHome, Home, IsFree, SyncedStays}
+use Rattle.fjall_manifest.specs.Changes as changes
+use Rattle.fjall_manifest.specs.Changes.{AreKeptOrNew, AreNewTables, AreUnnamed, HasEitherHome, IsNext}
 use Rattle.fjall_meta.specs.declared.entry.MetaEntry.{MetaEntry}
 use Rattle.fjall_meta.specs.Keyspaces.{AreKeyspaces, Keyspaces}
 use Rattle.fjall_meta.specs.Entries.{entries_of}
 use Rattle.fjall_catalog.specs.declared.catalog.Catalog.{Catalog}
 use Rattle.fjall_catalog.specs.declared.update.Update.{Update}
-use Rattle.fjall_catalog.specs.Catalog.{ArePairs, IsReady, Rests, fields, home_of, listed}
-use Rattle.fjall_catalog.specs.Updates.{IsNewTable, IsTableGone, IsUpdate, IsWritten, SaysEither}
+use Rattle.fjall_catalog.specs.Catalog.{ArePairs, CatalogRests, IsReady, fields, home_of, listed}
+use Rattle.fjall_catalog.specs.Updates.{IsCatalogWritten, IsNewTable, IsTableGone, IsUpdate, SaysEither}
 use Rattle.fjall_catalog.proofs.Resting.{files_say, rests_with}
 use Rattle.fjall_catalog.proofs.Runs.{given}
 
@@ -90,35 +90,35 @@ module _ (old : Catalog) (t : Keyspaces) (number : ℕ) (u : Update) (update : I
 
 module _ (records : List Fields) (c : Catalog) (s : Keyspaces) (next : Catalog) (t : Keyspaces) where
   -- from the home to the catalog
-  is_written : (old new : State) (rests : Rests old records c s) (texts : List (List ℕ)) → ArePairs next.table texts (entries_of t.living) → changes.IsWritten new 0 records (home_of c rests.texts) (home_of next texts) → IsWritten new records c s next t
+  is_written : (old new : DiskState) (rests : CatalogRests old records c s) (texts : List (List ℕ)) → ArePairs next.table texts (entries_of t.living) → changes.IsHomeWritten new 0 records (home_of c rests.texts) (home_of next texts) → IsCatalogWritten new records c s next t
   is_written old new rests texts pairs written = record { rests = rests_with old new records c s rests written.rests; texts = texts; tables = written.tables; pairs = pairs; free = written.free }
 
-  pub put : (old new : State) (rests : Rests old records c s) (texts : List (List ℕ)) (r : Result Unit Error) → ArePairs next.table texts (entries_of t.living) → OnOk r (changes.IsWritten new 0 records (home_of c rests.texts) (home_of next texts)) → OnOk r (IsWritten new records c s next t)
+  pub put : (old new : DiskState) (rests : CatalogRests old records c s) (texts : List (List ℕ)) (r : Result Unit Error) → ArePairs next.table texts (entries_of t.living) → OnOk r (changes.IsHomeWritten new 0 records (home_of c rests.texts) (home_of next texts)) → OnOk r (IsCatalogWritten new records c s next t)
   put old new rests texts (Ok done) pairs written = is_written old new rests texts pairs written
   put old new rests texts (Err e) pairs written = tt
 
   -- and back
-  pub home_written : (state : State) (written : IsWritten state records c s next t) → changes.IsWritten state 0 records (home_of c written.rests.texts) (home_of next written.texts)
+  pub home_written : (state : DiskState) (written : IsCatalogWritten state records c s next t) → changes.IsHomeWritten state 0 records (home_of c written.rests.texts) (home_of next written.texts)
   home_written state written = record { rests = written.rests.home; tables = written.tables; free = written.free }
 
-  module _ (state : State) (written : IsWritten state records c s next t) (next_is : t.next ≡ next.next_keyspace_id) (are : AreKeyspaces t) where
-    says_either : (image : Image) → HasEither 0 records (home_of c written.rests.texts) (home_of next written.texts) image → SaysEither records c s next t image
+  module _ (state : DiskState) (written : IsCatalogWritten state records c s next t) (next_is : t.next ≡ next.next_keyspace_id) (are : AreKeyspaces t) where
+    says_either : (image : Image) → HasEitherHome 0 records (home_of c written.rests.texts) (home_of next written.texts) image → SaysEither records c s next t image
     says_either image either =
         ⊎_elim (λ old. inl (files_say state image records c s written.rests old.files)) (λ new. inr (record { texts = written.texts; files = new.files; pairs = written.pairs; next = next_is; are = are })) either
 
     -- a crash leaves what the one or the other says
-    pub said_either : (old new : Meaning) → LeavesOnly old new (HasEither 0 records (home_of c written.rests.texts) (home_of next written.texts)) → LeavesOnly old new (SaysEither records c s next t)
-    said_either old new run = weaken old new (HasEither 0 records (home_of c written.rests.texts) (home_of next written.texts)) (SaysEither records c s next t) run says_either
+    pub said_either : (old new : Meaning) → LeavesOnly old new (HasEitherHome 0 records (home_of c written.rests.texts) (home_of next written.texts)) → LeavesOnly old new (SaysEither records c s next t)
+    said_either old new run = weaken old new (HasEitherHome 0 records (home_of c written.rests.texts) (home_of next written.texts)) (SaysEither records c s next t) run says_either
 
-    pub committed : (new : State) (r : Result Unit Error) → OnOk r (homes.IsReady new 0 (records ++ fields next ∷ []) (home_of next written.texts)) → OnOk r (IsReady new (records ++ fields next ∷ []) next t)
+    pub committed : (new : DiskState) (r : Result Unit Error) → OnOk r (homes.IsReady new 0 (records ++ fields next ∷ []) (home_of next written.texts)) → OnOk r (IsReady new (records ++ fields next ∷ []) next t)
     committed new (Ok done) ready = record { rests = record { texts = written.texts; home = ready.rests; pairs = written.pairs; next = next_is; are = are }; free = ready.free }
     committed new (Err e) ready = tt
 
 -- the home of a catalog that is ready is ready
-pub home_ready : (state : State) (records : List Fields) (c : Catalog) (s : Keyspaces) (ready : IsReady state records c s) → homes.IsReady state 0 records (home_of c ready.rests.texts)
+pub home_ready : (state : DiskState) (records : List Fields) (c : Catalog) (s : Keyspaces) (ready : IsReady state records c s) → homes.IsReady state 0 records (home_of c ready.rests.texts)
 home_ready state records c s ready = record { rests = ready.rests.home; free = ready.free }
 
-pub still_ready : (old new : State) (records : List Fields) (c : Catalog) (s : Keyspaces) (rests : Rests old records c s) → homes.IsReady new 0 records (home_of c rests.texts) → IsReady new records c s
+pub still_ready : (old new : DiskState) (records : List Fields) (c : Catalog) (s : Keyspaces) (rests : CatalogRests old records c s) → homes.IsReady new 0 records (home_of c rests.texts) → IsReady new records c s
 still_ready old new records c s rests ready = record { rests = rests_with old new records c s rests ready.rests; free = ready.free }
 
 -- ---- the old table
@@ -142,7 +142,7 @@ pub removed : (old : Catalog) (t : Keyspaces) (number : ℕ) (u : Update) → Is
 removed old t number u update name is names all = ap (λ (l : List (String Global)). map string_bytes l) (all ∙ sym (ap (λ (found : Option (String Global)). listed found) is)) ∙ names_of u.old_table old update.old_table
 
 -- where there is none, none is to be gone
-pub none_gone : (state : State) (old : Catalog) (t : Keyspaces) (number : ℕ) (u : Update) → IsUpdate old t number u → ((name : String Global) → u.old_table ≡ Some name → ⊥) → IsTableGone state old
+pub none_gone : (state : DiskState) (old : Catalog) (t : Keyspaces) (number : ℕ) (u : Update) → IsUpdate old t number u → ((name : String Global) → u.old_table ≡ Some name → ⊥) → IsTableGone state old
 none_gone state old t number u update none = of u.old_table old.table none update.old_table
   where
     of : (found : Option (String Global)) (table : Option TableInfo) → ((name : String Global) → found ≡ Some name → ⊥) → option_map string_bytes found ≡ option_map (λ t. table_name 0 t.id) table → IfSome table (λ t. (state (table_name 0 t.id)).now ≡ Missing)

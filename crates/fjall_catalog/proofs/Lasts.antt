@@ -1,8 +1,8 @@
 -- The last record of some bytes.
 use Rattle.std.proofs.Common.{◌≡◌, ℕ, List, Some}
-use Rattle.fjall_tree.specs.Records.{Fields, IsRecords, HasContradiction}
+use Rattle.fjall_manifest.specs.Records.{Fields, IsRecords, HasContradiction}
 use Rattle.fjall_base.specs.Lists.{last_of}
-use Rattle.fjall_tree.proofs.Currents.{contradiction_has_no_reading}
+use Rattle.fjall_manifest.proofs.Currents.{contradiction_has_no_reading}
 use Rattle.fjall_catalog.specs.declared.catalog.Catalog.{Catalog}
 use Rattle.fjall_catalog.specs.Catalog.{fields, IsAtLevel1}
 use Rattle.fjall_catalog.specs.Refusals.{HasLast, HasNoLast}

@@ -1,12 +1,11 @@
 pub mod Naming
 pub mod Resting
-pub mod Runs
+mod Runs
 pub mod Serving
-pub mod Changes
+mod Changes
 pub mod Shapes
 pub mod Meanings
 pub mod Pairs
-pub mod Written
-pub mod Preparing
-pub mod Lasts
-pub mod Readings
+mod Written
+mod Lasts
+mod Readings

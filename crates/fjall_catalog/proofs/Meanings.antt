@@ -1,31 +1,31 @@
 -- What an image says: by which names, and that it is one thing.
 use Rattle.std.proofs.Common.{◌≡◌, ℕ, Bool, true, List, [], ◌∷◌, map, Option, Some, None, refl, sym, ◌∙◌, ap, subst, arith}
-use Rattle.fjall_base.specs.Disk.{Name, State, Image, Survives}
+use Rattle.fjall_base.specs.Disk.{Name, DiskState, Image, Survives}
 use Rattle.fjall_base.specs.Lists.{last_of}
 use Rattle.fjall_files.specs.Names.{keyspace_folder}
 use Rattle.fjall_files.specs.Regions.{IsImageIn, is_under}
 use Rattle.fjall_table.specs.declared.table_info.TableInfo.{TableInfo}
 use Rattle.fjall_table.specs.Blocks as blocks
 use Rattle.fjall_table.proofs.TableLaws.{one_list_of_entries}
-use Rattle.fjall_tree.specs.Records.{Fields, IsRecords}
-use Rattle.fjall_home.specs.Homes.{Home, is_counted}
-use Rattle.fjall_home.proofs.Meanings as homes
-use Rattle.fjall_home.proofs.Meanings.{files_alike, one_home, texts_one}
-use Rattle.fjall_home.proofs.Resting.{region_home}
-use Rattle.fjall_home.proofs.Views.{usual_region}
+use Rattle.fjall_manifest.specs.Records.{Fields, IsRecords}
+use Rattle.fjall_manifest.specs.Homes.{Home, is_counted}
+use Rattle.fjall_manifest.proofs.Meanings as homes
+use Rattle.fjall_manifest.proofs.Meanings.{files_alike, one_home, texts_one}
+use Rattle.fjall_manifest.proofs.Resting.{region_home}
+use Rattle.fjall_manifest.proofs.Views.{usual_region}
 use Rattle.fjall_meta.specs.declared.entry.MetaEntry.{MetaEntry}
 use Rattle.fjall_meta.specs.Keyspaces.{Keyspaces}
 use Rattle.fjall_meta.specs.Entries.{entries_of}
 use Rattle.fjall_meta.proofs.Alike.{one_list}
 use Rattle.fjall_catalog.specs.declared.catalog.Catalog.{Catalog}
-use Rattle.fjall_catalog.specs.Catalog.{ArePairs, HoldsEntries, Rests, Says, fields, home_of, listed, table_entry}
+use Rattle.fjall_catalog.specs.Catalog.{ArePairs, CatalogRests, HoldsEntries, Says, fields, home_of, listed, table_entry}
 use Rattle.fjall_catalog.proofs.Resting.{files_say}
 use Rattle.fjall_catalog.proofs.Shapes.{fields_one}
 
 -- ---- by which names
 
-pub regions_say : (region : Name → Bool) (state : State) (image : Image) (records : List Fields) (last : Catalog) (s : Keyspaces) → ((q : Name) → is_counted 0 q ≡ true → region q ≡ true)
-    → Rests state records last s → IsImageIn Survives region state image → Says image records last s
+pub regions_say : (region : Name → Bool) (state : DiskState) (image : Image) (records : List Fields) (last : Catalog) (s : Keyspaces) → ((q : Name) → is_counted 0 q ≡ true → region q ≡ true)
+    → CatalogRests state records last s → IsImageIn Survives region state image → Says image records last s
 regions_say region state image records last s more rests is =
     files_say state image records last s rests (region_home region state image 0 records (home_of last rests.texts) (omega arith) more rests.home (usual_region region state image is)).files
 

@@ -12,9 +12,8 @@ use Rattle.fjall_table.specs.declared.table_info.TableInfo.{TableInfo}
 use Rattle.fjall_table.specs.TableReading.{HasNoIndex, IsNoTable}
 use Rattle.fjall_table.proofs.TableBlocks.{one_index}
 use Rattle.fjall_table.proofs.TableLaws.{one_list_of_entries, tables_have_an_index}
-use Rattle.std.proofs.lemmas.List.{length-map}
 use Rattle.fjall_meta.specs.declared.entry.MetaEntry.{MetaEntry}
-use Rattle.fjall_catalog.specs.Catalog.{IsTableOf, table_entry}
+use Rattle.fjall_catalog.specs.Catalog.{IsCatalogTable, table_entry}
 
 -- ---- read
 
@@ -43,10 +42,7 @@ pairs_some bytes (e ∷ es) is = omega arith
 
 -- ---- which table
 
-pairs_count : (entries : List MetaEntry) → length (map table_entry entries) ≡ length entries
-pairs_count entries = simp length-map
-
-pub table_of : (t : TableInfo) (bytes : List ℕ) (handles : List tables.Handle) (es : List blocks.Entry) (entries : List MetaEntry) → t.level ≡ L1 → length bytes ≡ t.file_len → tables.HasIndex bytes handles t.entry_count → IsTable bytes es → map table_entry entries ≡ es → IsTableOf t bytes entries
+pub table_of : (t : TableInfo) (bytes : List ℕ) (handles : List tables.Handle) (es : List blocks.Entry) (entries : List MetaEntry) → t.level ≡ L1 → length bytes ≡ t.file_len → tables.HasIndex bytes handles t.entry_count → IsTable bytes es → map table_entry entries ≡ es → IsCatalogTable t bytes entries
 table_of t bytes handles es entries level len index is same =
     let own = tables_have_an_index bytes es is in
     let count : t.entry_count ≡ length es = (one_index bytes handles (tables.handles_of 0 own.0) t.entry_count (length es) index own.3).1 in
@@ -55,14 +51,14 @@ table_of t bytes handles es entries level len index is same =
       is = record { len = len; table = subst (λ (l : List blocks.Entry). IsTable bytes l) (sym same) is; count = count ∙ ap length (sym same) };
     }
 
-pub no_index_of : (t : TableInfo) (bytes : List ℕ) → HasNoIndex bytes t → (entries : List MetaEntry) → IsTableOf t bytes entries → ⊥
+pub no_index_of : (t : TableInfo) (bytes : List ℕ) → HasNoIndex bytes t → (entries : List MetaEntry) → IsCatalogTable t bytes entries → ⊥
 no_index_of t bytes none entries is =
     let own = tables_have_an_index bytes (map table_entry entries) is.is.table in
     let count : length (map table_entry entries) ≡ t.entry_count = sym is.is.count in
     none (tables.handles_of 0 own.0) is.is.len (subst (λ (n : ℕ). tables.HasIndex bytes (tables.handles_of 0 own.0) n) count own.3)
 
-pub no_table_of : (t : TableInfo) (bytes : List ℕ) → IsNoTable bytes → (entries : List MetaEntry) → IsTableOf t bytes entries → ⊥
+pub no_table_of : (t : TableInfo) (bytes : List ℕ) → IsNoTable bytes → (entries : List MetaEntry) → IsCatalogTable t bytes entries → ⊥
 no_table_of t bytes none entries is = none (map table_entry entries) is.is.table
 
-pub no_pairs_of : (t : TableInfo) (bytes : List ℕ) (es : List blocks.Entry) → IsTable bytes es → ((entries : List MetaEntry) → map table_entry entries ≡ es → ⊥) → (entries : List MetaEntry) → IsTableOf t bytes entries → ⊥
+pub no_pairs_of : (t : TableInfo) (bytes : List ℕ) (es : List blocks.Entry) → IsTable bytes es → ((entries : List MetaEntry) → map table_entry entries ≡ es → ⊥) → (entries : List MetaEntry) → IsCatalogTable t bytes entries → ⊥
 no_pairs_of t bytes es table none entries is = none entries (one_list_of_entries bytes (map table_entry entries) es is.is.table table)

@@ -6,11 +6,11 @@ use Rattle.fjall_base.specs.declared.error.Error.{Error}
 use Rattle.fjall_base.specs.declared.error.Error.TheVariants.{Io, Storage, OutOfMemory}
 use Rattle.fjall_base.specs.declared.error.StorageError.{StorageError}
 use Rattle.fjall_base.specs.declared.error.StorageError.TheVariants.{RecordDamaged, TableDamaged, OptionMissing, OptionInvalid}
-use Rattle.fjall_base.specs.Disk.{Name, Entry, Missing, File, Folder, Image, IsFile, Reads}
+use Rattle.fjall_base.specs.Disk.{Name, DiskEntry, Missing, File, Folder, Image, IsFile, ReadsFile}
 use Rattle.fjall_base.specs.Errors.{IsFaultOrMemory, Rose}
 use Rattle.fjall_table.specs.declared.table_info.TableInfo.{TableInfo}
 use Rattle.fjall_table.specs.Reading.{DamagedWhere}
-use Rattle.fjall_tree.specs.Records.{Fields}
+use Rattle.fjall_manifest.specs.Records.{Fields}
 use Rattle.fjall_base.specs.Lists.{last_of}
 use Rattle.fjall_files.specs.Texts.{text_in}
 use Rattle.fjall_files.specs.Names.{current_name, table_name}
@@ -21,28 +21,19 @@ use Rattle.fjall_options.specs.declared.options.stored_option.StoredOption.{Stor
 use Rattle.fjall_options.specs.Options.{config_key, is_value, name_key, option_name, stored_options, stored_value, stored_values, valid_value, value_of}
 use Rattle.fjall_base.specs.Results.{◌>>=◌}
 use Rattle.fjall_meta.specs.Reading.{IsReadingRefusal, first_fault, or_else, pairs_of, stored_keyspace, stored_name, valid_name}
-use Rattle.fjall_tree.proofs.Currents.{one_reading, texts_are_records}
+use Rattle.fjall_manifest.proofs.Currents.{one_reading, texts_are_records}
 use Rattle.fjall_base.proofs.Names.{bool_cases}
 use Rattle.fjall_files.proofs.FilesRead.{ReadFile, read_none, read_some}
 use Rattle.fjall_catalog.proofs.Meanings.{held_one, last_one}
 use Rattle.fjall_catalog.specs.declared.catalog.Catalog.{Catalog}
-use Rattle.fjall_catalog.specs.Catalog.{ArePairs, fields, records_in, IsAtLevel1, IsTableOf, HoldsEntries, Says}
-use Rattle.fjall_catalog.specs.Refusals.{HasLast, HasNoLast, IsDamage, IsTableRefused, IsRefusal, IsFaultIfIo}
+use Rattle.fjall_catalog.specs.Catalog.{ArePairs, fields, records_in, IsAtLevel1, IsCatalogTable, HoldsEntries, Says}
+use Rattle.fjall_catalog.specs.Refusals.{HasLast, HasNoLast, IsCatalogDamage, IsTableRefused, IsRefusal}
 
 -- ---- refusals passed on
 
-pub fault_if_io : (before after : ℕ) (e : Error) → IsFaultOrMemory before after e → IsFaultIfIo before after e
-fault_if_io before after (Io kind) is = is
-fault_if_io before after _ is = tt
-
 -- a table that was read and is right is held
-pub holds_table : (image : Image) (t : TableInfo) (entries : List MetaEntry) (bytes : List ℕ) → ReadFile (image (table_name 0 t.id)) bytes → IsTableOf t bytes entries → HoldsEntries image (Some t) entries
+pub holds_table : (image : Image) (t : TableInfo) (entries : List MetaEntry) (bytes : List ℕ) → ReadFile (image (table_name 0 t.id)) bytes → IsCatalogTable t bytes entries → HoldsEntries image (Some t) entries
 holds_table image t entries bytes read is = (bytes ∷ [], ((read.file, sym read.is), tt), is)
-
-pub not_read : (image : Image) (before after : ℕ) (e : Error) → IsFaultOrMemory before after e → IsRefusal image before after e
-not_read image before after (Io kind) is = is
-not_read image before after OutOfMemory is = tt
-not_read image before after _ is = absurd is
 
 -- no file has no last record
 empty : (last : Catalog) → HasLast [] last → ⊥
@@ -53,7 +44,7 @@ empty last has =
 pub nothing_there : (image : Image) → (IsFile (image (current_name 0)) → ⊥) → HasNoLast (records_in image)
 nothing_there image none last has = of (image (current_name 0)) none has
   where
-    of : (entry : Entry) → (IsFile entry → ⊥) → HasLast (text_in entry) last → ⊥
+    of : (entry : DiskEntry) → (IsFile entry → ⊥) → HasLast (text_in entry) last → ⊥
     of (File synced unsynced) none has = none tt
     of Missing none has = empty last has
     of Folder none has = empty last has
@@ -62,7 +53,7 @@ pub records_refused : (image : Image) (before after : ℕ) (bytes : List ℕ) (e
 records_refused image before after bytes OutOfMemory at is = tt
 records_refused image before after bytes (Storage cause) at is =
     let none : HasNoLast (records_in image) = subst (λ (l : List ℕ). HasNoLast l) at is.1 in
-    subst (λ (c : StorageError). IsDamage image c) (sym is.0) none
+    subst (λ (c : StorageError). IsCatalogDamage image c) (sym is.0) none
 records_refused image before after bytes _ at is = absurd is
 
 -- a fault behind others
@@ -76,7 +67,7 @@ rose_from before mid after le more (inr full) = elim (cases_lt before mid) [
 pub table_refuses : (image : Image) (last : Catalog) (before mid after : ℕ) (e : Error) → HasLast (records_in image) last → before ≤ mid → mid ≤ after → IsTableRefused image last.table mid after e → IsRefusal image before after e
 table_refuses image last before mid after (Io kind) has le more is = rose_from before mid after le more is
 table_refuses image last before mid after OutOfMemory has le more is = tt
-table_refuses image last before mid after (Storage cause) has le more is = subst (λ (c : StorageError). IsDamage image c) (sym is.0) (record { last = last; has = has; none = is.1 })
+table_refuses image last before mid after (Storage cause) has le more is = subst (λ (c : StorageError). IsCatalogDamage image c) (sym is.0) (record { last = last; has = has; none = is.1 })
 table_refuses image last before mid after _ has le more is = absurd is
 
 -- ---- pairs that store no keyspaces
@@ -170,15 +161,15 @@ says_entries image records last s says = (says.texts, says.files.tables, says.pa
 
 -- ---- at the exits
 
-pub current_none : (image : Image) (found : Option (Vec ℕ Global)) (name : Name) → name ≡ current_name 0 → ((bytes : Vec ℕ Global) → found ≡ Some bytes → ⊥) → Reads (image name) found → HasNoLast (records_in image)
-current_none image None name at none is = nothing_there image (read_none (image (current_name 0)) (subst (λ (n : Name). Reads (image n) None) at is))
+pub current_none : (image : Image) (found : Option (Vec ℕ Global)) (name : Name) → name ≡ current_name 0 → ((bytes : Vec ℕ Global) → found ≡ Some bytes → ⊥) → ReadsFile (image name) found → HasNoLast (records_in image)
+current_none image None name at none is = nothing_there image (read_none (image (current_name 0)) (subst (λ (n : Name). ReadsFile (image n) None) at is))
 current_none image (Some bytes) name at none is = absurd (none bytes refl)
 
-pub file_some : (image : Image) (found : Option (Vec ℕ Global)) (bytes : Vec ℕ Global) (name q : Name) → name ≡ q → found ≡ Some bytes → Reads (image name) found → ReadFile (image q) bytes.items
+pub file_some : (image : Image) (found : Option (Vec ℕ Global)) (bytes : Vec ℕ Global) (name q : Name) → name ≡ q → found ≡ Some bytes → ReadsFile (image name) found → ReadFile (image q) bytes.items
 file_some image found bytes name q at some is =
-    read_some (image q) bytes (subst (λ (n : Name). Reads (image n) (Some bytes)) at (subst (λ (f : Option (Vec ℕ Global)). Reads (image name) f) some is))
+    read_some (image q) bytes (subst (λ (n : Name). ReadsFile (image n) (Some bytes)) at (subst (λ (f : Option (Vec ℕ Global)). ReadsFile (image name) f) some is))
 
-pub current_some : (image : Image) (found : Option (Vec ℕ Global)) (bytes : Vec ℕ Global) (name : Name) → name ≡ current_name 0 → found ≡ Some bytes → Reads (image name) found → ReadFile (image (current_name 0)) bytes.items
+pub current_some : (image : Image) (found : Option (Vec ℕ Global)) (bytes : Vec ℕ Global) (name : Name) → name ≡ current_name 0 → found ≡ Some bytes → ReadsFile (image name) found → ReadFile (image (current_name 0)) bytes.items
 current_some image found bytes name at some is = file_some image found bytes name (current_name 0) at some is
 
 pub record_is_read : (image : Image) (last : Catalog) (before after : ℕ) (bytes : List ℕ) (e : Error) → HasLast (records_in image) last → bytes ≡ records_in image → DamagedWhere RecordDamaged (HasNoLast bytes) e → IsFaultOrMemory before after e

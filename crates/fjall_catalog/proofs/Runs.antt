@@ -1,16 +1,16 @@
 -- Runs that leave what a catalog rests on, and the ids of its tables.
-use Rattle.std.proofs.Common.{◌<◌, List, [], ◌∷◌, Option, Some, None, IfSome, All, arith}
+use Rattle.std.proofs.Common.{◌<◌, List, [], Option, Some, None, IfSome, All, arith}
 use Rattle.std.proofs.lemmas.List.Elements.{All-head}
-use Rattle.fjall_base.specs.Disk.{Name, Image, SyncFolder, Meaning, Took, LeavesOnly, LeavesOnlyBy, state_in}
+use Rattle.fjall_base.specs.Disk.{Image, Meaning, LeavesOnly, LeavesOnlyBy, state_in}
 use Rattle.fjall_base.proofs.Moments.{weaken}
 use Rattle.fjall_table.specs.declared.table_info.TableInfo.{TableInfo}
-use Rattle.fjall_tree.specs.Records.{Fields, IsRecord}
-use Rattle.fjall_home.specs.Homes.{HasHome, SyncedStays}
-use Rattle.fjall_home.proofs.Runs as homes_runs
-use Rattle.fjall_home.proofs.Views.{usually}
+use Rattle.fjall_manifest.specs.Records.{Fields, IsRecord}
+use Rattle.fjall_manifest.specs.Homes.{HasHome, SyncedStays}
+use Rattle.fjall_manifest.proofs.Runs as homes_runs
+use Rattle.fjall_manifest.proofs.Views.{usually}
 use Rattle.fjall_meta.specs.Keyspaces.{Keyspaces}
 use Rattle.fjall_catalog.specs.declared.catalog.Catalog.{Catalog}
-use Rattle.fjall_catalog.specs.Catalog.{Rests, Says, fields, home_of, listed}
+use Rattle.fjall_catalog.specs.Catalog.{CatalogRests, Says, fields, home_of, listed}
 use Rattle.fjall_catalog.proofs.Resting.{files_say}
 
 -- its table was given an id below the next one
@@ -25,20 +25,15 @@ given c is = of c.table is.consistent.given
 
 module _ (records : List Fields) (c : Catalog) (s : Keyspaces) where
   -- where its home is there at each moment, it is said at each
-  pub said_on : (old new : Meaning) (rests : Rests (state_in old) records c s) → LeavesOnlyBy SyncedStays old new (λ image. HasHome image 0 records (home_of c rests.texts)) → LeavesOnly old new (λ image. Says image records c s)
+  pub said_on : (old new : Meaning) (rests : CatalogRests (state_in old) records c s) → LeavesOnlyBy SyncedStays old new (λ image. HasHome image 0 records (home_of c rests.texts)) → LeavesOnly old new (λ image. Says image records c s)
   said_on old new rests run =
       let has : Image → Type 0 = λ image. HasHome image 0 records (home_of c rests.texts) in
       weaken old new has (λ image. Says image records c s) (usually old new has run) (λ image is. files_say (state_in old) image records c s rests is.files)
 
   -- at each moment, and at the end, it is said
   pub record Still (old new : Meaning) : Type 0 where
-    pub rests : Rests (state_in new) records c s
+    pub rests : CatalogRests (state_in new) records c s
     pub run : LeavesOnlyBy SyncedStays old new (λ image. HasHome image 0 records (home_of c rests.texts))
 
-  pub start : (old : Meaning) → Rests (state_in old) records c s → Still old old
+  pub start : (old : Meaning) → CatalogRests (state_in old) records c s → Still old old
   start old rests = record { rests = rests; run = (homes_runs.start 0 (omega arith) records (home_of c rests.texts) old rests.home).run }
-
-  pub synced : (old mid new : Meaning) (folder : Name) → Still old mid → Took mid new (SyncFolder folder ∷ []) → Still old new
-  synced old mid new folder so_far took =
-      let still = homes_runs.synced 0 (omega arith) records (home_of c so_far.rests.texts) old mid new folder (record { run = so_far.run; rests = so_far.rests.home }) took in
-      record { rests = record { texts = so_far.rests.texts; home = still.rests; pairs = so_far.rests.pairs; next = so_far.rests.next; are = so_far.rests.are }; run = still.run }

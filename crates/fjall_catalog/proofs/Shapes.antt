@@ -2,9 +2,9 @@
 use Rattle.std.proofs.Common.{◌≡◌, ℕ, ◌<◌, ◌≤◌, ◌^◌, [], length, Option, Some, None, IfSome, All, AllPairs, ◌≢◌, map, refl, ap, arith}
 use Rattle.std.proofs.lemmas.List.Elements.{All-cons, All-nil}
 use Rattle.fjall_table.specs.declared.table_info.TableInfo.{TableInfo}
-use Rattle.fjall_tree.specs.Records.{Fields, Fits, IsRecord, body, record_text}
+use Rattle.fjall_manifest.specs.Records.{Fields, Fits, IsRecord, body, record_text}
 use Rattle.fjall_table.proofs.Frames.{length_framed}
-use Rattle.fjall_tree.proofs.Records.{length_body}
+use Rattle.fjall_manifest.proofs.Records.{length_body}
 use Rattle.fjall_catalog.specs.declared.catalog.Catalog.{Catalog}
 use Rattle.fjall_catalog.specs.Catalog.{fields, listed}
 

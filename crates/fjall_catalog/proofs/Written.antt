@@ -9,7 +9,7 @@ use Rattle.fjall_base.specs.Pairs.{byte_order}
 use Rattle.fjall_base.specs.declared.error.Error.{Error}
 use Rattle.fjall_base.specs.declared.error.Error.TheVariants.{OutOfMemory, ValueTooLong}
 use Rattle.fjall_table.specs.Blocks.{Entry, IsBefore, IsOrdered}
-use Rattle.fjall_table.specs.Writing.{Follows}
+use Rattle.fjall_table.specs.Writing.{FollowsEntries}
 use Rattle.fjall_table.proofs.BlockParts.{ordered_at}
 use Rattle.fjall_meta.specs.declared.entry.MetaEntry.{MetaEntry}
 use Rattle.fjall_meta.specs.declared.living.LivingKeyspace.{LivingKeyspace}
@@ -53,7 +53,7 @@ ascending_ordered xs up = rising_ordered xs (from_pairs (λ a b. byte_order a.ke
 
 -- each item stands behind those before it
 pub next_follows : {X : Type 0} (old : List Entry) (f : X → MetaEntry) (xs : List X) (i : ℕ) (d : X) → i < length xs → IsOrdered (old ++ map table_entry (map f xs))
-    → Follows (old ++ map table_entry (map f (take i xs))) (table_entry (f (get_or xs i d)))
+    → FollowsEntries (old ++ map table_entry (map f (take i xs))) (table_entry (f (get_or xs i d)))
 next_follows old f xs i d lt up =
     let front = map table_entry (map f (take i xs)) in
     let item = table_entry (f (get_or xs i d)) in

@@ -1,13 +1,13 @@
 -- The catalog: tree 0 on disk, whose last record and table say which keyspaces live.
 use Rattle.std.specs.Prelude.{◌≡◌, ◌↔◌, ℕ, ◌<◌, Bool, IsTrue, List, [], ◌∷◌, length, map, Option, Some, None, IfSome}
-use Rattle.fjall_base.specs.Disk.{Image, State}
+use Rattle.fjall_base.specs.Disk.{DiskState, Image}
 use Rattle.fjall_table.specs.declared.level.Level.TheVariants.{L1}
 use Rattle.fjall_table.specs.declared.table_info.TableInfo.{TableInfo}
-use Rattle.fjall_tree.specs.Records.{Fields, IsRecords}
+use Rattle.fjall_manifest.specs.Records.{Fields, IsRecords}
 use Rattle.fjall_table.specs.Blocks as blocks
-use Rattle.fjall_table.specs.Files as files
-use Rattle.fjall_home.specs.Homes as homes
-use Rattle.fjall_home.specs.Homes.{Home, HasFiles, HoldTables, IsFree, records_text}
+use Rattle.fjall_table_reader.specs.Files as files
+use Rattle.fjall_manifest.specs.Homes as homes
+use Rattle.fjall_manifest.specs.Homes.{Home, HasFiles, HoldTables, IsFree, records_text}
 use Rattle.fjall_meta.specs.declared.entry.MetaEntry.{MetaEntry}
 use Rattle.fjall_meta.specs.Keyspaces.{Keyspaces, AreKeyspaces}
 use Rattle.fjall_meta.specs.Entries.{entries_of}
@@ -50,14 +50,14 @@ abbrev pub table_entry : MetaEntry → blocks.Entry
 table_entry e = record { key = e.key; number = e.number; value = Some e.value }
 
 -- The bytes are the table that the record names, at level 1, with these pairs.
-pub record IsTableOf (t : TableInfo) (bytes : List ℕ) (entries : List MetaEntry) : Type 0 where
+pub record IsCatalogTable (t : TableInfo) (bytes : List ℕ) (entries : List MetaEntry) : Type 0 where
   pub level : t.level ≡ L1
   pub is : files.IsTableOf t bytes (map table_entry entries)
 
 -- The tables that a record names have these bytes, and these pairs are in them: none where no table is named.
 abbrev pub ArePairs : Option TableInfo → List (List ℕ) → List MetaEntry → Type 0
 ArePairs None [] entries = entries ≡ []
-ArePairs (Some t) (bytes ∷ []) entries = IsTableOf t bytes entries
+ArePairs (Some t) (bytes ∷ []) entries = IsCatalogTable t bytes entries
 ArePairs table texts entries = ⊥
 
 -- the home of a catalog: its record, and the bytes of the table that it names
@@ -92,7 +92,7 @@ pub record HasEnd (image : Image) (end : ℕ) (is_torn : Bool) : Type 0 where
 -- ---- on a disk
 
 -- All that the catalog says is safe: the home of the id 0 rests, with the keyspaces' pairs in its table.
-pub record Rests (state : State) (records : List Fields) (last : Catalog) (s : Keyspaces) : Type 0 where
+pub record CatalogRests (state : DiskState) (records : List Fields) (last : Catalog) (s : Keyspaces) : Type 0 where
   pub texts : List (List ℕ)
   pub home : homes.Rests state 0 records (home_of last texts)
   pub pairs : ArePairs last.table texts (entries_of s.living)
@@ -100,6 +100,6 @@ pub record Rests (state : State) (records : List Fields) (last : Catalog) (s : K
   pub are : AreKeyspaces s
 
 -- Between two changes: all is safe, and no table stands under an id that is still to be given out.
-pub record IsReady (state : State) (records : List Fields) (last : Catalog) (s : Keyspaces) : Type 0 where
-  pub rests : Rests state records last s
+pub record IsReady (state : DiskState) (records : List Fields) (last : Catalog) (s : Keyspaces) : Type 0 where
+  pub rests : CatalogRests state records last s
   pub free : IsFree state 0 last.next_table_id

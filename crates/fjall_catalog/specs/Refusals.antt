@@ -7,7 +7,7 @@ use Rattle.fjall_base.specs.declared.error.StorageError.TheVariants.{RecordDamag
 use Rattle.fjall_base.specs.Disk.{Image}
 use Rattle.fjall_base.specs.Errors.{Rose}
 use Rattle.fjall_table.specs.declared.table_info.TableInfo.{TableInfo}
-use Rattle.fjall_tree.specs.Records.{Fields, IsRecords}
+use Rattle.fjall_manifest.specs.Records.{Fields, IsRecords}
 use Rattle.fjall_base.specs.Lists.{last_of}
 use Rattle.fjall_meta.specs.declared.entry.MetaEntry.{MetaEntry}
 use Rattle.fjall_meta.specs.Reading.{IsReadingRefusal}
@@ -27,7 +27,7 @@ abbrev pub HasNoLast : List ℕ → Type 0
 HasNoLast bytes = (last : Catalog) → HasLast bytes last → ⊥
 
 -- what the last record's table says is refused, or there is no such table
-pub record IsRefused (image : Image) (why : List MetaEntry → Type 0) : Type 0 where
+pub record ArePairsRefused (image : Image) (why : List MetaEntry → Type 0) : Type 0 where
   pub last : Catalog
   pub has : HasLast (records_in image) last
   pub entries : List MetaEntry
@@ -47,17 +47,17 @@ IsTableRefused image table before after (Storage cause) = (cause ≡ TableDamage
 IsTableRefused image table before after error = ⊥
 
 -- what is wrong with the records, the table or the pairs
-abbrev pub IsDamage : Image → StorageError → Type 0
-IsDamage image RecordDamaged = HasNoLast (records_in image)
-IsDamage image TableDamaged = HasNoTable image
-IsDamage image OptionMissing = IsRefused image (λ entries. IsReadingRefusal entries (Storage OptionMissing))
-IsDamage image OptionInvalid = IsRefused image (λ entries. IsReadingRefusal entries (Storage OptionInvalid))
+abbrev pub IsCatalogDamage : Image → StorageError → Type 0
+IsCatalogDamage image RecordDamaged = HasNoLast (records_in image)
+IsCatalogDamage image TableDamaged = HasNoTable image
+IsCatalogDamage image OptionMissing = ArePairsRefused image (λ entries. IsReadingRefusal entries (Storage OptionMissing))
+IsCatalogDamage image OptionInvalid = ArePairsRefused image (λ entries. IsReadingRefusal entries (Storage OptionInvalid))
 
 -- Why an image's catalog isn't read: the disk failed, memory ran out, or it is damaged.
 abbrev pub IsRefusal : Image → (faults_before faults_after : ℕ) → Error → Type 0
 IsRefusal image before after (Io kind) = Rose before after
 IsRefusal image before after OutOfMemory = ⊤
-IsRefusal image before after (Storage cause) = IsDamage image cause
+IsRefusal image before after (Storage cause) = IsCatalogDamage image cause
 IsRefusal image before after error = ⊥
 
 -- an Io refusal comes with a fault

@@ -3,18 +3,18 @@ use Rattle.std.specs.Prelude.{◌≡◌, ◌⊎◌, ℕ, ◌+◌, ◌<◌, ◌�
 use Rattle.std.specs.Option.{option_map}
 use Rattle.fjall_base.specs.declared.error.Error.{Error}
 use Rattle.fjall_base.specs.declared.error.Error.TheVariants.{NumbersUsedUp, OutOfMemory, ValueTooLong}
-use Rattle.fjall_base.specs.Disk.{Missing, State, Image}
+use Rattle.fjall_base.specs.Disk.{Missing, DiskState, Image}
 use Rattle.fjall_table.specs.declared.table_info.TableInfo.{TableInfo}
-use Rattle.fjall_tree.specs.Records.{Fields, IsRecord, record_text}
+use Rattle.fjall_manifest.specs.Records.{Fields, IsRecord, record_text}
 use Rattle.fjall_files.specs.Names.{table_name}
 use Rattle.fjall_meta.specs.declared.entry.MetaEntry.{MetaEntry}
 use Rattle.fjall_meta.specs.Keyspaces.{Keyspaces}
 use Rattle.fjall_meta.specs.Entries.{entries_of}
 use Rattle.fjall_catalog.specs.declared.catalog.Catalog.{Catalog}
 use Rattle.fjall_catalog.specs.declared.update.Update.{Update}
-use Rattle.fjall_home.specs.declared.writing.TableFile.{TableFile}
-use Rattle.fjall_home.specs.Homes.{AreSafe, IsFree}
-use Rattle.fjall_catalog.specs.Catalog.{ArePairs, fields, listed, IsTableOf, Says, Rests}
+use Rattle.fjall_manifest.specs.declared.writing.TableFile.{TableFile}
+use Rattle.fjall_manifest.specs.Homes.{AreSafe, IsFree}
+use Rattle.fjall_catalog.specs.Catalog.{ArePairs, fields, listed, IsCatalogTable, Says, CatalogRests}
 
 -- ---- what is prepared
 
@@ -23,7 +23,7 @@ pub record IsTableWritten (id : ℕ) (entries : List MetaEntry) (t : TableInfo) 
   pub id_is : t.id ≡ id
   pub below : id < 2 ^ 64 - 1
   pub name : string_bytes file.name ≡ table_name 0 id
-  pub is : IsTableOf t file.bytes.items entries
+  pub is : IsCatalogTable t file.bytes.items entries
 
 -- Where there are pairs, the next id is given to a table of all of them; where there are none, no table is named and no id is given.
 abbrev pub IsNewTable : (next after : ℕ) → List MetaEntry → Option TableInfo → Option TableFile → Type 0
@@ -66,8 +66,8 @@ IsPreparingRefusal old s number error = ⊥
 -- ---- how far it has come
 
 -- The catalog rests as before, and beside it the table of the next one is safe, with the pairs of its keyspaces.
-pub record IsWritten (state : State) (records : List Fields) (last : Catalog) (s : Keyspaces) (next : Catalog) (t : Keyspaces) : Type 0 where
-  pub rests : Rests state records last s
+pub record IsCatalogWritten (state : DiskState) (records : List Fields) (last : Catalog) (s : Keyspaces) (next : Catalog) (t : Keyspaces) : Type 0 where
+  pub rests : CatalogRests state records last s
   pub texts : List (List ℕ)
   pub tables : AreSafe state 0 (listed next.table) texts
   pub pairs : ArePairs next.table texts (entries_of t.living)
@@ -80,5 +80,5 @@ SaysEither records last s next t image = Says image records last s ⊎ Says imag
 -- ---- afterwards
 
 -- nothing stands where the table of this catalog was; where it names none there is none to stand
-abbrev pub IsTableGone : State → Catalog → Type 0
+abbrev pub IsTableGone : DiskState → Catalog → Type 0
 IsTableGone state old = IfSome old.table (λ t. (state (table_name 0 t.id)).now ≡ Missing)

@@ -3,12 +3,12 @@
 ghost use Rattle.std.specs.Prelude.{◌≡◌, ◌<◌, ◌^◌, IfOk, OnOk, IfErr, IsOkUnless, Option, length};
 ghost use Rattle.fjall_base.specs.declared.error.Error.TheVariants.{Storage};
 ghost use Rattle.fjall_base.specs.declared.error.StorageError.TheVariants.{RecordDamaged};
-ghost use Rattle.fjall_tree.specs.Records.{view, record_text, Fits, IsRecord};
+ghost use Rattle.fjall_manifest.specs.Records.{view, record_text, Fits, IsRecord};
 ghost use Rattle.fjall_catalog.specs.Catalog.{fields, listed, first_catalog, first_of, IsAtLevel1};
 
 use fjall_base::{Error, Result, StorageError};
+use fjall_manifest::Record;
 use fjall_table::{Level, TableInfo};
-use fjall_tree::Record;
 use std::alloc::Global;
 
 /// What the last record of tree 0 says, but for its clears, of which it has none.

@@ -1,26 +1,26 @@
 //! What holds of catalogs.
 
 ghost use Rattle.std.specs.Prelude.{◌≡◌, Bool, true, List};
-ghost use Rattle.fjall_base.specs.Disk.{Image, IsImage, Name, State, Survives};
+ghost use Rattle.fjall_base.specs.Disk.{DiskState, Image, IsImage, Name, Survives};
 ghost use Rattle.fjall_files.specs.Regions.{IsImageIn, is_under};
-ghost use Rattle.fjall_tree.specs.Records.{Fields, IsRecord};
+ghost use Rattle.fjall_manifest.specs.Records.{Fields, IsRecord};
 ghost use Rattle.fjall_files.specs.Names.{keyspace_folder};
 ghost use Rattle.fjall_meta.specs.Keyspaces.{Keyspaces};
 ghost use Rattle.fjall_catalog.specs.declared.catalog.Catalog.{Catalog};
-ghost use Rattle.fjall_catalog.specs.Catalog.{Says, Rests, fields};
-ghost use Rattle.fjall_home.specs.Homes.{is_counted};
+ghost use Rattle.fjall_catalog.specs.Catalog.{Says, CatalogRests, fields};
+ghost use Rattle.fjall_manifest.specs.Homes.{is_counted};
 
 /// Whatever a crash leaves of a catalog that rests says it.
 pub fn crashes_say_the_catalog()
-    ensures { (state : State) (image : Image) (records : List Fields) (last : Catalog) (s : Keyspaces) → Rests state records last s
+    ensures { (state : DiskState) (image : Image) (records : List Fields) (last : Catalog) (s : Keyspaces) → CatalogRests state records last s
         → IsImage state image → Says image records last s }
 {}
 
 /// So does whatever a crash leaves in a region of the names that has those that the catalog rests on.
 pub fn regions_say_the_catalog()
-    ensures { (region : Name → Bool) (state : State) (image : Image) (records : List Fields) (last : Catalog) (s : Keyspaces)
+    ensures { (region : Name → Bool) (state : DiskState) (image : Image) (records : List Fields) (last : Catalog) (s : Keyspaces)
         → ((q : Name) → is_counted 0 q ≡ true → region q ≡ true)
-        → Rests state records last s → IsImageIn Survives region state image → Says image records last s }
+        → CatalogRests state records last s → IsImageIn Survives region state image → Says image records last s }
 {}
 
 /// Two images that agree in the folder of tree 0 say the same.
@@ -37,5 +37,5 @@ pub fn one_catalog()
 
 /// The last record of a catalog that rests is a record.
 pub fn last_is_a_record()
-    ensures { (state : State) (records : List Fields) (last : Catalog) (s : Keyspaces) → Rests state records last s → IsRecord (fields last) }
+    ensures { (state : DiskState) (records : List Fields) (last : Catalog) (s : Keyspaces) → CatalogRests state records last s → IsRecord (fields last) }
 {}

@@ -5,7 +5,7 @@ ghost use Rattle.fjall_base.specs.declared.error.StorageError.TheVariants.{Recor
 ghost use Rattle.fjall_base.specs.Errors.{IsFaultOrMemory};
 ghost use Rattle.fjall_base.specs.Disk.{Took};
 ghost use Rattle.fjall_table.specs.Reading.{DamagedWhere};
-ghost use Rattle.fjall_tree.specs.Records.{Fields, IsRecords};
+ghost use Rattle.fjall_manifest.specs.Records.{Fields, IsRecords};
 ghost use Rattle.fjall_meta.specs.Keyspaces.{Keyspaces};
 ghost use Rattle.fjall_catalog.specs.Catalog.{records_in, HoldsEntries, Says, IsAtLevel1};
 ghost use Rattle.fjall_catalog.specs.Refusals.{HasLast, HasNoLast, IsRefusal, IsTableRefused, IsFaultIfIo, IsCatalogRefusal};
@@ -15,9 +15,9 @@ use crate::catalog::{Catalog, catalog_of};
 use crate::table::decode_entries;
 use fjall_base::{Disk, Error, Result, StorageError};
 use fjall_files::{TREE_RECORDS, table_name};
+use fjall_manifest::{Current, read_current};
 use fjall_meta::{MetaEntry, MetaKeyspace};
 use fjall_table::TableInfo;
-use fjall_tree::{Current, read_current};
 use std::alloc::Global;
 
 /// What tree 0 says.

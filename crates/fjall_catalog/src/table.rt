@@ -6,9 +6,9 @@ ghost use Rattle.fjall_base.specs.declared.error.StorageError.TheVariants.{Table
 ghost use Rattle.fjall_table.specs.declared.level.Level.TheVariants.{L1};
 ghost use Rattle.fjall_table.specs.Reading.{DamagedWhere};
 ghost use Rattle.fjall_table.specs.Blocks.{seen, IsOrdered};
-ghost use Rattle.fjall_table.specs.Writing.{Follows};
+ghost use Rattle.fjall_table.specs.Writing.{FollowsEntries};
 ghost use Rattle.fjall_meta.specs.Entries.{entries_of, option_entry, option_entries, name_entry, IsAscending};
-ghost use Rattle.fjall_catalog.specs.Catalog.{table_entry, IsTableOf};
+ghost use Rattle.fjall_catalog.specs.Catalog.{table_entry, IsCatalogTable};
 ghost use Rattle.fjall_catalog.specs.Updates.{IsWritingRefusal};
 
 use fjall_base::{Error, Result, Slice, StorageError};
@@ -24,7 +24,7 @@ fn write_option(
     keyspace: &LivingKeyspace,
     option: StoredOption,
 ) -> Result<()>
-    requires { Follows writer.old (table_entry (option_entry keyspace.now option)) }
+    requires { FollowsEntries writer.old (table_entry (option_entry keyspace.now option)) }
     ensures ok { OnOk result (writer.new ≡ writer.old ++ table_entry (option_entry keyspace.now option) ∷ []) }
     ensures cause { IfErr result (IsWritingRefusal (option_entry keyspace.now option ∷ [])) }
 {
@@ -71,7 +71,7 @@ fn write_all_options(
 
 /// Adds the pair of the keyspace's name to a table.
 fn write_name(writer: &mut TableWriter, keyspace: &LivingKeyspace) -> Result<()>
-    requires { Follows writer.old (table_entry (name_entry keyspace.now)) }
+    requires { FollowsEntries writer.old (table_entry (name_entry keyspace.now)) }
     ensures ok { OnOk result (writer.new ≡ writer.old ++ table_entry (name_entry keyspace.now) ∷ []) }
     ensures cause { IfErr result (IsWritingRefusal (name_entry keyspace.now ∷ [])) }
 {
@@ -145,8 +145,8 @@ fn entries_of(alloc: Global, versions: &[TableEntry<'_>]) -> Result<Vec<MetaEntr
 /// record says, bytes that are no table, and one that holds a tombstone are `Storage(TableDamaged)`.
 pub(crate) fn decode_entries(alloc: Global, bytes: &[u8], info: TableInfo) -> Result<Vec<MetaEntry>>
     requires { info.level ≡ L1 }
-    ensures ok { IfOk result (λ entries. IsTableOf info bytes.now entries.items) }
-    ensures damaged { IfErr result (DamagedWhere TableDamaged ((entries : List MetaEntry) → IsTableOf info bytes.now entries → ⊥)) }
+    ensures ok { IfOk result (λ entries. IsCatalogTable info bytes.now entries.items) }
+    ensures damaged { IfErr result (DamagedWhere TableDamaged ((entries : List MetaEntry) → IsCatalogTable info bytes.now entries → ⊥)) }
 {
     let table = Table::open(alloc, bytes, info)?;
     let versions = table.versions()?;

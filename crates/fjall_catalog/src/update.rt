@@ -11,7 +11,7 @@ use crate::catalog::Catalog;
 use crate::table::write_keyspaces;
 use fjall_base::{Error, Result};
 use fjall_files::table_name;
-use fjall_home::TableFile;
+use fjall_manifest::TableFile;
 use fjall_meta::{LivingKeyspace, MetaKeyspace};
 use fjall_table::{Level, TableInfo};
 use std::alloc::Global;

@@ -4,18 +4,18 @@ ghost use Rattle.std.specs.Prelude.{◌++◌, ◌∷◌, [], ℕ, List, IfSome, 
 ghost use Rattle.fjall_base.specs.Disk.{IsNoFolder, LeavesOnly, Name, OnlyFaults, state_in};
 ghost use Rattle.fjall_files.specs.Calls.{AllServed};
 ghost use Rattle.fjall_files.specs.Regions.{Within};
-ghost use Rattle.fjall_tree.specs.Records.{Fields, IsRecord};
+ghost use Rattle.fjall_manifest.specs.Records.{Fields, IsRecord};
 ghost use Rattle.fjall_files.specs.Names.{keyspace_folder, table_name};
 ghost use Rattle.fjall_files.specs.Tidy.{StaysTidy};
 ghost use Rattle.fjall_meta.specs.Keyspaces.{AreKeyspaces, Keyspaces};
 ghost use Rattle.fjall_catalog.specs.Catalog.{fields, Says, IsReady};
-ghost use Rattle.fjall_catalog.specs.Updates.{IsTableGone, IsUpdate, IsWritten, SaysEither};
+ghost use Rattle.fjall_catalog.specs.Updates.{IsCatalogWritten, IsTableGone, IsUpdate, SaysEither};
 
 use crate::catalog::Catalog;
 use crate::update::Update;
 use fjall_base::{Disk, Result};
 use fjall_files::{TREE_FOLDER, TREE_RECORDS};
-use fjall_home::{append_record, put_tables, remove_tables};
+use fjall_manifest::{append_record, put_tables, remove_tables};
 use std::slice;
 
 /// Writes the new table of a change, and syncs it and its name; nothing where no keyspace lives. The old catalog still
@@ -29,7 +29,7 @@ pub fn write_table<D: Disk>(disk: &mut D, update: &Update) -> Result<()>
         → LeavesOnly (D.meaning disk.old) (D.meaning disk.new) (λ image. Says image records old s) }
     ensures ok { IsTrue D.honest → (records : List Fields) (old : Catalog) (s t : Keyspaces) (number : ℕ)
         → IsReady (state_in (D.meaning disk.old)) records old s → IsUpdate old t number update.now
-        → OnOk result (IsWritten (state_in (D.meaning disk.new)) records old s update.now.catalog t) }
+        → OnOk result (IsCatalogWritten (state_in (D.meaning disk.new)) records old s update.now.catalog t) }
     ensures served { IsTrue D.honest → (records : List Fields) (old : Catalog) (s t : Keyspaces) (number : ℕ)
         → IsReady (state_in (D.meaning disk.old)) records old s → IsUpdate old t number update.now
         → AllServed (D.meaning disk.old) (D.meaning disk.new) }
@@ -49,14 +49,14 @@ pub fn commit<D: Disk>(disk: &mut D, update: &Update) -> Result<()>
     // A crash at any moment of the call leaves what the old catalog says or what the new one says.
     ensures any_moment { IsTrue D.honest → (records : List Fields) (old : Catalog) (s t : Keyspaces) (number : ℕ) → AreKeyspaces t
         → IsUpdate old t number update.now
-        → IsWritten (state_in (D.meaning disk.old)) records old s update.now.catalog t
+        → IsCatalogWritten (state_in (D.meaning disk.old)) records old s update.now.catalog t
         → LeavesOnly (D.meaning disk.old) (D.meaning disk.new) (SaysEither records old s update.now.catalog t) }
     ensures ok { IsTrue D.honest → (records : List Fields) (old : Catalog) (s t : Keyspaces) (number : ℕ) → AreKeyspaces t → IsUpdate old t number update.now
-        → IsWritten (state_in (D.meaning disk.old)) records old s update.now.catalog t
+        → IsCatalogWritten (state_in (D.meaning disk.old)) records old s update.now.catalog t
         → OnOk result (IsReady (state_in (D.meaning disk.new)) (records ++ fields update.now.catalog ∷ []) update.now.catalog t) }
     ensures no_folder { IsTrue D.honest → (q : Name) → IsNoFolder (state_in (D.meaning disk.old) q).now → IsNoFolder (state_in (D.meaning disk.new) q).now }
     ensures served { IsTrue D.honest → (records : List Fields) (old next : Catalog) (s t : Keyspaces)
-        → IsWritten (state_in (D.meaning disk.old)) records old s next t → AllServed (D.meaning disk.old) (D.meaning disk.new) }
+        → IsCatalogWritten (state_in (D.meaning disk.old)) records old s next t → AllServed (D.meaning disk.old) (D.meaning disk.new) }
     ensures cause { OnlyFaults (D.meaning disk.old) (D.meaning disk.new) result }
     ensures kinds { IsTrue D.honest → StaysTidy (D.meaning disk.old) (D.meaning disk.new) }
 {

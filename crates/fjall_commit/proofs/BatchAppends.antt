@@ -3,7 +3,7 @@ use Rattle.std.proofs.Common.{◌≡◌, ◌≢◌, inl, inr, nat_le, ℕ, ◌+�
 use Rattle.std.proofs.lemmas.List.{append-nil}
 use Rattle.std.proofs.lemmas.Bool.Decides.{nat_tests}
 use Rattle.std.specs.List.{AllByRecursion}
-use Rattle.fjall_base.specs.Disk.{Append, Meaning, Name, State, Step, Took, TookOrNot, TookPart, LeavesOnly, state_in}
+use Rattle.fjall_base.specs.Disk.{Append, Meaning, Name, DiskState, DiskStep, Took, TookOrNot, TookPart, LeavesOnly, state_in}
 use Rattle.fjall_base.specs.declared.error.Error.{Error}
 use Rattle.fjall_base.specs.declared.error.Error.TheVariants.{Io}
 use Rattle.fjall_files.specs.Tidy.{StaysTidy}
@@ -33,7 +33,7 @@ long n test = grind (arith, nat_tests)
 whole_by : (full : Bool) (mode : PersistMode) (writer : Journal) (text : List ℕ) (old mid new : Meaning) → (full ≡ true → 0 < length (writer.buffer ++ text)) → Took old mid (cond full (Append writer.name (writer.buffer ++ text) ∷ []) [])
     → Took mid new (persist_steps (cond full (written_out (filled writer text)) (filled writer text)) mode) → Took old new (persist_steps (filled writer text) mode)
 whole_by true mode writer text old mid new some first next =
-    subst (λ (steps : List Step). Took old new (steps ++ syncing writer.name mode)) (appending_is writer.name (writer.buffer ++ text) (some refl))
+    subst (λ (steps : List DiskStep). Took old new (steps ++ syncing writer.name mode)) (appending_is writer.name (writer.buffer ++ text) (some refl))
     (took_on old mid new (Append writer.name (writer.buffer ++ text) ∷ []) (syncing writer.name mode) first next)
 whole_by false mode writer text old mid new some first next = took_on old mid new [] (persist_steps (filled writer text) mode) first next
 
@@ -161,8 +161,8 @@ module _ (old new : Meaning) (writer : Journal) (j : Journaling) (batch : Writte
 
   batch_waits : (now : Journal) → Took old new [] → now.name ≡ writer.name → now.buffer ≡ writer.buffer ++ text → IsWriting (state_in new) now (with_batch false j batch)
   batch_waits now took named behind =
-      waiting_goes_on (state_in old) (state_in new) writer j (batch ∷ []) writing each sound (λ q other. ap (λ (s : State). s q) took.state) now
-      (ap (λ (s : State). s (journal_name j.active)) took.state) named (behind ∙ ap (λ (l : List ℕ). writer.buffer ++ l) (sym one_text))
+      waiting_goes_on (state_in old) (state_in new) writer j (batch ∷ []) writing each sound (λ q other. ap (λ (s : DiskState). s q) took.state) now
+      (ap (λ (s : DiskState). s (journal_name j.active)) took.state) named (behind ∙ ap (λ (l : List ℕ). writer.buffer ++ l) (sym one_text))
 
   batch_on : (out : Bool) (now : Journal) → Took old new (cond out (appending writer.name (writer.buffer ++ text)) []) → now ≡ cond out (written_out (filled writer text)) (filled writer text)
       → IsWriting (state_in new) now (with_batch out j batch)

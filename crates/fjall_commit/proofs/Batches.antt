@@ -10,10 +10,10 @@ use Rattle.fjall_journal.specs.declared.op.Op.TheVariants.{Put, Remove, RemoveWe
 use Rattle.fjall_journal.specs.declared.persist_mode.PersistMode.{PersistMode}
 use Rattle.fjall_journal.specs.declared.persist_mode.PersistMode.TheVariants.{Buffer, SyncData, SyncAll}
 use Rattle.fjall_journal.specs.Batches.{Written, batch_text, items_of, shown}
-use Rattle.fjall_journal.specs.Ops.{BatchItem, entry_of, kind_of}
-use Rattle.fjall_versions.specs.Replays.{Fault, Unordered, Indirect, fault_of, first_fault, is_indirect, is_indirection, least_after}
-use Rattle.fjall_recovery.specs.Journals.{Journal, batches_in}
-use Rattle.fjall_versions.proofs.Faults.{first_fault-append, least_after-append}
+use Rattle.fjall_journal.specs.Ops.{BatchItem, entry_of_item, kind_of}
+use Rattle.fjall_contents.specs.Replays.{JournalFault, Unordered, Indirect, fault_of, first_fault, is_indirect, is_indirection, least_after}
+use Rattle.fjall_recovery.specs.Journals.{WholeJournal, batches_in}
+use Rattle.fjall_contents.proofs.Faults.{first_fault-append, least_after-append}
 use Rattle.fjall_recovery.specs.Places.{Journaling, journals_with, texts_of}
 use Rattle.fjall_recovery.proofs.Roots.{batches_are}
 use Rattle.fjall_commit.specs.Journaling.{CanFollow, after_mode, after_persist, next_number, synced, with_batch}
@@ -41,7 +41,7 @@ next-batch out j batch =
 in_order : (least next : ℕ) → least ≤ next → next < 2 ^ 63 → (nat_lt next least || nat_le (2 ^ 63) next) ≡ false
 in_order least next le room = grind (arith, nat_tests)
 
-no_fault : (a b : Option Fault) → a ≡ None → b ≡ None → option_or a (option_or b None) ≡ None
+no_fault : (a b : Option JournalFault) → a ≡ None → b ≡ None → option_or a (option_or b None) ≡ None
 no_fault a b none other = ap (λ x. option_or x (option_or b None)) none ∙ ap (λ x. option_or x None) other
 
 -- all of these batches have no fault
@@ -65,9 +65,9 @@ direct_kind Remove = refl
 direct_kind RemoveWeak = refl
 
 -- the value of an item stands in the journal itself
-pub items_direct : (items : List BatchItem) → list_any is_indirect (items_of (map entry_of items)) ≡ false
+pub items_direct : (items : List BatchItem) → list_any is_indirect (items_of (map entry_of_item items)) ≡ false
 items_direct [] = refl
-items_direct (item ∷ items) = ap (λ b. b || list_any is_indirect (items_of (map entry_of items))) (direct_kind item.2) ∙ items_direct items
+items_direct (item ∷ items) = ap (λ b. b || list_any is_indirect (items_of (map entry_of_item items))) (direct_kind item.2) ∙ items_direct items
 
 -- ---- none more
 
@@ -87,4 +87,4 @@ kept-mode (Some mode) j = kept-persist mode j
 
 -- the least number behind a batch of any mode
 pub next-mode : (mode : Option PersistMode) (out : Bool) (j : Journaling) (batch : Written) → next_number (after_mode mode (with_batch out j batch)) ≡ batch.number + 1
-next-mode mode out j batch = ap (λ (l : List Journal). least_after 0 (map shown (batches_in l))) (kept-mode mode (with_batch out j batch)) ∙ next-batch out j batch
+next-mode mode out j batch = ap (λ (l : List WholeJournal). least_after 0 (map shown (batches_in l))) (kept-mode mode (with_batch out j batch)) ∙ next-batch out j batch

@@ -2,19 +2,19 @@
 use Rattle.std.proofs.Common.{◌≡◌, inl, inr, ⊎_elim, ℕ, List, [], ◌∷◌, ◌++◌, Result, Ok, Err, OnOk, refl, sym, ◌∙◌, subst, arith}
 use Rattle.std.proofs.lemmas.List.{append_cancel_left}
 use Rattle.fjall_base.specs.declared.error.Error.{Error}
-use Rattle.fjall_base.specs.Disk.{Name, Entry, Missing, File, Folder, State, Image, IsFile, IsThere, Step, Meaning, Leaves, LeavesOnly, Survives, change, folder_of, state_in}
+use Rattle.fjall_base.specs.Disk.{Name, DiskEntry, Missing, File, Folder, DiskState, Image, IsFile, IsThere, DiskStep, Meaning, Leaves, LeavesOnly, Survives, change, folder_of, state_in}
 use Rattle.fjall_base.proofs.Moments.{runs_on, weaken}
 use Rattle.fjall_files.specs.Regions.{IsImageIn, Within}
 use Rattle.fjall_files.proofs.Changes.{within_state}
 use Rattle.fjall_files.proofs.Parts.{region_run}
-use Rattle.fjall_tree.specs.Records.{Fields, IsRecord}
+use Rattle.fjall_manifest.specs.Records.{Fields, IsRecord}
 use Rattle.fjall_files.specs.Names.{keyspace_folder, current_name}
 use Rattle.fjall_meta.specs.Keyspaces.{AreKeyspaces, Keyspaces}
 use Rattle.fjall_catalog.specs.declared.catalog.Catalog.{Catalog}
 use Rattle.fjall_catalog.specs.Catalog.{Says, IsReady, fields}
 use Rattle.fjall_catalog.specs.Updates.{SaysEither}
 use Rattle.fjall_files.proofs.Fitting.{folder_of-current}
-use Rattle.fjall_home.proofs.Naming.{some_folder}
+use Rattle.fjall_manifest.proofs.Naming.{some_folder}
 use Rattle.fjall_catalog.proofs.Resting.{last_record}
 use Rattle.fjall_recovery.specs.Halves.{Tree, outside}
 use Rattle.fjall_recovery.specs.Places.{LiesInTree}
@@ -25,7 +25,7 @@ use Rattle.fjall_commit.specs.Changes.{AreHoused, HasEither}
 abbrev pub IsHoused : Image → Type 0
 IsHoused image = (name : Name) → (IsThere image (folder_of name) → ⊥) → image name ≡ Missing
 
-housed : (state : State) (steps : List Step) (image : Image) → Leaves state steps image → IsHoused image
+housed : (state : DiskState) (steps : List DiskStep) (image : Image) → Leaves state steps image → IsHoused image
 housed state [] image is = is.lost
 housed state (step ∷ steps) image (inl now) = now.lost
 housed state (step ∷ steps) image (inr later) = housed (change step state) steps image later
@@ -37,7 +37,7 @@ folder_there image lost file = of (image (keyspace_folder 0)) refl
     gone : (IsThere image (keyspace_folder 0) → ⊥) → ⊥
     gone none = subst IsFile (lost (current_name 0) (λ there. none (subst (IsThere image) (folder_of-current 0) there))) file
 
-    of : (entry : Entry) → image (keyspace_folder 0) ≡ entry → image (keyspace_folder 0) ≡ Folder
+    of : (entry : DiskEntry) → image (keyspace_folder 0) ≡ entry → image (keyspace_folder 0) ≡ Folder
     of Folder is = is
     of Missing is = absurd (gone (λ there. ⊎_elim (λ root. some_folder 0 root) (λ folder. let no : Missing ≡ Folder = sym is ∙ folder in cc) there))
     of (File synced unsynced) is = absurd (gone (λ there. ⊎_elim (λ root. some_folder 0 root) (λ folder. let no : File synced unsynced ≡ Folder = sym is ∙ folder in cc) there))
@@ -50,7 +50,7 @@ seen id old new P Q run has to =
     record {
       added = run.added;
       took = run.took;
-      each = λ image left. to image (has.each image (subst (λ (l : List Step). Leaves (state_in old) l image) same left))
+      each = λ image left. to image (has.each image (subst (λ (l : List DiskStep). Leaves (state_in old) l image) same left))
           (region_run (outside id) (keyspace_folder id) (some_folder id) (not_under id) (state_in old) (state_in old) run.added image run.under (λ q out. refl) left)
           (housed (state_in old) run.added image left);
     }

@@ -12,7 +12,7 @@ use Rattle.fjall_catalog.specs.Catalog.{fields}
 use Rattle.fjall_catalog.specs.Updates.{IsTableGone}
 use Rattle.fjall_recovery.specs.Places.{LiesInTree}
 use Rattle.fjall_commit.specs.declared.creation.Creation.{Creation}
-use Rattle.fjall_commit.specs.Changes.{HasEither, HasRoom, ForCreation, ForCreationOn, ForDeletionOn, ForNewId, ForUpdate}
+use Rattle.fjall_commit.specs.Changes.{HasEither, HasRoomForKeyspace, ForCreation, ForCreationOn, ForDeletionOn, ForNewId, ForUpdate}
 use Rattle.fjall_commit.specs.Journaling.{KeepsOtherHomes}
 use Rattle.fjall_commit.specs.SyncedChanges.{Persisted, CreatedKeyspace, SyncsThenChanges, DeletedKeyspace}
 
@@ -32,7 +32,7 @@ not_done e = absurd (true≢false (sym e))
 module _ (mid new : Meaning) (creation : Creation) (within : Within (codes "keyspaces") mid new)
     (leaves : ForCreationOn mid creation (λ records t next. LeavesOnly mid new (HasEither t next)))
     (others : ForNewId creation (λ id number. KeepsOtherHomes id mid new))
-    (served : ForCreationOn mid creation (λ records t next. HasRoom (state_in mid) t.keyspaces.next → new.misuses ≡ mid.misuses))
+    (served : ForCreationOn mid creation (λ records t next. HasRoomForKeyspace (state_in mid) t.keyspaces.next → new.misuses ≡ mid.misuses))
     (kinds : ForNewId creation (λ id number. StaysTidy mid new)) where
   pub created_any : CreatedKeyspace mid new creation false
   created_any = record { within = within; leaves = leaves; lies = λ e. not_done e; others = others; served = served; gone = λ e. not_done e; kinds = kinds }

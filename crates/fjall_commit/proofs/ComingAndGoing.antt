@@ -8,14 +8,14 @@ use Rattle.std.proofs.lemmas.Grind.{flat_map-append}
 use Rattle.std.specs.List.{AllByRecursion, list_any}
 use Rattle.std.specs.List.Sorted.{IsStrictlyIncreasing}
 use Rattle.std.specs.Option.{option_or}
-use Rattle.fjall_base.specs.Disk.{Name, File, Missing, State}
+use Rattle.fjall_base.specs.Disk.{Name, File, Missing, DiskState}
 use Rattle.fjall_files.specs.Regions.{IsSafe}
 use Rattle.fjall_files.specs.Names.{journal_name}
-use Rattle.fjall_home.specs.Homes.{only}
+use Rattle.fjall_manifest.specs.Homes.{only}
 use Rattle.fjall_journal.specs.Batches.{Shown, Written, IsWritten, shown}
-use Rattle.fjall_versions.specs.Replays.{Unordered, Indirect, Fault, fault_of, first_fault, is_indirect, least_after}
-use Rattle.fjall_versions.proofs.Faults.{first_fault-append}
-use Rattle.fjall_recovery.specs.Journals.{Journal, batches_in}
+use Rattle.fjall_contents.specs.Replays.{Unordered, Indirect, JournalFault, fault_of, first_fault, is_indirect, least_after}
+use Rattle.fjall_contents.proofs.Faults.{first_fault-append}
+use Rattle.fjall_recovery.specs.Journals.{WholeJournal, batches_in}
 use Rattle.fjall_recovery.specs.Places.{Journaling, LiesInRoot, IsNeverFile, journal_ids, journals_with, texts_of}
 use Rattle.fjall_recovery.proofs.Roots.{all_behind, all_both, batches_are, by_ids}
 use Rattle.fjall_commit.proofs.AppendsAndSyncs.{place_of}
@@ -52,12 +52,12 @@ rises_on (x ∷ xs) a b rise lt (suc k) within =
     let all = xs ++ a ∷ b ∷ [] in
     subst (λ n. slice_index all k < slice_index (x ∷ all) n) (sym (one_on k)) (rises_on xs a b (tail_rises x (xs ++ a ∷ []) rise) lt k (omega (arith, within)))
 
-pub all_by_recursion : (P : ℕ → Type 0) (front : List Journal) (last : ℕ) → All P (ids_of front ++ last ∷ []) → AllByRecursion (λ k. P k.id) front
+pub all_by_recursion : (P : ℕ → Type 0) (front : List WholeJournal) (last : ℕ) → All P (ids_of front ++ last ∷ []) → AllByRecursion (λ k. P k.id) front
 all_by_recursion P [] last all = tt
 all_by_recursion P (k ∷ front) last all = (All-head P k.id (ids_of front ++ last ∷ []) all, all_by_recursion P front last (All-tail P k.id (ids_of front ++ last ∷ []) all))
 
 -- journals of greater ids have other names
-greater_others : (first : ℕ) (front : List Journal) → first < 2 ^ 64 → AllByRecursion (λ k. (k.id < 2 ^ 64) × (first < k.id)) front → AreOthers (journal_name first) front
+greater_others : (first : ℕ) (front : List WholeJournal) → first < 2 ^ 64 → AllByRecursion (λ k. (k.id < 2 ^ 64) × (first < k.id)) front → AreOthers (journal_name first) front
 greater_others first [] small above = tt
 greater_others first (k ∷ front) small above = (
   (λ e. let is = same_id k.id first above.0.0 small e in let lt = above.0.1 in absurd (omega (arith, is, lt))),
@@ -73,19 +73,19 @@ same_or_not (suc x) (suc n) = ⊎_elim (λ is. inl (ap suc is)) (λ not. inr (λ
 -- ---- batches
 
 -- the batches once the active journal is sealed
-pub batches-rotated : (sealed : List Journal) (active : ℕ) (whole : List Written)
+pub batches-rotated : (sealed : List WholeJournal) (active : ℕ) (whole : List Written)
     → batches_in ((sealed ++ record { id = active; batches = whole } ∷ []) ++ record { id = active + 1; batches = [] } ∷ []) ≡ batches_in sealed ++ whole
 batches-rotated sealed active whole =
-    let batches = λ (k : Journal). k.batches in
+    let batches = λ (k : WholeJournal). k.batches in
     flat_map-append batches (sealed ++ record { id = active; batches = whole } ∷ []) (record { id = active + 1; batches = [] } ∷ [])
     ∙ append-nil (batches_in (sealed ++ record { id = active; batches = whole } ∷ []))
     ∙ flat_map-append batches sealed (record { id = active; batches = whole } ∷ []) ∙ ap (λ (l : List Written). batches_in sealed ++ l) (append-nil whole)
 
-no_fault_then : (a b : Option Fault) → option_or a b ≡ None → (a ≡ None) × (b ≡ None)
+no_fault_then : (a b : Option JournalFault) → option_or a b ≡ None → (a ≡ None) × (b ≡ None)
 no_fault_then None b e = (refl, e)
 no_fault_then (Some x) b e = let no : Some x ≡ None = e in cc
 
-no_test : (test : Bool) (rest : Option Fault) → (if test then Some Unordered else rest) ≡ None → (test ≡ false) × (rest ≡ None)
+no_test : (test : Bool) (rest : Option JournalFault) → (if test then Some Unordered else rest) ≡ None → (test ≡ false) × (rest ≡ None)
 no_test true rest e = let no : Some Unordered ≡ None = e in cc
 no_test false rest e = (refl, e)
 
@@ -103,7 +103,7 @@ first_fault_less : (least other : ℕ) (batches : List Shown) → other ≤ leas
 first_fault_less least other [] le none = refl
 first_fault_less least other (batch ∷ batches) le none =
     let parts = no_fault_then (fault_of least batch) (first_fault (batch.number + 1) batches) none in
-    ap (λ (f : Option Fault). option_or f (first_fault (batch.number + 1) batches)) (fault_less least other batch le parts.0) ∙ parts.1
+    ap (λ (f : Option JournalFault). option_or f (first_fault (batch.number + 1) batches)) (fault_less least other batch le parts.0) ∙ parts.1
 
 -- the last of batches without a fault have none
 pub sound_behind : (front behind : List Written) → first_fault 0 (map shown (front ++ behind)) ≡ None → first_fault 0 (map shown behind) ≡ None
@@ -115,29 +115,29 @@ sound_behind front behind sound =
 -- ---- a journal came
 
 -- the journals, all of whose batches are synced
-abbrev Rest : List Journal → ℕ → List Written → Journaling
+abbrev Rest : List WholeJournal → ℕ → List Written → Journaling
 Rest sealed active whole = record { sealed = sealed; active = active; whole = whole; later = []; cut = 0 }
 
 -- and those with an empty one behind
-abbrev Begun : List Journal → ℕ → List Written → Journaling
+abbrev Begun : List WholeJournal → ℕ → List Written → Journaling
 Begun sealed active whole = record { sealed = sealed ++ record { id = active; batches = whole } ∷ []; active = active + 1; whole = []; later = []; cut = 0 }
 
 abbrev pub Fits : ℕ → Type 0
 Fits id = id < 2 ^ 64
 
 -- ids of 64 bits, below this one
-abbrev AreBelow : ℕ → List Journal → Type 0
+abbrev AreBelow : ℕ → List WholeJournal → Type 0
 AreBelow bound journals = AllByRecursion (λ k. (k.id < 2 ^ 64) × (k.id < bound)) journals
 
-further : (bound : ℕ) (front : List Journal) → AreBelow bound front → AreBelow (bound + 1) front
+further : (bound : ℕ) (front : List WholeJournal) → AreBelow bound front → AreBelow (bound + 1) front
 further bound [] all = tt
 further bound (k ∷ front) all = let lt = all.0.1 in ((all.0.0, omega (arith, lt)), further bound front all.1)
 
-least : (bound : ℕ) (front : List Journal) → AreBelow bound front → AllByRecursion (λ k. k.id < bound) front
+least : (bound : ℕ) (front : List WholeJournal) → AreBelow bound front → AllByRecursion (λ k. k.id < bound) front
 least bound [] all = tt
 least bound (k ∷ front) all = (all.0.1, least bound front all.1)
 
-module _ (state : State) (j : Journaling) (lies : LiesInRoot state j) (room : j.active + 1 < 2 ^ 64) where
+module _ (state : DiskState) (j : Journaling) (lies : LiesInRoot state j) (room : j.active + 1 < 2 ^ 64) where
   was : journal_ids j ≡ ids_of j.sealed ++ j.active ∷ []
   was = ids_are j.sealed j.active (j.whole ++ [])
 
@@ -161,7 +161,7 @@ module _ (state : State) (j : Journaling) (lies : LiesInRoot state j) (room : j.
   pub free_next : IsNeverFile (state (journal_name (j.active + 1)))
   free_next = lies.others (j.active + 1) room not_there
 
-module _ (state : State) (sealed : List Journal) (active : ℕ) (whole : List Written) (lies : LiesInRoot state (Rest sealed active whole)) (room : active + 1 < 2 ^ 64) where
+module _ (state : DiskState) (sealed : List WholeJournal) (active : ℕ) (whole : List Written) (lies : LiesInRoot state (Rest sealed active whole)) (room : active + 1 < 2 ^ 64) where
   abbrev next : Name
   next = journal_name (active + 1)
 
@@ -179,7 +179,7 @@ module _ (state : State) (sealed : List Journal) (active : ℕ) (whole : List Wr
       batches-rotated sealed active whole
       ∙ ap (λ (l : List Written). batches_in sealed ++ l) (sym (append-nil whole)) ∙ sym (batches_are (Rest sealed active whole) [])
 
-  pub came : (new : State) → NarrowsBut next state new → new next ≡ place_of [] [] → LiesInRoot new (Begun sealed active whole)
+  pub came : (new : DiskState) → NarrowsBut next state new → new next ≡ place_of [] [] → LiesInRoot new (Begun sealed active whole)
   came new same place =
       let other : (id : ℕ) → id < 2 ^ 64 → id ≢ active + 1 → journal_name id ≢ next = λ id little not e. not (same_id id (active + 1) little room e) in
       let safe = all_both (λ k. IsSafe state (journal_name k.id) (texts_of k.batches)) sealed (record { id = active; batches = whole } ∷ []) lies.sealed (lies.active, tt) in
@@ -205,10 +205,10 @@ module _ (state : State) (sealed : List Journal) (active : ℕ) (whole : List Wr
 -- ---- the oldest went
 
 -- the journals with these sealed ones
-abbrev pub with_sealed : List Journal → Journaling → Journaling
+abbrev pub with_sealed : List WholeJournal → Journaling → Journaling
 with_sealed sealed j = record j { sealed = sealed }
 
-pub went : (state new : State) (gone : Journal) (sealed : List Journal) (j : Journaling) → LiesInRoot state (with_sealed (gone ∷ sealed) j)
+pub went : (state new : DiskState) (gone : WholeJournal) (sealed : List WholeJournal) (j : Journaling) → LiesInRoot state (with_sealed (gone ∷ sealed) j)
     → NarrowsBut (journal_name gone.id) state new → new (journal_name gone.id) ≡ only Missing → LiesInRoot new (with_sealed sealed j)
 went state new gone sealed j lies same place =
     let rest = journal_ids (with_sealed sealed j) in

@@ -11,7 +11,7 @@ use Rattle.fjall_journal.specs.declared.persist_mode.PersistMode.{PersistMode}
 use Rattle.fjall_journal.specs.Batches.{Written, IsWritten, batch_text, items_of}
 use Rattle.fjall_journal.specs.Changes.{Change, Items, Emptied, entries_of_change}
 use Rattle.fjall_journal.specs.Writer.{BatchTook, IsIo, Journal, Waits, WriteTook, after_command, after_write, batch_steps, syncing_mode, write_steps}
-use Rattle.fjall_versions.specs.Replays.{is_indirect}
+use Rattle.fjall_contents.specs.Replays.{is_indirect}
 use Rattle.fjall_commit.specs.Journaling.{ForFollowing, ForWriting, IsWriting, KeepsKeyspaces, LeavesRoot, TookIn, after_mode, is_out, out_in, steps_in, with_batch}
 use Rattle.fjall_commit.proofs.AppendsAndSyncs.{took_on, write_part}
 use Rattle.fjall_commit.proofs.BatchAppends.{after_name, half_written, mode_on, no_mode_took, refused_apart, refused_leaves, refused_stays, took_apart, took_leaves, took_stays, twice_out, whole_written, write_leaves}

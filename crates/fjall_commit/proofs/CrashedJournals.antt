@@ -4,24 +4,24 @@ use Rattle.std.proofs.lemmas.List.{append-nil, map-append}
 use Rattle.std.proofs.lemmas.Grind.{flat_map-append}
 use Rattle.std.specs.List.{AllByRecursion}
 use Rattle.fjall_base.specs.Store.{Store, Command, fold, kept}
-use Rattle.fjall_base.specs.Disk.{Image, State}
+use Rattle.fjall_base.specs.Disk.{DiskState, Image}
 use Rattle.fjall_contents.specs.Contents.{commands_beyond, journal_beyond, store_held}
 use Rattle.fjall_contents.proofs.Following.{batches_follow}
 use Rattle.fjall_contents.proofs.Keyspacing.{nothing_to_keep}
 use Rattle.fjall_journal.specs.Batches.{Written, shown}
 use Rattle.fjall_recovery.specs.Amid.{StandsAmid}
-use Rattle.fjall_recovery.specs.Folders.{Contents, store_of}
+use Rattle.fjall_recovery.specs.Folders.{Contents, store_of_contents}
 use Rattle.fjall_recovery.specs.Halves.{HasRoot, HasTree, Tree}
 use Rattle.fjall_recovery.specs.Homes.{HaveVersions, stored_in}
-use Rattle.fjall_recovery.specs.Journals.{Journal, batches_in}
+use Rattle.fjall_recovery.specs.Journals.{WholeJournal, batches_in}
 use Rattle.fjall_recovery.specs.Places.{Journaling, RestsInTree, contents_with, journals_with}
 use Rattle.fjall_recovery.proofs.Holding.{made}
 use Rattle.fjall_recovery.proofs.Roots.{all_behind, all_both, all_front, batches_are}
 use Rattle.fjall_recovery.proofs.Storing.{are_within}
 use Rattle.fjall_recovery.proofs.Trees.{crashes_leave_the_tree}
-use Rattle.fjall_tree.specs.Records.{Fields}
-use Rattle.fjall_versions.specs.Replays.{first_fault}
-use Rattle.fjall_versions.proofs.Kept.{kept_along}
+use Rattle.fjall_manifest.specs.Records.{Fields}
+use Rattle.fjall_contents.specs.Replays.{first_fault}
+use Rattle.fjall_contents.proofs.Kept.{kept_along}
 use Rattle.fjall_commit.specs.Evictions.{LeavesEviction, evicted}
 use Rattle.fjall_commit.specs.Journaling.{HasSome}
 use Rattle.fjall_commit.specs.Rotations.{LeavesRotation, rotated}
@@ -37,13 +37,13 @@ commands_more t front behind =
     let stored = stored_in t.homes t.versions in
     ap (journal_beyond t.keyspaces stored) (map-append shown front behind) ∙ flat_map-append (commands_beyond t.keyspaces stored) (map shown front) (map shown behind)
 
-pub store_is_kept : (c : Contents) → kept (store_of c) ≡ store_of c
+pub store_is_kept : (c : Contents) → kept (store_of_contents c) ≡ store_of_contents c
 store_is_kept c = nothing_to_keep c.keyspaces (stored_in c.homes c.versions) (map shown (batches_in c.journals))
 
 -- ---- the store with the later batches is that of the synced ones, and what the later ones command
 
 module _ (t : Tree) (has : HaveVersions t.homes t.versions) where
-  store_with : (j : Journaling) (behind : List Written) → first_fault 0 (map shown (batches_in (journals_with j behind))) ≡ None → store_of (contents_with j t behind) ≡ fold (store_of (contents_with j t [])) (commanded t behind)
+  store_with : (j : Journaling) (behind : List Written) → first_fault 0 (map shown (batches_in (journals_with j behind))) ≡ None → store_of_contents (contents_with j t behind) ≡ fold (store_of_contents (contents_with j t [])) (commanded t behind)
   store_with j behind sound =
       let stored = stored_in t.homes t.versions in
       let front = batches_in j.sealed ++ (j.whole ++ []) in
@@ -55,23 +55,23 @@ module _ (t : Tree) (has : HaveVersions t.homes t.versions) where
       ∙ ap (λ (l : List Written). fold (store_held t.keyspaces stored (map shown l)) (commanded t behind)) (sym (batches_are j []))
 
   -- a base that keeps the synced batches' store, with what later ones command
-  pub kept_with : (base : Store) (j : Journaling) (behind : List Written) → kept base ≡ store_of (contents_with j t []) → first_fault 0 (map shown (batches_in (journals_with j behind))) ≡ None
-      → kept (fold base (commanded t behind)) ≡ store_of (contents_with j t behind)
+  pub kept_with : (base : Store) (j : Journaling) (behind : List Written) → kept base ≡ store_of_contents (contents_with j t []) → first_fault 0 (map shown (batches_in (journals_with j behind))) ≡ None
+      → kept (fold base (commanded t behind)) ≡ store_of_contents (contents_with j t behind)
   kept_with base j behind is sound =
-      kept_along base (store_of (contents_with j t [])) (commanded t behind) (is ∙ sym (store_is_kept (contents_with j t [])))
+      kept_along base (store_of_contents (contents_with j t [])) (commanded t behind) (is ∙ sym (store_is_kept (contents_with j t [])))
       ∙ ap kept (sym (store_with j behind sound)) ∙ store_is_kept (contents_with j t behind)
 
   -- once the journals are rotated all of it is in the base
-  pub rotated_base : (base : Store) (j : Journaling) → kept base ≡ store_of (contents_with j t []) → first_fault 0 (map shown (batches_in (journals_with j j.later))) ≡ None
-      → kept (fold base (commanded t j.later)) ≡ store_of (contents_with (rotated j) t [])
+  pub rotated_base : (base : Store) (j : Journaling) → kept base ≡ store_of_contents (contents_with j t []) → first_fault 0 (map shown (batches_in (journals_with j j.later))) ≡ None
+      → kept (fold base (commanded t j.later)) ≡ store_of_contents (contents_with (rotated j) t [])
   rotated_base base j is sound = kept_with base j j.later is sound ∙ sym (rotated_store j t)
 
 -- ---- images
 
-module _ (image : Image) (t : Tree) (tree : HasTree image t) (base : Store) (j : Journaling) (is : kept base ≡ store_of (contents_with j t [])) where
+module _ (image : Image) (t : Tree) (tree : HasTree image t) (base : Store) (j : Journaling) (is : kept base ≡ store_of_contents (contents_with j t [])) where
   -- an image of these journals, whose store is that of the base and of a beginning of what is pending
   stands : (shows : Journaling) (behind rest held : List Written) → behind ++ rest ≡ j.later → HasRoot image (journals_with shows held)
-      → kept (fold base (commanded t behind)) ≡ store_of (contents_with shows t held) → StandsAmid base [] (commanded t j.later) image
+      → kept (fold base (commanded t behind)) ≡ store_of_contents (contents_with shows t held) → StandsAmid base [] (commanded t j.later) image
   stands shows behind rest held all root same = record {
     front = commanded t behind;
     holds = (commanded t behind, refl);
@@ -91,14 +91,14 @@ module _ (image : Image) (t : Tree) (tree : HasTree image t) (base : Store) (j :
   evicted_stand n are (behind, rest, all, root) =
       stands (evicted n j) behind rest behind all root (kept_with t tree.versions base (evicted n j) behind (is ∙ sym (evicted_store j t n [] are)) root.holds.sound)
 
-pub rotation_stands : (state : State) (j : Journaling) (records : List Fields) (t : Tree) (base : Store) (image : Image) → RestsInTree state records t → kept base ≡ store_of (contents_with j t [])
+pub rotation_stands : (state : DiskState) (j : Journaling) (records : List Fields) (t : Tree) (base : Store) (image : Image) → RestsInTree state records t → kept base ≡ store_of_contents (contents_with j t [])
     → LeavesRotation state j image → StandsAmid base [] (commanded t j.later) image
 rotation_stands state j records t base image rests is left =
     let tree = crashes_leave_the_tree state image records t rests left.elsewhere in
     elim left.root [ inl some ↦ some_stand image t tree base j is some | inr all ↦ rotated_stand image t tree base j is all ]
 
 -- of fewer journals that may go nothing counts either
-fewer_stored : (t : Tree) (journals : List Journal) (n most : ℕ) → n ≤ most → AreStored t (batches_in (take most journals)) → AreStored t (batches_in (take n journals))
+fewer_stored : (t : Tree) (journals : List WholeJournal) (n most : ℕ) → n ≤ most → AreStored t (batches_in (take most journals)) → AreStored t (batches_in (take n journals))
 fewer_stored t journals zero most le are = tt
 fewer_stored t [] (suc n) most le are = tt
 fewer_stored t (j ∷ journals) (suc n) zero le are = absurd (omega (arith, le))
@@ -109,7 +109,7 @@ fewer_stored t (j ∷ journals) (suc n) (suc most) le are =
     (all_both P (map shown j.batches) (map shown (batches_in (take n journals))) (all_front P (map shown j.batches) (map shown (batches_in (take most journals))) both)
     (fewer_stored t journals n most (omega (arith, le)) (all_behind P (map shown j.batches) (map shown (batches_in (take most journals))) both)))
 
-pub eviction_stands : (state : State) (j : Journaling) (most : ℕ) (records : List Fields) (t : Tree) (base : Store) (image : Image) → RestsInTree state records t → kept base ≡ store_of (contents_with j t [])
+pub eviction_stands : (state : DiskState) (j : Journaling) (most : ℕ) (records : List Fields) (t : Tree) (base : Store) (image : Image) → RestsInTree state records t → kept base ≡ store_of_contents (contents_with j t [])
     → AreStored t (batches_in (take most j.sealed)) → LeavesEviction state j most image → StandsAmid base [] (commanded t j.later) image
 eviction_stands state j most records t base image rests is are left =
     evicted_stand image t (crashes_leave_the_tree state image records t rests left.elsewhere) base j is left.gone (fewer_stored t j.sealed left.gone most left.few are) left.some

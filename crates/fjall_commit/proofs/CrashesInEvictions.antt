@@ -5,7 +5,7 @@ use Rattle.std.specs.List.{AllByRecursion}
 use Rattle.std.proofs.lemmas.List.{append-nil, map-append}
 use Rattle.std.proofs.lemmas.List.Elements.{All-head}
 use Rattle.fjall_base.specs.declared.error.Error.{Error}
-use Rattle.fjall_base.specs.Disk.{Name, Entry, File, Folder, Missing, Place, State, Image, IsImage, IsNoFolder, Leaves, LeavesOnly, Meaning, Step, Put, SyncFolder, Took, after, folder_of, put, removing, settle, state_in}
+use Rattle.fjall_base.specs.Disk.{Name, DiskEntry, File, Folder, Missing, Place, DiskState, Image, IsImage, IsNoFolder, Leaves, LeavesOnly, Meaning, DiskStep, Put, SyncFolder, Took, after, folder_of, put, removing, settle, state_in}
 use Rattle.fjall_base.proofs.Moments.{after-append}
 use Rattle.fjall_files.specs.Names.{journal_name}
 use Rattle.fjall_files.specs.Tidy.{IsTidyStep, StaysTidy}
@@ -17,12 +17,12 @@ use Rattle.fjall_manager.specs.Journals.{Sealed, going, may_go, names_of, stayin
 use Rattle.fjall_manager.proofs.Evicting.{evicting-append}
 use Rattle.fjall_manager.proofs.Going.{going_on}
 use Rattle.fjall_recovery.specs.Halves.{is_of_keyspaces}
-use Rattle.fjall_recovery.specs.Journals.{Journal}
+use Rattle.fjall_recovery.specs.Journals.{WholeJournal}
 use Rattle.fjall_recovery.specs.Places.{Journaling, LiesInRoot, journal_ids, texts_of}
 use Rattle.fjall_recovery.proofs.Roots.{all_both, all_front}
 use Rattle.fjall_commit.specs.Evictions.{StoppedEvicting, LeavesEviction, evicted}
 use Rattle.fjall_commit.specs.Journaling.{HasSome, IsWriting}
-use Rattle.fjall_commit.specs.Rotations.{KeepsSyncedKeyspaces, TellsOf}
+use Rattle.fjall_commit.specs.Rotations.{KeepsSyncedKeyspaces, ListsSealed}
 use Rattle.fjall_commit.proofs.ComingAndGoing.{Fits, went, with_sealed}
 use Rattle.fjall_commit.proofs.CrashesInRotations.{TookFront, took_all}
 use Rattle.fjall_commit.proofs.CrashesInWrites.{root_left}
@@ -48,24 +48,24 @@ no_ids x xs e = cc
 -- ---- one of them
 
 -- a journal's file is there, and goes
-one_goes : (state : State) (name : Name) (bytes : List ℕ) → (state name).now ≡ File bytes [] → evicting_one state name ≡ Put name Missing ∷ SyncFolder [] ∷ []
-one_goes state name bytes there = ap (λ (e : Entry). removing name e ++ SyncFolder [] ∷ []) there
+one_goes : (state : DiskState) (name : Name) (bytes : List ℕ) → (state name).now ≡ File bytes [] → evicting_one state name ≡ Put name Missing ∷ SyncFolder [] ∷ []
+one_goes state name bytes there = ap (λ (e : DiskEntry). removing name e ++ SyncFolder [] ∷ []) there
 
 -- so many at most are gone
-abbrev pub HasFewer : List Journal → Journaling → ℕ → Image → Type 0
+abbrev pub HasFewer : List WholeJournal → Journaling → ℕ → Image → Type 0
 HasFewer sealed j most image = (n : ℕ) × (n ≤ most) × HasSome (with_sealed (drop n sealed) j) j.later image
 
-all_there : (state : State) (sealed : List Journal) (j : Journaling) (most : ℕ) (image : Image) → LiesInRoot state (with_sealed sealed j) → IsImage state image → HasFewer sealed j most image
+all_there : (state : DiskState) (sealed : List WholeJournal) (j : Journaling) (most : ℕ) (image : Image) → LiesInRoot state (with_sealed sealed j) → IsImage state image → HasFewer sealed j most image
 all_there state sealed j most image lies is = (0, omega arith, (root_left state (with_sealed sealed j) image lies is).some)
 
-one_more_gone : (k : Journal) (sealed : List Journal) (j : Journaling) (most : ℕ) (image : Image) → HasFewer sealed j most image → HasFewer (k ∷ sealed) j (suc most) image
+one_more_gone : (k : WholeJournal) (sealed : List WholeJournal) (j : Journaling) (most : ℕ) (image : Image) → HasFewer sealed j most image → HasFewer (k ∷ sealed) j (suc most) image
 one_more_gone k sealed j most image (n, le, has) = (suc n, omega (arith, le), has)
 
-module _ (state : State) (x : Sealed) (k : Journal) (sealed : List Journal) (j : Journaling) (lies : LiesInRoot state (with_sealed (k ∷ sealed) j)) (same : x.id ≡ k.id) where
+module _ (state : DiskState) (x : Sealed) (k : WholeJournal) (sealed : List WholeJournal) (j : Journaling) (lies : LiesInRoot state (with_sealed (k ∷ sealed) j)) (same : x.id ≡ k.id) where
   abbrev file : Name
   file = journal_name x.id
 
-  abbrev next : State
+  abbrev next : DiskState
   next = settle (put state file Missing) []
 
   root : folder_of file ≡ []
@@ -89,7 +89,7 @@ module _ (state : State) (x : Sealed) (k : Journal) (sealed : List Journal) (j :
   -- what a crash leaves of it and of the steps behind
   one_left : (names : List Name) (count : ℕ) (image : Image) → (Leaves next (evicting next names) image → HasFewer sealed j count image) → Leaves state (evicting state (file ∷ names)) image
       → HasFewer (k ∷ sealed) j (suc count) image
-  one_left names count image behind left = by_moment (subst (λ (l : List Step). Leaves state (l ++ evicting (after state l) names) image) goes left)
+  one_left names count image behind left = by_moment (subst (λ (l : List DiskStep). Leaves state (l ++ evicting (after state l) names) image) goes left)
     where
       by_moment : Leaves state (Put file Missing ∷ SyncFolder [] ∷ evicting next names) image → HasFewer (k ∷ sealed) j (suc count) image
       by_moment (inl now) = all_there state (k ∷ sealed) j (suc count) image lies now
@@ -100,7 +100,7 @@ module _ (state : State) (x : Sealed) (k : Journal) (sealed : List Journal) (j :
 
 -- ---- one after another
 
-pub evicted_lies : (gone more : List Sealed) (state : State) (sealed : List Journal) (j : Journaling) → LiesInRoot state (with_sealed sealed j) → told_ids (gone ++ more) ≡ ids_of sealed
+pub evicted_lies : (gone more : List Sealed) (state : DiskState) (sealed : List WholeJournal) (j : Journaling) → LiesInRoot state (with_sealed sealed j) → told_ids (gone ++ more) ≡ ids_of sealed
     → LiesInRoot (after state (evicting state (names_of gone))) (with_sealed (drop (length gone) sealed) j)
 evicted_lies [] more state sealed j lies tells = lies
 evicted_lies (x ∷ gone) more state [] j lies tells = absurd (no_ids x.id (told_ids (gone ++ more)) tells)
@@ -108,9 +108,9 @@ evicted_lies (x ∷ gone) more state (k ∷ sealed) j lies tells =
     let same = first_id x.id k.id (told_ids (gone ++ more)) (ids_of sealed) tells in
     let later =
     evicted_lies gone more (next state x k sealed j lies same) sealed j (next_lies state x k sealed j lies same) (later_ids x.id k.id (told_ids (gone ++ more)) (ids_of sealed) tells) in
-    subst (λ (l : List Step). LiesInRoot (after state (l ++ evicting (after state l) (names_of gone))) (with_sealed (drop (length gone) sealed) j)) (sym (goes state x k sealed j lies same)) later
+    subst (λ (l : List DiskStep). LiesInRoot (after state (l ++ evicting (after state l) (names_of gone))) (with_sealed (drop (length gone) sealed) j)) (sym (goes state x k sealed j lies same)) later
 
-pub evicted_left : (gone more : List Sealed) (state : State) (sealed : List Journal) (j : Journaling) → LiesInRoot state (with_sealed sealed j) → told_ids (gone ++ more) ≡ ids_of sealed
+pub evicted_left : (gone more : List Sealed) (state : DiskState) (sealed : List WholeJournal) (j : Journaling) → LiesInRoot state (with_sealed sealed j) → told_ids (gone ++ more) ≡ ids_of sealed
     → (image : Image) → Leaves state (evicting state (names_of gone)) image → HasFewer sealed j (length gone) image
 evicted_left [] more state sealed j lies tells image is = all_there state sealed j 0 image lies is
 evicted_left (x ∷ gone) more state [] j lies tells image left = absurd (no_ids x.id (told_ids (gone ++ more)) tells)
@@ -121,19 +121,19 @@ evicted_left (x ∷ gone) more state (k ∷ sealed) j lies tells image left =
 
 -- ---- what the steps are
 
-removing_apart : (name : Name) (entry : Entry) → is_of_keyspaces name ≡ false → AllByRecursion IsApart (removing name entry)
+removing_apart : (name : Name) (entry : DiskEntry) → is_of_keyspaces name ≡ false → AllByRecursion IsApart (removing name entry)
 removing_apart name Missing out = tt
 removing_apart name (File synced unsynced) out = (out, tt)
 removing_apart name Folder out = (out, tt)
 
-evicting_apart : (state : State) (names : List Name) → AllByRecursion (λ name. is_of_keyspaces name ≡ false) names → AllByRecursion IsApart (evicting state names)
+evicting_apart : (state : DiskState) (names : List Name) → AllByRecursion (λ name. is_of_keyspaces name ≡ false) names → AllByRecursion IsApart (evicting state names)
 evicting_apart state [] out = tt
 evicting_apart state (name ∷ names) out =
     all_both IsApart (evicting_one state name) (evicting (after state (evicting_one state name)) names)
     (all_both IsApart (removing name (state name).now) (SyncFolder [] ∷ []) (removing_apart name (state name).now out.0) (refl, tt))
     (evicting_apart (after state (evicting_one state name)) names out.1)
 
-evicting_tidy : (state : State) (names : List Name) → AllByRecursion IsTidyStep (evicting state names)
+evicting_tidy : (state : DiskState) (names : List Name) → AllByRecursion IsTidyStep (evicting state names)
 evicting_tidy state [] = tt
 evicting_tidy state (name ∷ names) =
     all_both IsTidyStep (evicting_one state name) (evicting (after state (evicting_one state name)) names)
@@ -145,10 +145,10 @@ names_apart [] = tt
 names_apart (x ∷ gone) = (each_apart x.id, names_apart gone)
 
 -- all of them are in the root
-pub gone_apart : (state : State) (gone : List Sealed) → AllByRecursion IsApart (evicting state (names_of gone))
+pub gone_apart : (state : DiskState) (gone : List Sealed) → AllByRecursion IsApart (evicting state (names_of gone))
 gone_apart state gone = evicting_apart state (names_of gone) (names_apart gone)
 
-no_folders : (state : State) (journals : List Sealed) (sealed : List Journal) → AllByRecursion (λ k. (state (journal_name k.id)) ≡ record { now = File (texts_of k.batches) []; older = [] }) sealed
+no_folders : (state : DiskState) (journals : List Sealed) (sealed : List WholeJournal) → AllByRecursion (λ k. (state (journal_name k.id)) ≡ record { now = File (texts_of k.batches) []; older = [] }) sealed
     → told_ids journals ≡ ids_of sealed → HasNoFolders state (names_of journals)
 no_folders state [] sealed safe tells = tt
 no_folders state (x ∷ journals) [] safe tells = absurd (no_ids x.id (told_ids journals) tells)
@@ -177,11 +177,11 @@ pub record TookEviction (old new : Meaning) (journals : List Sealed) (most : ℕ
   pub took : TookFront old new (evicting (state_in old) (names_of gone))
 
 -- the next one too
-evicting_next : (state : State) (gone : List Sealed) (next : Sealed)
+evicting_next : (state : DiskState) (gone : List Sealed) (next : Sealed)
     → evicting state (names_of (gone ++ next ∷ [])) ≡ evicting state (names_of gone) ++ evicting_one (after state (evicting state (names_of gone))) (journal_name next.id)
 evicting_next state gone next =
     ap (evicting state) (map-append (λ (s : Sealed). journal_name s.id) gone (next ∷ [])) ∙ evicting-append state (names_of gone) (journal_name next.id ∷ [])
-    ∙ ap (λ (l : List Step). evicting state (names_of gone) ++ l) (append-nil (evicting_one (after state (evicting state (names_of gone))) (journal_name next.id)))
+    ∙ ap (λ (l : List DiskStep). evicting state (names_of gone) ++ l) (append-nil (evicting_one (after state (evicting state (names_of gone))) (journal_name next.id)))
 
 module _ (flushed : ℕ → ℕ → Bool) (journals : List Sealed) where
   abbrev may_all : ℕ
@@ -226,15 +226,15 @@ module _ (flushed : ℕ → ℕ → Bool) (journals : List Sealed) where
   }
 
 -- the ids of those that stay
-dropped : (gone more : List Sealed) (sealed : List Journal) → told_ids (gone ++ more) ≡ ids_of sealed → told_ids more ≡ ids_of (drop (length gone) sealed)
+dropped : (gone more : List Sealed) (sealed : List WholeJournal) → told_ids (gone ++ more) ≡ ids_of sealed → told_ids more ≡ ids_of (drop (length gone) sealed)
 dropped [] more sealed tells = tells
 dropped (x ∷ gone) more [] tells = absurd (no_ids x.id (told_ids (gone ++ more)) tells)
 dropped (x ∷ gone) more (k ∷ sealed) tells = dropped gone more sealed (later_ids x.id k.id (told_ids (gone ++ more)) (ids_of sealed) tells)
 
 -- ---- on a disk
 
-module _ (old new : Meaning) (writer : writers.Journal) (j : Journaling) (writing : IsWriting (state_in old) writer j) (journals : List Sealed) (tells : TellsOf journals j) where
-  abbrev state : State
+module _ (old new : Meaning) (writer : writers.Journal) (j : Journaling) (writing : IsWriting (state_in old) writer j) (journals : List Sealed) (tells : ListsSealed journals j) where
+  abbrev state : DiskState
   state = state_in old
 
   tells_all : (gone more : List Sealed) → journals ≡ gone ++ more → told_ids (gone ++ more) ≡ ids_of j.sealed
@@ -254,7 +254,7 @@ module _ (old new : Meaning) (writer : writers.Journal) (j : Journaling) (writin
     added = run.took.front;
     took = run.took.took;
     each = λ image left. moment run.gone run.more most run.all run.few image
-        (subst (λ (l : List Step). Leaves state l image) run.took.all (front_left state run.took.front run.took.rest image left));
+        (subst (λ (l : List DiskStep). Leaves state l image) run.took.all (front_left state run.took.front run.took.rest image left));
   }
 
   pub eviction_keeps : (most : ℕ) → TookEviction old new journals most → KeepsSyncedKeyspaces old new
@@ -266,7 +266,7 @@ module _ (old new : Meaning) (writer : writers.Journal) (j : Journaling) (writin
 
   pub evicted_on : (flushed : ℕ → ℕ → Bool) → Took old new (evicting state (names_of (going flushed journals))) → IsWriting (state_in new) writer (evicted (length (going flushed journals)) j)
   evicted_on flushed took =
-      subst (λ (s : State). IsWriting s writer (evicted (length (going flushed journals)) j)) (sym took.state) (writing_on (going flushed journals) (staying flushed journals) (going_and_staying flushed journals))
+      subst (λ (s : DiskState). IsWriting s writer (evicted (length (going flushed journals)) j)) (sym took.state) (writing_on (going flushed journals) (staying flushed journals) (going_and_staying flushed journals))
 
   -- where it was refused
   pub evicted_some : (flushed : ℕ → ℕ → Bool) (now gone : List Sealed) (stopped : StoppedBehind flushed journals now gone) → TookEvictions old new gone stopped.next
@@ -282,19 +282,19 @@ module _ (old new : Meaning) (writer : writers.Journal) (j : Journaling) (writin
       }
     where
       by_removal : TookEvictions old new gone stopped.next → IsWriting (state_in new) writer (evicted (length gone) j) ⊎ IsWriting (settle (state_in new) []) writer (evicted (length gone + 1) j)
-      by_removal (inl stood) = inl (subst (λ (s : State). IsWriting s writer (evicted (length gone) j)) (sym stood.state) (writing_on gone (stopped.next ∷ stopped.later) stopped.all))
+      by_removal (inl stood) = inl (subst (λ (s : DiskState). IsWriting s writer (evicted (length gone) j)) (sym stood.state) (writing_on gone (stopped.next ∷ stopped.later) stopped.all))
       by_removal (inr removed) =
           let first = gone ++ stopped.next ∷ [] in
           let steps = evicting state (names_of gone) in
           let last = removing (journal_name stopped.next.id) (after state steps (journal_name stopped.next.id)).now in
           let at_end : after state (evicting state (names_of first)) ≡ settle (state_in new) [] =
           ap (after state) (evicting_next state gone stopped.next ∙ sym (append_assoc steps last (SyncFolder [] ∷ []))) ∙ after-append state (steps ++ last) (SyncFolder [] ∷ [])
-          ∙ ap (λ (s : State). settle s []) (sym removed.state) in
+          ∙ ap (λ (s : DiskState). settle s []) (sym removed.state) in
           let all = stopped.all ∙ sym (append_assoc gone (stopped.next ∷ []) stopped.later) in
-          inr (subst (λ (s : State). IsWriting s writer (evicted (length gone + 1) j)) at_end
+          inr (subst (λ (s : DiskState). IsWriting s writer (evicted (length gone + 1) j)) at_end
           (subst (λ n. IsWriting (after state (evicting state (names_of first))) writer (evicted n j)) (length-append gone (stopped.next ∷ [])) (writing_on first stopped.later all)))
 
-pub some_evicted : (r : Result Unit Error) (old new : Meaning) (writer : writers.Journal) (j : Journaling) → IsWriting (state_in old) writer j → (flushed : ℕ → ℕ → Bool) (journals now : List Sealed) → TellsOf journals j
+pub some_evicted : (r : Result Unit Error) (old new : Meaning) (writer : writers.Journal) (j : Journaling) → IsWriting (state_in old) writer j → (flushed : ℕ → ℕ → Bool) (journals now : List Sealed) → ListsSealed journals j
     → OnErr r ((gone : List Sealed) × (stopped : StoppedBehind flushed journals now gone) × TookEvictions old new gone stopped.next)
     → OnErr r (StoppedEvicting (state_in new) writer j now (length (going flushed journals)))
 some_evicted (Ok x) old new writer j writing flushed journals now tells left = tt
@@ -308,9 +308,9 @@ stays_evicted old new journals most run =
 
 -- ---- the list
 
-pub told_evicted : (r : Result Unit Error) (flushed : ℕ → ℕ → Bool) (journals new : List Sealed) → OnOk r (new ≡ staying flushed journals) → (j : Journaling) → TellsOf journals j
-    → OnOk r (TellsOf new (evicted (length (going flushed journals)) j))
+pub told_evicted : (r : Result Unit Error) (flushed : ℕ → ℕ → Bool) (journals new : List Sealed) → OnOk r (new ≡ staying flushed journals) → (j : Journaling) → ListsSealed journals j
+    → OnOk r (ListsSealed new (evicted (length (going flushed journals)) j))
 told_evicted r flushed journals new ok j tells =
-    on_ok r (TellsOf new (evicted (length (going flushed journals)) j)) ok (λ is.
+    on_ok r (ListsSealed new (evicted (length (going flushed journals)) j)) ok (λ is.
     ap (λ (l : List Sealed). told_ids l) is
     ∙ dropped (going flushed journals) (staying flushed journals) j.sealed (ap (λ (l : List Sealed). told_ids l) (sym (going_and_staying flushed journals)) ∙ tells))

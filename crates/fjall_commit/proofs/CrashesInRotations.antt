@@ -4,7 +4,7 @@ use Rattle.std.specs.Prelude.{Result, Ok, Err, IfErr, OnErr, OnOk}
 use Rattle.std.proofs.lemmas.Bool.{cases_lt}
 use Rattle.std.proofs.lemmas.List.{append-nil, map-append}
 use Rattle.std.specs.List.{AllByRecursion}
-use Rattle.fjall_base.specs.Disk.{Name, Entry, File, Folder, Missing, State, Image, IsImage, IsNoFile, IsNoFolder, Leaves, LeavesOnly, Meaning, Step, Sync, SyncFolder, Took, TookPart, after, all_synced, alter, making, put, state_in, Survives}
+use Rattle.fjall_base.specs.Disk.{Name, DiskEntry, File, Folder, Missing, DiskState, Image, IsImage, IsNoFile, IsNoFolder, Leaves, LeavesOnly, Meaning, DiskStep, Sync, SyncFolder, Took, TookPart, after, all_synced, alter, making, put, state_in, Survives}
 use Rattle.fjall_base.specs.declared.error.Error.{Error}
 use Rattle.fjall_base.specs.declared.error.Error.TheVariants.{NumbersUsedUp}
 use Rattle.fjall_base.proofs.Moments.{Leaves-append, after-append, weaken}
@@ -16,7 +16,7 @@ use Rattle.fjall_journal.specs.Batches.{Written}
 use Rattle.fjall_journal.specs.Writer.{IsIo, Journal, appending, making_file, making_synced}
 use Rattle.fjall_journal.specs.declared.persist_mode.PersistMode.TheVariants.{SyncAll}
 use Rattle.fjall_manager.specs.Journals.{Sealed}
-use Rattle.fjall_manager.specs.Marks.{Marks}
+use Rattle.fjall_manager.specs.Marks.{JournalMarks}
 use Rattle.fjall_journal.specs.Rotations.{RotationTook, empty_journal, making_safe, rotating}
 use Rattle.fjall_manager.specs.Rotations.{sealed_of}
 use Rattle.fjall_recovery.specs.Halves.{HasRoot}
@@ -24,7 +24,7 @@ use Rattle.fjall_recovery.specs.Journals as recovered
 use Rattle.fjall_recovery.specs.Places.{Journaling, LiesInRoot, journals_with}
 use Rattle.fjall_recovery.proofs.Roots.{all_both, all_front}
 use Rattle.fjall_commit.specs.Journaling.{HasSome, IsWriting, LeavesRoot, synced}
-use Rattle.fjall_commit.specs.Rotations.{KeepsSyncedKeyspaces, LeavesRotation, TellsOf, rotated}
+use Rattle.fjall_commit.specs.Rotations.{KeepsSyncedKeyspaces, LeavesRotation, ListsSealed, rotated}
 use Rattle.fjall_commit.proofs.AppendsAndSyncs.{syncing_all}
 use Rattle.fjall_commit.proofs.ComingAndGoing.{came, free_next}
 use Rattle.fjall_commit.proofs.CrashesInWrites.{all_left, all_out_leaves, all_out_lies, buffer_leaves, no_more, part_apart, some_left}
@@ -35,17 +35,17 @@ use Rattle.fjall_commit.proofs.Results.{on_both, on_ok}
 use Rattle.fjall_commit.proofs.TidyWrites.{persist_tidy}
 
 -- an empty journal is made, where nothing stands in its place, and it and its name are synced
-abbrev pub beginning : Name → Entry → List Step
+abbrev pub beginning : Name → DiskEntry → List DiskStep
 beginning next entry = (making next (File [] []) entry ++ Sync next ∷ []) ++ SyncFolder [] ∷ []
 
-nothing_there : (entry : Entry) → IsNoFile entry → IsNoFolder entry → entry ≡ Missing
+nothing_there : (entry : DiskEntry) → IsNoFile entry → IsNoFolder entry → entry ≡ Missing
 nothing_there Missing no_file no_folder = refl
 nothing_there (File synced unsynced) no_file no_folder = absurd no_file
 nothing_there Folder no_file no_folder = absurd no_folder
 
 -- ---- the empty journal
 
-module _ (mid : State) (j : Journaling) (lies : LiesInRoot mid (synced j)) (room : j.active + 1 < 2 ^ 64) where
+module _ (mid : DiskState) (j : Journaling) (lies : LiesInRoot mid (synced j)) (room : j.active + 1 < 2 ^ 64) where
   abbrev next : Name
   next = journal_name (j.active + 1)
 
@@ -71,7 +71,7 @@ module _ (mid : State) (j : Journaling) (lies : LiesInRoot mid (synced j)) (room
   stood_left image (inr (inl synced)) = inl (all_left mid j image lies (sync_left mid next image synced))
   stood_left image (inr (inr settled)) = inl (all_left mid j image lies (sync_left mid next image (settle_left (alter mid next all_synced) [] image settled)))
 
-  pub begun_left : (entry : Entry) (image : Image) → Leaves mid (beginning next entry) image → HasSome j j.later image ⊎ HasRoot image (journals_with (rotated j) [])
+  pub begun_left : (entry : DiskEntry) (image : Image) → Leaves mid (beginning next entry) image → HasSome j j.later image ⊎ HasRoot image (journals_with (rotated j) [])
   begun_left Missing image (inl before) = inl (all_left mid j image lies before)
   begun_left Missing image (inr (inl put)) = made_left image put
   begun_left Missing image (inr (inr (inl synced))) = made_left image (sync_left (put mid next (File [] [])) next image synced)
@@ -83,30 +83,30 @@ module _ (mid : State) (j : Journaling) (lies : LiesInRoot mid (synced j)) (room
 -- ---- all of it
 
 -- the steps of a rotation
-abbrev pub rotation_steps : State → Journaling → List ℕ → List Step
+abbrev pub rotation_steps : DiskState → Journaling → List ℕ → List DiskStep
 rotation_steps state j buffer = syncing_all (journal_name j.active) buffer ++ beginning (journal_name (j.active + 1)) (state (journal_name (j.active + 1))).now
 
-module _ (from : State) (writer : Journal) (j : Journaling) (writing : IsWriting from writer j) (room : j.active + 1 < 2 ^ 64) where
+module _ (from : DiskState) (writer : Journal) (j : Journaling) (writing : IsWriting from writer j) (room : j.active + 1 < 2 ^ 64) where
   abbrev file : Name
   file = journal_name j.active
 
   abbrev last : Name
   last = journal_name (j.active + 1)
 
-  abbrev mid : State
+  abbrev mid : DiskState
   mid = after from (syncing_all file writer.buffer)
 
-  abbrev all_steps : List Step
+  abbrev all_steps : List DiskStep
   all_steps = rotation_steps from j writer.buffer
 
   pub rotated_lies : IsNoFolder (from last).now → LiesInRoot (after from all_steps) (rotated j)
   rotated_lies free =
       let none = nothing_there (from last).now (free_next from j writing.root room).0 free in
-      subst (λ (s : State). LiesInRoot s (rotated j))
-      (sym (after-append from (syncing_all file writer.buffer) (beginning last (from last).now) ∙ ap (λ (e : Entry). after mid (beginning last e)) none))
+      subst (λ (s : DiskState). LiesInRoot s (rotated j))
+      (sym (after-append from (syncing_all file writer.buffer) (beginning last (from last).now) ∙ ap (λ (e : DiskEntry). after mid (beginning last e)) none))
       (begun_lies mid j (all_out_lies from writer j writing) room)
 
-  making_apart : (entry : Entry) → IsApart (Sync last) → AllByRecursion IsApart (beginning last entry)
+  making_apart : (entry : DiskEntry) → IsApart (Sync last) → AllByRecursion IsApart (beginning last entry)
   making_apart Missing out = (out, (out, (refl, tt)))
   making_apart (File synced unsynced) out = (out, (refl, tt))
   making_apart Folder out = (out, (refl, tt))
@@ -133,31 +133,31 @@ module _ (from : State) (writer : Journal) (j : Journaling) (writing : IsWriting
 -- ---- a beginning of it
 
 -- a beginning of these steps was taken, or all of them
-pub record TookFront (old new : Meaning) (steps : List Step) : Type 0 where
-  pub front : List Step
-  pub rest : List Step
+pub record TookFront (old new : Meaning) (steps : List DiskStep) : Type 0 where
+  pub front : List DiskStep
+  pub rest : List DiskStep
   pub all : front ++ rest ≡ steps
   pub took : Took old new front
 
 -- all of them were
-pub took_all : (old new : Meaning) (steps : List Step) → Took old new steps → TookFront old new steps
+pub took_all : (old new : Meaning) (steps : List DiskStep) → Took old new steps → TookFront old new steps
 took_all old new steps took = record { front = steps; rest = []; all = append-nil steps; took = took }
 
 -- some of the later steps, and then the rest of them
-cut_short : (first then last : List Step) (n : ℕ) → (first ++ take n then) ++ (drop n then ++ last) ≡ first ++ (then ++ last)
+cut_short : (first then last : List DiskStep) (n : ℕ) → (first ++ take n then) ++ (drop n then ++ last) ≡ first ++ (then ++ last)
 cut_short first then last n =
     append_assoc first (take n then) (drop n then ++ last)
-    ∙ ap (λ (l : List Step). first ++ l) (sym (append_assoc (take n then) (drop n then) last) ∙ ap (λ (l : List Step). l ++ last) (take-append-drop n then))
+    ∙ ap (λ (l : List DiskStep). first ++ l) (sym (append_assoc (take n then) (drop n then) last) ∙ ap (λ (l : List DiskStep). l ++ last) (take-append-drop n then))
 
 -- what a rotation that was done or refused took: some beginning of the buffer, or a beginning of its steps
 abbrev pub TookRotation : Meaning → Meaning → Journal → Journaling → Type 0
 TookRotation old new writer j = TookPart old new writer.name writer.buffer ⊎ ((j.active + 1 < 2 ^ 64) × TookFront old new (rotation_steps (state_in old) j writer.buffer))
 
 module _ (old new : Meaning) (writer : Journal) (j : Journaling) (writing : IsWriting (state_in old) writer j) where
-  abbrev state : State
+  abbrev state : DiskState
   state = state_in old
 
-  abbrev steps : List Step
+  abbrev steps : List DiskStep
   steps = rotation_steps state j writer.buffer
 
   pub rotation_leaves : TookRotation old new writer j → LeavesOnly old new (LeavesRotation state j)
@@ -166,7 +166,7 @@ module _ (old new : Meaning) (writer : Journal) (j : Journaling) (writing : IsWr
   rotation_leaves (inr (room, some)) = record {
     added = some.front;
     took = some.took;
-    each = λ image left. rotation_left state writer j writing room image (subst (λ (l : List Step). Leaves state l image) some.all (front_left state some.front some.rest image left));
+    each = λ image left. rotation_left state writer j writing room image (subst (λ (l : List DiskStep). Leaves state l image) some.all (front_left state some.front some.rest image left));
   }
 
   pub rotation_keeps : TookRotation old new writer j → KeepsSyncedKeyspaces old new
@@ -187,7 +187,7 @@ module _ (old new : Meaning) (writer : Journal) (j : Journaling) (writing : IsWr
 
   -- so far the call may have come
   pub took_rotation : (r : Result Unit Error) (now : Journal) → OnOk r (Took old new (rotating old writer next_name)) → OnErr r (RotationTook old new writer now next_name) → TookRotation old new writer j
-  took_rotation (Ok x) now took left = inr (room, took_all old new (rotation_steps (state_in old) j writer.buffer) (subst (λ (l : List Step). Took old new l) rotating_is took))
+  took_rotation (Ok x) now took left = inr (room, took_all old new (rotation_steps (state_in old) j writer.buffer) (subst (λ (l : List DiskStep). Took old new l) rotating_is took))
   took_rotation (Err e) now took (inl (same, part)) = inl part
   took_rotation (Err e) now took (inr (out, (n, some))) = inr (room, front_rotation n some)
     where
@@ -205,7 +205,7 @@ module _ (old new : Meaning) (writer : Journal) (j : Journaling) (writing : IsWr
   -- it was done, and the writer goes on in the empty journal
   pub rotated_on : IsNoFolder (state_in old next_name).now → (now : Journal) → Took old new (rotating old writer next_name) → now ≡ empty_journal next_name → IsWriting (state_in new) now (rotated j)
   rotated_on free now took is = record {
-    root = subst (λ (s : State). LiesInRoot s (rotated j)) (sym (took.state ∙ ap (after (state_in old)) rotating_is)) (rotated_lies (state_in old) writer j writing room free);
+    root = subst (λ (s : DiskState). LiesInRoot s (rotated j)) (sym (took.state ∙ ap (after (state_in old)) rotating_is)) (rotated_lies (state_in old) writer j writing room free);
     name = ap (λ (w : Journal). w.name) is;
     exact = ap (λ (w : Journal). w.buffer) is;
   }
@@ -269,10 +269,10 @@ module _ (r : Result Unit Error) (old new : Meaning) (writer now : Journal) (id 
   stays_rotated = ⊎_elim (λ room. kinds_by room.0 r took part) (λ much. tidying.stays_none old new (took_nothing much)) (room_or_not id)
 
 -- the list tells of the journal that was sealed
-pub told_rotated : (r : Result Unit Error) (journals new : List Sealed) (id : ℕ) (writer : Journal) (marks : Marks) → OnOk r (new ≡ journals ++ sealed_of id writer marks ∷ [])
-    → (j : Journaling) → j.active ≡ id → TellsOf journals j → OnOk r (TellsOf new (rotated j))
+pub told_rotated : (r : Result Unit Error) (journals new : List Sealed) (id : ℕ) (writer : Journal) (marks : JournalMarks) → OnOk r (new ≡ journals ++ sealed_of id writer marks ∷ [])
+    → (j : Journaling) → j.active ≡ id → ListsSealed journals j → OnOk r (ListsSealed new (rotated j))
 told_rotated r journals new id writer marks sealed j at tells =
-    on_ok r (TellsOf new (rotated j)) sealed (λ is.
+    on_ok r (ListsSealed new (rotated j)) sealed (λ is.
     ap (map (λ (s : Sealed). s.id)) is ∙ map-append (λ (s : Sealed). s.id) journals (sealed_of id writer marks ∷ [])
-    ∙ ap (λ (l : List ℕ). l ++ id ∷ []) tells ∙ ap (λ n. map (λ (k : recovered.Journal). k.id) j.sealed ++ n ∷ []) (sym at)
-    ∙ sym (map-append (λ (k : recovered.Journal). k.id) j.sealed (record { id = j.active; batches = j.whole ++ j.later } ∷ [])))
+    ∙ ap (λ (l : List ℕ). l ++ id ∷ []) tells ∙ ap (λ n. map (λ (k : recovered.WholeJournal). k.id) j.sealed ++ n ∷ []) (sym at)
+    ∙ sym (map-append (λ (k : recovered.WholeJournal). k.id) j.sealed (record { id = j.active; batches = j.whole ++ j.later } ∷ [])))

@@ -3,7 +3,7 @@ use Rattle.std.proofs.Common.{◌≡◌, inl, inr, ⊎_elim, ℕ, ◌+◌, true,
 use Rattle.std.proofs.lemmas.List.{append-nil}
 use Rattle.std.proofs.lemmas.Bool.{true≢false}
 use Rattle.std.specs.List.{AllByRecursion}
-use Rattle.fjall_base.specs.Disk.{Name, State, Image, Survives, IsImage, Step, Append, Sync, Meaning, Took, TookPart, Leaves, LeavesOnly, after, appended, change, state_in}
+use Rattle.fjall_base.specs.Disk.{Name, DiskState, Image, Survives, IsImage, DiskStep, Append, Sync, Meaning, Took, TookPart, Leaves, LeavesOnly, after, appended, change, state_in}
 use Rattle.fjall_base.proofs.Moments.{Leaves-append, after-append}
 use Rattle.fjall_files.specs.Regions.{IsImageIn}
 use Rattle.fjall_files.proofs.Parts.{in_region, region_along}
@@ -12,7 +12,7 @@ use Rattle.fjall_journal.specs.declared.persist_mode.PersistMode.TheVariants.{Bu
 use Rattle.fjall_journal.specs.Batches.{Written, IsWritten, shown}
 use Rattle.fjall_journal.specs.Writer.{Journal, PersistTook, appending, persist_steps, written_out}
 use Rattle.fjall_files.specs.Names.{journal_name}
-use Rattle.fjall_versions.specs.Replays.{first_fault}
+use Rattle.fjall_contents.specs.Replays.{first_fault}
 use Rattle.fjall_recovery.specs.Journals.{batches_in}
 use Rattle.fjall_recovery.specs.Halves.{HasRoot, is_of_keyspaces, is_of_root}
 use Rattle.fjall_recovery.specs.Places.{Journaling, LiesInRoot, journals_with, texts_of}
@@ -25,7 +25,7 @@ use Rattle.fjall_commit.proofs.RootAfterWrites.{active_fits, part_lies, synced_l
 -- ---- one image
 
 -- the root of an image of such a state
-pub some_left : (new : State) (j : Journaling) (later : List Written) (cut : ℕ) (image : Image) → LiesInRoot new (with_active j j.whole later cut) → IsImage new image → HasSome j later image
+pub some_left : (new : DiskState) (j : Journaling) (later : List Written) (cut : ℕ) (image : Image) → LiesInRoot new (with_active j j.whole later cut) → IsImage new image → HasSome j later image
 some_left new j later cut image lies is = crashes_leave_the_root new image (with_active j j.whole later cut) lies (in_region is_of_root new image is)
 
 -- more may come behind
@@ -37,30 +37,30 @@ no_more [] rest e = refl
 no_more (b ∷ behind) rest e = cc
 
 -- once all are synced, all are there
-pub all_left : (new : State) (j : Journaling) (image : Image) → LiesInRoot new (synced j) → IsImage new image → HasSome j j.later image
+pub all_left : (new : DiskState) (j : Journaling) (image : Image) → LiesInRoot new (synced j) → IsImage new image → HasSome j j.later image
 all_left new j image lies is =
     let left = crashes_leave_the_root new image (synced j) lies (in_region is_of_root new image is) in
     let batches : (j.whole ++ j.later) ++ left.0 ≡ j.whole ++ j.later = ap (λ (l : List Written). (j.whole ++ j.later) ++ l) (no_more left.0 left.1 left.2) ∙ append-nil (j.whole ++ j.later) in
     (j.later, [], append-nil j.later, subst (λ (l : List Written). HasRoot image (j.sealed ++ record { id = j.active; batches = l } ∷ [])) batches left.3)
 
 -- the active journal isn't in `keyspaces`
-pub keyspaces_stay : (state new : State) (j : Journaling) → LiesInRoot state j → SameBut (journal_name j.active) state new → (q : Name) → is_of_keyspaces q ≡ true → new q ≡ state q
+pub keyspaces_stay : (state new : DiskState) (j : Journaling) → LiesInRoot state j → SameBut (journal_name j.active) state new → (q : Name) → is_of_keyspaces q ≡ true → new q ≡ state q
 keyspaces_stay state new j lies same q in_it =
     same q (λ e. true≢false (sym (journal_within j.active (active_fits state j lies)) ∙ ap not (ap is_of_keyspaces (sym e) ∙ in_it)))
 
-keyspaces_left : (state new : State) (j : Journaling) (image : Image) → LiesInRoot state j → SameBut (journal_name j.active) state new → IsImage new image → IsImageIn Survives is_of_keyspaces state image
+keyspaces_left : (state new : DiskState) (j : Journaling) (image : Image) → LiesInRoot state j → SameBut (journal_name j.active) state new → IsImage new image → IsImageIn Survives is_of_keyspaces state image
 keyspaces_left state new j image lies same is = region_along is_of_keyspaces state new image (keyspaces_stay state new j lies same) (in_region is_of_keyspaces new image is)
 
-pub root_left : (state : State) (j : Journaling) (image : Image) → LiesInRoot state j → IsImage state image → LeavesRoot state j j.later image
+pub root_left : (state : DiskState) (j : Journaling) (image : Image) → LiesInRoot state j → IsImage state image → LeavesRoot state j j.later image
 root_left state j image lies is = record { some = some_left state j j.later j.cut image lies is; elsewhere = in_region is_of_keyspaces state image is }
 
-pub whole_left : (state : State) (j : Journaling) (image : Image) → LiesInRoot state j → j.later ≡ [] → IsImage state image → HasRoot image (journals_with j [])
+pub whole_left : (state : DiskState) (j : Journaling) (image : Image) → LiesInRoot state j → j.later ≡ [] → IsImage state image → HasRoot image (journals_with j [])
 whole_left state j image lies none is =
     let left = some_left state j j.later j.cut image lies is in
     subst (λ (l : List Written). HasRoot image (journals_with j l)) (no_more left.0 left.1 (left.2 ∙ none)) left.3
 
 -- where nothing was taken, more may come behind
-more_left : (state : State) (j : Journaling) (more : List Written) (image : Image) → LiesInRoot state j → IsImage state image → LeavesRoot state j (j.later ++ more) image
+more_left : (state : DiskState) (j : Journaling) (more : List Written) (image : Image) → LiesInRoot state j → IsImage state image → LeavesRoot state j (j.later ++ more) image
 more_left state j more image lies is =
     let left = root_left state j image lies is in
     record { some = some_more j j.later more image left.some; elsewhere = left.elsewhere }
@@ -72,7 +72,7 @@ nothing_leaves old new j more lies none = record { added = []; took = none; each
 
 module _ (old new : Meaning) (writer : Journal) (j : Journaling) (more : List Written) (writing : IsWriting (state_in old) writer j) (each : AllByRecursion IsWritten more)
     (sound : first_fault 0 (map shown (batches_in (journals_with j (j.later ++ more)))) ≡ None) where
-  abbrev state : State
+  abbrev state : DiskState
   state = state_in old
 
   abbrev name : Name
@@ -104,11 +104,11 @@ module _ (old new : Meaning) (writer : Journal) (j : Journaling) (more : List Wr
       let took : Took old new (appending name bytes) = subst (λ (n : Name). Took old new (appending n bytes)) writing.name done in
       let part = take j.cut (texts_of j.later) in
       whole_goes_on state (state_in new) writer j more writing each sound (part_but old new name bytes (whole_part old new name bytes took)) now
-      (ap (λ (s : State). s name) took.state ∙ appending_at state name (texts_of j.whole) part bytes writing.root.active) named empty
+      (ap (λ (s : DiskState). s name) took.state ∙ appending_at state name (texts_of j.whole) part bytes writing.root.active) named empty
 
 -- ---- what waits goes out and is synced
 
-module _ (from : State) (writer : Journal) (j : Journaling) (writing : IsWriting from writer j) where
+module _ (from : DiskState) (writer : Journal) (j : Journaling) (writing : IsWriting from writer j) where
   abbrev file : Name
   file = journal_name j.active
 
@@ -154,11 +154,11 @@ module _ (from : State) (writer : Journal) (j : Journaling) (writing : IsWriting
   pub all_out_leaves : (image : Image) → Leaves from (syncing_all file writer.buffer) image → LeavesRoot from j j.later image
   all_out_leaves image left = ⊎_elim
       (λ early. going writer.buffer image (LeavesRoot from j j.later image) (root_left from j image writing.root) (amid image) early)
-      (λ late. ⊎_elim (amid image) (λ now. ended image (subst (λ (s : State). IsImage s image) (sym (after-append from (appending file writer.buffer) (Sync file ∷ []))) now)) late)
+      (λ late. ⊎_elim (amid image) (λ now. ended image (subst (λ (s : DiskState). IsImage s image) (sym (after-append from (appending file writer.buffer) (Sync file ∷ []))) now)) late)
       (Leaves-append Survives from (appending file writer.buffer) (Sync file ∷ []) image left)
 
 module _ (old new : Meaning) (writer : Journal) (j : Journaling) (writing : IsWriting (state_in old) writer j) where
-  abbrev from : State
+  abbrev from : DiskState
   from = state_in old
 
   no_fault_more : first_fault 0 (map shown (batches_in (journals_with j (j.later ++ [])))) ≡ None
@@ -176,7 +176,7 @@ module _ (old new : Meaning) (writer : Journal) (j : Journaling) (writing : IsWr
 
   -- ---- and is synced
 
-  at_file : (steps : Name → List Step) → Took old new (steps writer.name) → Took old new (steps (journal_name j.active))
+  at_file : (steps : Name → List DiskStep) → Took old new (steps writer.name) → Took old new (steps (journal_name j.active))
   at_file steps took = subst (λ (n : Name). Took old new (steps n)) writing.name took
 
   pub sync_leaves : Took old new (syncing_all writer.name writer.buffer) → LeavesOnly old new (LeavesRoot from j j.later)
@@ -184,7 +184,7 @@ module _ (old new : Meaning) (writer : Journal) (j : Journaling) (writing : IsWr
 
   pub sync_out : (now : Journal) → Took old new (syncing_all writer.name writer.buffer) → now.name ≡ writer.name → now.buffer ≡ [] → IsWriting (state_in new) now (synced j)
   sync_out now took named empty = record {
-    root = subst (λ (s : State). LiesInRoot s (synced j)) (sym (at_file (λ n. syncing_all n writer.buffer) took).state) (all_out_lies from writer j writing);
+    root = subst (λ (s : DiskState). LiesInRoot s (synced j)) (sym (at_file (λ n. syncing_all n writer.buffer) took).state) (all_out_lies from writer j writing);
     name = named ∙ writing.name;
     exact = empty;
   }

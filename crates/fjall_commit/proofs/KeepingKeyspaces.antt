@@ -6,7 +6,7 @@ use Rattle.std.specs.Fmt.{digit_glyph, digits, digits_onto}
 use Rattle.std.specs.Prelude.{not}
 use Rattle.std.specs.Str.{bytes_eq}
 use Rattle.std.specs.List.{AllByRecursion}
-use Rattle.fjall_base.specs.Disk.{Name, Entry, Place, State, Image, Survives, Leaves, Meaning, Step, Put, Append, Sync, Loosen, Cut, SyncFolder, Took, after, all_synced, alter, appended, change, cut_to, folder_of, loosened, put, settle, state_in}
+use Rattle.fjall_base.specs.Disk.{Name, DiskEntry, Place, DiskState, Image, Survives, Leaves, Meaning, DiskStep, Put, Append, Sync, Loosen, Cut, SyncFolder, Took, after, all_synced, alter, appended, change, cut_to, folder_of, loosened, put, settle, state_in}
 use Rattle.fjall_base.proofs.Names.{bool_cases, same}
 use Rattle.fjall_base.proofs.States.{alter-other, differs, put-other, settle-in, settle-out}
 use Rattle.fjall_files.specs.Names.{journal_name}
@@ -17,7 +17,7 @@ use Rattle.fjall_recovery.proofs.Named.{root_cases}
 use Rattle.fjall_commit.specs.Rotations.{KeepsSyncedKeyspaces}
 
 -- the step changes no name of `keyspaces`, or syncs the names of the root
-abbrev pub IsApart : Step → Type 0
+abbrev pub IsApart : DiskStep → Type 0
 IsApart (SyncFolder folder) = folder ≡ []
 IsApart step = is_of_keyspaces (target step) ≡ false
 
@@ -58,21 +58,21 @@ another name q out in_it = differs q name (λ e. true≢false (sym in_it ∙ ap 
 -- ---- places
 
 -- the folder itself is the one name of `keyspaces` that is in the root
-synced_root : (state : State) (q : Name) → is_of_keyspaces q ≡ true → (state (codes "keyspaces")).older ≡ [] → folder_of q ≡ [] → (state q).older ≡ []
+synced_root : (state : DiskState) (q : Name) → is_of_keyspaces q ≡ true → (state (codes "keyspaces")).older ≡ [] → folder_of q ≡ [] → (state q).older ≡ []
 synced_root state q in_it synced root = elim (root_cases q root) [
   | inl is ↦ absurd (true≢false (sym is ∙ ap not in_it))
   | inr at ↦ ap (λ (n : Name). (state n).older) at ∙ synced
 ]
 
-settle_keeps : (state : State) (q : Name) → (folder_of q ≡ [] → (state q).older ≡ []) → settle state [] q ≡ state q
+settle_keeps : (state : DiskState) (q : Name) → (folder_of q ≡ [] → (state q).older ≡ []) → settle state [] q ≡ state q
 settle_keeps state q synced = elim (bool_cases (bytes_eq (folder_of q) [])) [
   | inl is ↦
       let root = same {q = folder_of q} {r = []} is in
-      settle-in state [] q root ∙ ap (λ (older : List Entry). record { now = (state q).now; older = older }) (sym (synced root))
+      settle-in state [] q root ∙ ap (λ (older : List DiskEntry). record { now = (state q).now; older = older }) (sym (synced root))
   | inr not ↦ settle-out state [] q not
 ]
 
-step_keeps : (step : Step) (state : State) (q : Name) → IsApart step → is_of_keyspaces q ≡ true → (folder_of q ≡ [] → (state q).older ≡ []) → change step state q ≡ state q
+step_keeps : (step : DiskStep) (state : DiskState) (q : Name) → IsApart step → is_of_keyspaces q ≡ true → (folder_of q ≡ [] → (state q).older ≡ []) → change step state q ≡ state q
 step_keeps (Put name entry) state q out in_it synced = put-other state name entry q (another name q out in_it)
 step_keeps (Append name bytes) state q out in_it synced = alter-other state name (appended bytes) q (another name q out in_it)
 step_keeps (Sync name) state q out in_it synced = alter-other state name all_synced q (another name q out in_it)
@@ -80,19 +80,19 @@ step_keeps (Loosen name len) state q out in_it synced = alter-other state name (
 step_keeps (Cut name len) state q out in_it synced = alter-other state name (cut_to len) q (another name q out in_it)
 step_keeps (SyncFolder folder) state q out in_it synced = ap (λ (f : Name). settle state f q) out ∙ settle_keeps state q synced
 
-steps_keep : (steps : List Step) (state : State) (q : Name) → AllByRecursion IsApart steps → is_of_keyspaces q ≡ true → (folder_of q ≡ [] → (state q).older ≡ []) → after state steps q ≡ state q
+steps_keep : (steps : List DiskStep) (state : DiskState) (q : Name) → AllByRecursion IsApart steps → is_of_keyspaces q ≡ true → (folder_of q ≡ [] → (state q).older ≡ []) → after state steps q ≡ state q
 steps_keep [] state q apart in_it synced = refl
 steps_keep (step ∷ steps) state q apart in_it synced =
     let here = step_keeps step state q apart.0 in_it synced in
     steps_keep steps (change step state) q apart.1 in_it (λ root. ap (λ (p : Place). p.older) here ∙ synced root) ∙ here
 
-pub apart_keeps : (old new : Meaning) (steps : List Step) → Took old new steps → AllByRecursion IsApart steps → KeepsSyncedKeyspaces old new
+pub apart_keeps : (old new : Meaning) (steps : List DiskStep) → Took old new steps → AllByRecursion IsApart steps → KeepsSyncedKeyspaces old new
 apart_keeps old new steps took apart synced q in_it =
-    ap (λ (s : State). s q) took.state ∙ steps_keep steps (state_in old) q apart in_it (synced_root (state_in old) q in_it synced)
+    ap (λ (s : DiskState). s q) took.state ∙ steps_keep steps (state_in old) q apart in_it (synced_root (state_in old) q in_it synced)
 
 -- ---- images
 
-step_left : (step : Step) (state : State) (image : Image) → IsApart step → IsImageIn Survives is_of_keyspaces (change step state) image → IsImageIn Survives is_of_keyspaces state image
+step_left : (step : DiskStep) (state : DiskState) (image : Image) → IsApart step → IsImageIn Survives is_of_keyspaces (change step state) image → IsImageIn Survives is_of_keyspaces state image
 step_left (SyncFolder folder) state image out is = region_settle is_of_keyspaces state folder image is
 step_left (Put name entry) state image out is = region_along is_of_keyspaces state (put state name entry) image (λ q in_it. put-other state name entry q (another name q out in_it)) is
 step_left (Append name bytes) state image out is = region_along is_of_keyspaces state (alter state name (appended bytes)) image (λ q in_it. alter-other state name (appended bytes) q (another name q out in_it)) is
@@ -100,7 +100,7 @@ step_left (Sync name) state image out is = region_along is_of_keyspaces state (a
 step_left (Loosen name len) state image out is = region_along is_of_keyspaces state (alter state name (loosened len)) image (λ q in_it. alter-other state name (loosened len) q (another name q out in_it)) is
 step_left (Cut name len) state image out is = region_along is_of_keyspaces state (alter state name (cut_to len)) image (λ q in_it. alter-other state name (cut_to len) q (another name q out in_it)) is
 
-pub apart_left : (steps : List Step) (state : State) (image : Image) → AllByRecursion IsApart steps → Leaves state steps image → IsImageIn Survives is_of_keyspaces state image
+pub apart_left : (steps : List DiskStep) (state : DiskState) (image : Image) → AllByRecursion IsApart steps → Leaves state steps image → IsImageIn Survives is_of_keyspaces state image
 apart_left [] state image apart is = in_region is_of_keyspaces state image is
 apart_left (step ∷ steps) state image apart (inl now) = in_region is_of_keyspaces state image now
 apart_left (step ∷ steps) state image apart (inr later) = step_left step state image apart.0 (apart_left steps (change step state) image apart.1 later)

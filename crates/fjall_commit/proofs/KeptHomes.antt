@@ -1,17 +1,17 @@
 -- Keyspaces' homes stay in sight while the journal is written, and while another keyspace comes or goes.
-use Rattle.std.proofs.Common.{◌≡◌, ◌≢◌, inl, inr, ℕ, zero, suc, ◌<◌, ◌^◌, true, false, List, [], ◌∷◌, ◌++◌, take, Option, Result, Ok, Err, OnOk, OnErr, refl, sym, ◌∙◌, ap, subst, arith}
+use Rattle.std.proofs.Common.{◌≡◌, ◌≢◌, inl, inr, ℕ, zero, suc, ◌<◌, ◌^◌, true, false, List, [], ◌∷◌, ◌++◌, take, Option, Result, OnOk, OnErr, refl, sym, ◌∙◌, ap, subst, arith}
 use Rattle.std.proofs.lemmas.Bool.{true≢false}
 use Rattle.std.specs.List.{AllByRecursion}
 use Rattle.std.specs.Str.{bytes_eq}
 use Rattle.fjall_base.specs.declared.error.Error.{Error}
-use Rattle.fjall_base.specs.Disk.{Append, Cut, Entry, File, Folder, Loosen, Meaning, Missing, Name, Place, Put, State, Step, Sync, SyncFolder, Took, TookPart, after, all_synced, alter, appended, change, cut_to, loosened, making, state_in}
+use Rattle.fjall_base.specs.Disk.{Append, Cut, DiskEntry, DiskState, DiskStep, File, Folder, Loosen, Meaning, Missing, Name, Place, Put, Sync, SyncFolder, Took, TookPart, after, all_synced, alter, appended, change, cut_to, loosened, making, state_in}
 use Rattle.fjall_base.proofs.States.{alter-other, differs, put-other}
 use Rattle.fjall_files.specs.Names.{keyspace_folder}
 use Rattle.fjall_files.specs.Regions.{Within, is_under}
 use Rattle.fjall_files.proofs.Changes.{settle-now}
 use Rattle.fjall_journal.specs.declared.persist_mode.PersistMode.{PersistMode}
 use Rattle.fjall_journal.specs.Writer.{BatchTook, Journal, PersistTook, appending, batch_steps, making_file, making_synced, persist_steps}
-use Rattle.fjall_home.proofs.Naming.{other_folder}
+use Rattle.fjall_manifest.proofs.Naming.{other_folder}
 use Rattle.fjall_manager.specs.Journals.{Sealed}
 use Rattle.fjall_journal.specs.Rotations.{RotationTook, making_safe, rotating}
 use Rattle.fjall_recovery.specs.Halves.{is_of_keyspaces}
@@ -26,15 +26,12 @@ use Rattle.fjall_commit.proofs.UnnamedHomes.{others_stay, settled_now}
 
 -- ---- one after another
 
-pub homes_both : (old mid new : Meaning) → KeepsHomes old mid → KeepsHomes mid new → KeepsHomes old new
-homes_both old mid new first second id q under = second id q under ∙ first id q under
-
 pub others_both : (id : ℕ) (old mid new : Meaning) → KeepsOtherHomes id old mid → KeepsOtherHomes id mid new → KeepsOtherHomes id old new
 others_both id old mid new first second other some fits differ q under = second other some fits differ q under ∙ first other some fits differ q under
 
 -- nothing was done
 pub homes_none : (old new : Meaning) → Took old new [] → KeepsHomes old new
-homes_none old new took id q under = ap (λ (s : State). (s q).now) took.state
+homes_none old new took id q under = ap (λ (s : DiskState). (s q).now) took.state
 
 -- ---- the journal
 
@@ -58,17 +55,13 @@ module _ (writer : Journal) (old new : Meaning) (out : is_of_keyspaces writer.na
   unpersisted_homes now mode (inr (is, other, inl took)) = homes_but writer.name old new out (part_but old new writer.name writer.buffer (whole_part old new writer.name writer.buffer took))
   unpersisted_homes now mode (inr (is, other, inr took)) = persisted_homes mode took
 
-  pub sync_homes : {T : Type 0} (r : Result T Error) (now : Journal) (mode : PersistMode) → OnOk r (Took old new (persist_steps writer mode)) → OnErr r (PersistTook writer now mode old new) → KeepsHomes old new
-  sync_homes (Ok done) now mode took left = persisted_homes mode took
-  sync_homes (Err error) now mode took left = unpersisted_homes now mode left
-
 -- ---- a rotation
 
 -- steps elsewhere, and syncs of names
 elsewhere : (name q : Name) → is_of_keyspaces name ≡ false → is_of_keyspaces q ≡ true → bytes_eq q name ≡ false
 elsewhere name q out in_it = differs q name (λ e. true≢false (sym in_it ∙ ap is_of_keyspaces e ∙ out))
 
-step_sight : (step : Step) (state : State) (q : Name) → IsApart step → is_of_keyspaces q ≡ true → (change step state q).now ≡ (state q).now
+step_sight : (step : DiskStep) (state : DiskState) (q : Name) → IsApart step → is_of_keyspaces q ≡ true → (change step state q).now ≡ (state q).now
 step_sight (Put name entry) state q out in_it = ap (λ (p : Place). p.now) (put-other state name entry q (elsewhere name q out in_it))
 step_sight (Append name bytes) state q out in_it = ap (λ (p : Place). p.now) (alter-other state name (appended bytes) q (elsewhere name q out in_it))
 step_sight (Sync name) state q out in_it = ap (λ (p : Place). p.now) (alter-other state name all_synced q (elsewhere name q out in_it))
@@ -76,18 +69,18 @@ step_sight (Loosen name len) state q out in_it = ap (λ (p : Place). p.now) (alt
 step_sight (Cut name len) state q out in_it = ap (λ (p : Place). p.now) (alter-other state name (cut_to len) q (elsewhere name q out in_it))
 step_sight (SyncFolder folder) state q out in_it = settle-now state folder q
 
-steps_sight : (steps : List Step) (state : State) (q : Name) → AllByRecursion IsApart steps → is_of_keyspaces q ≡ true → (after state steps q).now ≡ (state q).now
+steps_sight : (steps : List DiskStep) (state : DiskState) (q : Name) → AllByRecursion IsApart steps → is_of_keyspaces q ≡ true → (after state steps q).now ≡ (state q).now
 steps_sight [] state q apart in_it = refl
 steps_sight (step ∷ steps) state q apart in_it = steps_sight steps (change step state) q apart.1 in_it ∙ step_sight step state q apart.0 in_it
 
-apart_homes : (old new : Meaning) (steps : List Step) → Took old new steps → AllByRecursion IsApart steps → KeepsHomes old new
-apart_homes old new steps took apart id q under = ap (λ (s : State). (s q).now) took.state ∙ steps_sight steps (state_in old) q apart (under_within id q under)
+apart_homes : (old new : Meaning) (steps : List DiskStep) → Took old new steps → AllByRecursion IsApart steps → KeepsHomes old new
+apart_homes old new steps took apart id q under = ap (λ (s : DiskState). (s q).now) took.state ∙ steps_sight steps (state_in old) q apart (under_within id q under)
 
-all_both : (first then : List Step) → AllByRecursion IsApart first → AllByRecursion IsApart then → AllByRecursion IsApart (first ++ then)
+all_both : (first then : List DiskStep) → AllByRecursion IsApart first → AllByRecursion IsApart then → AllByRecursion IsApart (first ++ then)
 all_both [] then a b = b
 all_both (step ∷ first) then a b = (a.0, all_both first then a.1 b)
 
-all_taken : (n : ℕ) (steps : List Step) → AllByRecursion IsApart steps → AllByRecursion IsApart (take n steps)
+all_taken : (n : ℕ) (steps : List DiskStep) → AllByRecursion IsApart steps → AllByRecursion IsApart (take n steps)
 all_taken zero steps all = tt
 all_taken (suc n) [] all = tt
 all_taken (suc n) (step ∷ steps) all = (all.0, all_taken n steps all.1)
@@ -96,7 +89,7 @@ appending_apart : (name : Name) (bytes : List ℕ) → is_of_keyspaces name ≡ 
 appending_apart name [] out = tt
 appending_apart name (b ∷ bytes) out = (out, tt)
 
-making_apart : (name : Name) (entry there : Entry) → is_of_keyspaces name ≡ false → AllByRecursion IsApart (making name entry there)
+making_apart : (name : Name) (entry there : DiskEntry) → is_of_keyspaces name ≡ false → AllByRecursion IsApart (making name entry there)
 making_apart name entry Missing out = (out, tt)
 making_apart name entry (File synced unsynced) out = tt
 making_apart name entry Folder out = tt

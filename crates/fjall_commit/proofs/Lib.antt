@@ -1,22 +1,22 @@
-pub mod CatalogChange
-pub mod NextKeyspaces
-pub mod UnnamedHomes
-pub mod ServableCreations
+mod CatalogChange
+mod NextKeyspaces
+mod UnnamedHomes
+mod ServableCreations
 pub mod Batches
 pub mod AppendsAndSyncs
-pub mod SyncedNames
+mod SyncedNames
 pub mod RootAfterWrites
 pub mod CrashesInWrites
 pub mod BatchAppends
-pub mod CommandAppends
-pub mod Results
-pub mod JournalFile
+mod CommandAppends
+mod Results
+mod JournalFile
 pub mod TidyWrites
 pub mod ChangesAfterSync
-pub mod ComingAndGoing
+mod ComingAndGoing
 pub mod KeepingKeyspaces
 pub mod KeptHomes
-pub mod CrashesInRotations
+mod CrashesInRotations
 pub mod CrashesInEvictions
 pub mod StoredJournals
 pub mod MarkedJournals

@@ -9,14 +9,14 @@ use Rattle.fjall_contents.specs.Contents.{counts_beyond, is_beyond}
 use Rattle.fjall_journal.specs.Batches.{Shown, Written, shown}
 use Rattle.fjall_journal.specs.declared.batch.ReadBatchItem.{ReadBatchItem}
 use Rattle.fjall_manager.specs.Journals.{Sealed, going, may_go, staying}
-use Rattle.fjall_manager.specs.Marks.{Marks, all_flushed, lsn_of, raised}
+use Rattle.fjall_manager.specs.Marks.{JournalMarks, all_flushed, lsn_of, raised_mark}
 use Rattle.fjall_meta.specs.declared.living.LivingKeyspace.{LivingKeyspace}
 use Rattle.fjall_meta.specs.Keyspaces.{keyspace_at}
 use Rattle.fjall_recovery.specs.Halves.{Tree}
 use Rattle.fjall_recovery.specs.Homes.{stored_in}
-use Rattle.fjall_recovery.specs.Journals.{Journal, batches_in}
+use Rattle.fjall_recovery.specs.Journals.{WholeJournal, batches_in}
 use Rattle.fjall_recovery.proofs.Roots.{all_behind, all_both, all_front}
-use Rattle.fjall_versions.specs.Replays.{counts}
+use Rattle.fjall_contents.specs.Replays.{counts}
 use Rattle.fjall_commit.specs.Watermarks.{AreMarked, AreMarksOf, AreStored, IsStored, TellsTrue, changed_by, greatest, is_among}
 
 -- ---- bits
@@ -82,23 +82,23 @@ abbrev AtMost : Option ℕ → ℕ → Type 0
 AtMost None number = ⊥
 AtMost (Some lsn) number = number ≤ lsn
 
-raised_own : (o : Option ℕ) (number : ℕ) → AtMost (raised o number) number
+raised_own : (o : Option ℕ) (number : ℕ) → AtMost (raised_mark o number) number
 raised_own None number = omega arith
 raised_own (Some lsn) number = omega arith
 
-raised_more : (o : Option ℕ) (number other : ℕ) → AtMost o other → AtMost (raised o number) other
+raised_more : (o : Option ℕ) (number other : ℕ) → AtMost o other → AtMost (raised_mark o number) other
 raised_more None number other most = absurd most
 raised_more (Some lsn) number other most = omega (arith, most)
 
 more : (b : Shown) (batches : List Shown) (id number : ℕ) → AtMost (greatest id batches) number → AtMost (greatest id (b ∷ batches)) number
 more b batches id number most = by (is_among id (changed_by b))
   where
-    by : (test : Bool) → AtMost (cond test (raised (greatest id batches) b.number) (greatest id batches)) number
+    by : (test : Bool) → AtMost (cond test (raised_mark (greatest id batches) b.number) (greatest id batches)) number
     by true = raised_more (greatest id batches) b.number number most
     by false = most
 
 own : (b : Shown) (batches : List Shown) (id : ℕ) → is_among id (changed_by b) ≡ true → AtMost (greatest id (b ∷ batches)) b.number
-own b batches id is = subst (λ (test : Bool). AtMost (cond test (raised (greatest id batches) b.number) (greatest id batches)) b.number) (sym is) (raised_own (greatest id batches) b.number)
+own b batches id is = subst (λ (test : Bool). AtMost (cond test (raised_mark (greatest id batches) b.number) (greatest id batches)) b.number) (sym is) (raised_own (greatest id batches) b.number)
 
 abbrev IsCovered : List Shown → Shown → Type 0
 IsCovered batches b = (id : ℕ) → is_among id (changed_by b) ≡ true → AtMost (greatest id batches) b.number
@@ -112,7 +112,7 @@ all_covered (b ∷ batches) = (
 
 -- ---- what is flushed
 
-marked_flushed : (flushed : ℕ → ℕ → Bool) (marks : Marks) (id lsn : ℕ) → lsn_of marks id ≡ Some lsn → all_flushed flushed marks ≡ true → flushed id lsn ≡ true
+marked_flushed : (flushed : ℕ → ℕ → Bool) (marks : JournalMarks) (id lsn : ℕ) → lsn_of marks id ≡ Some lsn → all_flushed flushed marks ≡ true → flushed id lsn ≡ true
 marked_flushed flushed [] id lsn at all = let no : None ≡ Some lsn = at in cc
 marked_flushed flushed (mark ∷ marks) id lsn at all = by (marked_flushed flushed marks id lsn) (nat_eq id mark.0) refl at
   where
@@ -136,12 +136,12 @@ module _ (flushed : ℕ → ℕ → Bool) (t : Tree) (true_told : TellsTrue flus
       and_none (counts t.keyspaces number id) (is_beyond (stored_in t.homes t.versions id).persisted number) (within_less (stored_in t.homes t.versions id).persisted lsn number le within)
 
   -- where the watermark is flushed nothing up to it counts
-  out : (marks : Marks) (id number : ℕ) (greatest_one : Option ℕ) → all_flushed flushed marks ≡ true → lsn_of marks id ≡ greatest_one → AtMost greatest_one number
+  out : (marks : JournalMarks) (id number : ℕ) (greatest_one : Option ℕ) → all_flushed flushed marks ≡ true → lsn_of marks id ≡ greatest_one → AtMost greatest_one number
       → counts_beyond t.keyspaces (stored_in t.homes t.versions) number id ≡ false
   out marks id number None all at most = absurd most
   out marks id number (Some lsn) all at most = out_by id number lsn most (true_told id lsn (marked_flushed flushed marks id lsn at all))
 
-  pub one_stored : (marks : Marks) (batches : List Shown) → AreMarksOf batches marks → all_flushed flushed marks ≡ true → AllByRecursion (IsStored t.keyspaces (stored_in t.homes t.versions)) batches
+  pub one_stored : (marks : JournalMarks) (batches : List Shown) → AreMarksOf batches marks → all_flushed flushed marks ≡ true → AllByRecursion (IsStored t.keyspaces (stored_in t.homes t.versions)) batches
   one_stored marks batches are all = all_weaker (IsCovered batches) (IsStored t.keyspaces (stored_in t.homes t.versions)) batches stored (all_covered batches)
     where
       stored : (b : Shown) → IsCovered batches b → IsStored t.keyspaces (stored_in t.homes t.versions) b
@@ -153,7 +153,7 @@ module _ (flushed : ℕ → ℕ → Bool) (t : Tree) (true_told : TellsTrue flus
       )
 
   -- the first of them, where there is one, and those behind it
-  first_stored : (s : Sealed) (sealed : List Sealed) (j : Journal) (later : List Written) (n : ℕ) → AreMarksOf (map shown j.batches) s.watermarks
+  first_stored : (s : Sealed) (sealed : List Sealed) (j : WholeJournal) (later : List Written) (n : ℕ) → AreMarksOf (map shown j.batches) s.watermarks
       → (n ≤ length (going flushed sealed) → AreStored t later) → suc n ≤ length (going flushed (s ∷ sealed)) → AreStored t (j.batches ++ later)
   first_stored s sealed j later n marks behind few = by (may_go flushed s) refl few
     where
@@ -165,7 +165,7 @@ module _ (flushed : ℕ → ℕ → Bool) (t : Tree) (true_told : TellsTrue flus
           (one_stored s.watermarks (map shown j.batches) marks goes) (behind (omega (arith, some))))
 
   -- those that go, and any beginning of them
-  pub all_stored : (sealed : List Sealed) (journals : List Journal) (n : ℕ) → AreMarked sealed journals → n ≤ length (going flushed sealed) → AreStored t (batches_in (take n journals))
+  pub all_stored : (sealed : List Sealed) (journals : List WholeJournal) (n : ℕ) → AreMarked sealed journals → n ≤ length (going flushed sealed) → AreStored t (batches_in (take n journals))
   all_stored sealed journals zero marked few = tt
   all_stored [] journals (suc n) marked few = absurd (omega (arith, few))
   all_stored (s ∷ sealed) [] (suc n) marked few = absurd marked
@@ -173,20 +173,20 @@ module _ (flushed : ℕ → ℕ → Bool) (t : Tree) (true_told : TellsTrue flus
 
 -- ---- the list
 
-pub marked_ids : (sealed : List Sealed) (journals : List Journal) → AreMarked sealed journals → map (λ (s : Sealed). s.id) sealed ≡ map (λ (j : Journal). j.id) journals
+pub marked_ids : (sealed : List Sealed) (journals : List WholeJournal) → AreMarked sealed journals → map (λ (s : Sealed). s.id) sealed ≡ map (λ (j : WholeJournal). j.id) journals
 marked_ids [] [] marked = refl
 marked_ids [] (j ∷ journals) marked = absurd marked
 marked_ids (s ∷ sealed) [] marked = absurd marked
 marked_ids (s ∷ sealed) (j ∷ journals) marked = λ i. marked.0 i ∷ marked_ids sealed journals marked.2 i
 
-pub marked_more : (sealed : List Sealed) (journals : List Journal) (s : Sealed) (j : Journal) → AreMarked sealed journals → s.id ≡ j.id → AreMarksOf (map shown j.batches) s.watermarks
+pub marked_more : (sealed : List Sealed) (journals : List WholeJournal) (s : Sealed) (j : WholeJournal) → AreMarked sealed journals → s.id ≡ j.id → AreMarksOf (map shown j.batches) s.watermarks
     → AreMarked (sealed ++ s ∷ []) (journals ++ j ∷ [])
 marked_more [] [] s j marked same marks = (same, marks, tt)
 marked_more [] (k ∷ journals) s j marked same marks = absurd marked
 marked_more (r ∷ sealed) [] s j marked same marks = absurd marked
 marked_more (r ∷ sealed) (k ∷ journals) s j marked same marks = (marked.0, marked.1, marked_more sealed journals s j marked.2 same marks)
 
-pub marked_left : (flushed : ℕ → ℕ → Bool) (sealed : List Sealed) (journals : List Journal) → AreMarked sealed journals → AreMarked (staying flushed sealed) (drop (length (going flushed sealed)) journals)
+pub marked_left : (flushed : ℕ → ℕ → Bool) (sealed : List Sealed) (journals : List WholeJournal) → AreMarked sealed journals → AreMarked (staying flushed sealed) (drop (length (going flushed sealed)) journals)
 marked_left flushed [] journals marked = marked
 marked_left flushed (s ∷ sealed) [] marked = absurd marked
 marked_left flushed (s ∷ sealed) (j ∷ journals) marked = by (marked_left flushed sealed journals marked.2) (may_go flushed s)

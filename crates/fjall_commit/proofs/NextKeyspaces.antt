@@ -4,8 +4,8 @@ use Rattle.std.specs.Cmp.{nat_cmp_total}
 use Rattle.std.specs.FinMap.{get, insert, remove, get-remove}
 use Rattle.std.proofs.lemmas.Bool.Decides.{nat_tests}
 use Rattle.std.proofs.lemmas.List.Elements.{All-filter, All-nil, All-push, All-weaker}
-use Rattle.fjall_base.specs.Disk.{State}
-use Rattle.fjall_tree.specs.Records.{Fields}
+use Rattle.fjall_base.specs.Disk.{DiskState}
+use Rattle.fjall_manifest.specs.Records.{Fields}
 use Rattle.fjall_meta.specs.declared.living.LivingKeyspace.{LivingKeyspace}
 use Rattle.fjall_meta.specs.Keyspaces.{AreKeyspaces, Keyspaces, keyspace_at, with_keyspace, without_keyspace}
 use Rattle.fjall_meta.proofs.Changes.{some_are}
@@ -14,10 +14,10 @@ use Rattle.fjall_catalog.specs.declared.update.Update.{Update}
 use Rattle.fjall_catalog.specs.Catalog.{fields, first_of}
 use Rattle.fjall_catalog.specs.Updates.{IsUpdate}
 use Rattle.fjall_recovery.specs.Folders.{AreMade, past, past_record}
-use Rattle.fjall_home.specs.Homes.{Home}
+use Rattle.fjall_manifest.specs.Homes.{Home}
 use Rattle.fjall_contents.specs.Contents.{is_beyond}
-use Rattle.fjall_versions.proofs.Living.{found_new, found_other, found_without, none_found}
-use Rattle.fjall_versions.proofs.Slots.{get_put, same_id, ties}
+use Rattle.fjall_contents.proofs.Living.{found_new, found_other, found_without, none_found}
+use Rattle.fjall_contents.proofs.Slots.{get_put, same_id, ties}
 use Rattle.fjall_recovery.specs.Halves.{Tree}
 use Rattle.fjall_recovery.specs.Homes.{Homes, ClearsAreWithin}
 use Rattle.fjall_recovery.specs.Places.{HasSafeHome, HasSafeHomeAt, HaveSafeHomes, LiesInTree}
@@ -27,7 +27,7 @@ use Rattle.fjall_commit.specs.Removals.{IsUnused}
 
 -- ---- homes by id
 
-module _ (state : State) (living : List LivingKeyspace) (homes : Homes) (safe : HaveSafeHomes state living homes) where
+module _ (state : DiskState) (living : List LivingKeyspace) (homes : Homes) (safe : HaveSafeHomes state living homes) where
   -- what stands at an id, by what is found there
   home_as : (id : ℕ) (j k : Option LivingKeyspace) (g h : Option Home) → j ≡ k → g ≡ h → HasSafeHomeAt state id k h → HasSafeHomeAt state id j g
   home_as id j k g h at at_home has =
@@ -76,7 +76,7 @@ past_next old s number u is =
 made_still : (last next : Catalog) (s : Keyspaces) (number : ℕ) → AreMade last s → past_record (fields last) ≤ number → number < past_record (fields next) → AreMade next s
 made_still last next s number made below above = All-weaker (λ (k : LivingKeyspace). k.number < past_record (fields last)) (λ (k : LivingKeyspace). k.number < past_record (fields next)) (λ k is. omega (arith, is, below, above)) s.living made
 
-module _ (state : State) (records : List Fields) (t : Tree) (lies : LiesInTree state records t) (number : ℕ) (later : past_record (fields t.last) ≤ number) where
+module _ (state : DiskState) (records : List Fields) (t : Tree) (lies : LiesInTree state records t) (number : ℕ) (later : past_record (fields t.last) ≤ number) where
   pub without_housed : (id : ℕ) (u : Update) → IsUpdate t.last (without_keyspace id t.keyspaces) number u → AreHoused state (without_home id u.catalog t)
   without_housed id u is = record {
     are = some_are t.keyspaces.living t.keyspaces.next (λ k. not (k.id == id)) lies.rests.catalog.are;
@@ -98,7 +98,7 @@ module _ (state : State) (records : List Fields) (t : Tree) (lies : LiesInTree s
       }
 
 -- the next id is no living keyspace's
-pub next_unused : (state : State) (records : List Fields) (t : Tree) → LiesInTree state records t → t.keyspaces.next < 2 ^ 64 → IsUnused t.keyspaces.next t.keyspaces
+pub next_unused : (state : DiskState) (records : List Fields) (t : Tree) → LiesInTree state records t → t.keyspaces.next < 2 ^ 64 → IsUnused t.keyspaces.next t.keyspaces
 next_unused state records t lies fits =
     let are = lies.rests.catalog.are in
     record { positive = are.begun; fits = fits; unused = λ k d lt e. let given = are.given k d lt in omega (arith, given, e) }

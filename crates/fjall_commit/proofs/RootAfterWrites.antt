@@ -9,13 +9,13 @@ use Rattle.std.proofs.lemmas.Fmt.{decimal_injective}
 use Rattle.std.proofs.Math.Seq.{take-append-add, take-append_seam}
 use Rattle.std.specs.List.{AllByRecursion, AllPairs, list_any}
 use Rattle.std.specs.List.Sorted.{IsStrictlyIncreasing}
-use Rattle.fjall_base.specs.Disk.{Name, File, State}
+use Rattle.fjall_base.specs.Disk.{Name, File, DiskState}
 use Rattle.fjall_files.specs.Regions.{IsSafe}
 use Rattle.fjall_journal.specs.Batches.{Written, IsWritten, shown}
 use Rattle.fjall_journal.specs.Writer as journal
 use Rattle.fjall_files.specs.Names.{journal_name}
-use Rattle.fjall_versions.specs.Replays.{first_fault}
-use Rattle.fjall_recovery.specs.Journals.{Journal, batches_in}
+use Rattle.fjall_contents.specs.Replays.{first_fault}
+use Rattle.fjall_recovery.specs.Journals.{WholeJournal, batches_in}
 use Rattle.fjall_recovery.specs.Places.{Journaling, LiesInRoot, IsNeverFile, journal_ids, journals_with, texts_of}
 use Rattle.fjall_recovery.proofs.Roots.{all_both, batches_are}
 use Rattle.fjall_commit.specs.Journaling.{IsWriting, handed, synced}
@@ -43,7 +43,7 @@ same_id id other small little e = decimal_injective id other small little (appen
 
 -- ---- ids
 
-abbrev pub ids_of : List Journal → List ℕ
+abbrev pub ids_of : List WholeJournal → List ℕ
 ids_of journals = map (λ journal. journal.id) journals
 
 pub last_of_all : (P : ℕ → Type 0) (ids : List ℕ) (last : ℕ) → All P (ids ++ last ∷ []) → P last
@@ -51,7 +51,7 @@ last_of_all P [] last all = all 0 0 (omega arith)
 last_of_all P (id ∷ ids) last all = last_of_all P ids last (All-tail P id (ids ++ last ∷ []) all)
 
 -- each of them has this and is below the last
-pub below_last : (P : ℕ → Type 0) (front : List Journal) (last : ℕ) → AllPairs (λ x y. x < y) (ids_of front ++ last ∷ []) → All P (ids_of front ++ last ∷ []) → AllByRecursion (λ k. P k.id × (k.id < last)) front
+pub below_last : (P : ℕ → Type 0) (front : List WholeJournal) (last : ℕ) → AllPairs (λ x y. x < y) (ids_of front ++ last ∷ []) → All P (ids_of front ++ last ∷ []) → AllByRecursion (λ k. P k.id × (k.id < last)) front
 below_last P [] last ascends each = tt
 below_last P (k ∷ front) last ascends each = (
   (All-head P k.id (ids_of front ++ last ∷ []) each, last_of_all (λ y. k.id < y) (ids_of front) last (λ i d within. ascends zero (suc i) d (omega arith) (omega arith))),
@@ -59,11 +59,11 @@ below_last P (k ∷ front) last ascends each = (
 )
 
 -- none of these journals' files has this name
-abbrev pub AreOthers : Name → List Journal → Type 0
+abbrev pub AreOthers : Name → List WholeJournal → Type 0
 AreOthers name journals = AllByRecursion (λ k. journal_name k.id ≢ name) journals
 
 -- what was safe under other names still is
-pub still_safe : (state new : State) (name : Name) (front : List Journal) → NarrowsBut name state new → AreOthers name front
+pub still_safe : (state new : DiskState) (name : Name) (front : List WholeJournal) → NarrowsBut name state new → AreOthers name front
     → AllByRecursion (λ k. IsSafe state (journal_name k.id) (texts_of k.batches)) front → AllByRecursion (λ k. IsSafe new (journal_name k.id) (texts_of k.batches)) front
 still_safe state new name [] same others safe = tt
 still_safe state new name (k ∷ front) same others safe = (
@@ -72,7 +72,7 @@ still_safe state new name (k ∷ front) same others safe = (
 )
 
 -- journals of lesser ids have other names
-pub lesser_others : (last : ℕ) (front : List Journal) → last < 2 ^ 64 → AllByRecursion (λ k. (k.id < 2 ^ 64) × (k.id < last)) front → AreOthers (journal_name last) front
+pub lesser_others : (last : ℕ) (front : List WholeJournal) → last < 2 ^ 64 → AllByRecursion (λ k. (k.id < 2 ^ 64) × (k.id < last)) front → AreOthers (journal_name last) front
 lesser_others last [] small below = tt
 lesser_others last (k ∷ front) small below = (
   (λ e. let is = same_id k.id last below.0.0 small e in let lt = below.0.1 in absurd (omega (arith, is, lt))),
@@ -80,10 +80,10 @@ lesser_others last (k ∷ front) small below = (
 )
 
 -- the ids of all journals, whatever the batches of the active one
-pub ids_are : (front : List Journal) (active : ℕ) (batches : List Written) → ids_of (front ++ record { id = active; batches = batches } ∷ []) ≡ ids_of front ++ active ∷ []
-ids_are front active batches = map-append (λ (k : Journal). k.id) front (record { id = active; batches = batches } ∷ [])
+pub ids_are : (front : List WholeJournal) (active : ℕ) (batches : List Written) → ids_of (front ++ record { id = active; batches = batches } ∷ []) ≡ ids_of front ++ active ∷ []
+ids_are front active batches = map-append (λ (k : WholeJournal). k.id) front (record { id = active; batches = batches } ∷ [])
 
-pub active_fits : (state : State) (j : Journaling) → LiesInRoot state j → j.active < 2 ^ 64
+pub active_fits : (state : DiskState) (j : Journaling) → LiesInRoot state j → j.active < 2 ^ 64
 active_fits state j lies = last_of_all (λ id. id < 2 ^ 64) (ids_of j.sealed) j.active (subst (All (λ id. id < 2 ^ 64)) (ids_are j.sealed j.active (j.whole ++ [])) lies.fit)
 
 -- ---- the root
@@ -92,7 +92,7 @@ active_fits state j lies = last_of_all (λ id. id < 2 ^ 64) (ids_of j.sealed) j.
 abbrev pub with_active : Journaling → List Written → List Written → ℕ → Journaling
 with_active j whole later cut = record j { whole = whole; later = later; cut = cut }
 
-pub moved : (state new : State) (j : Journaling) (whole later : List Written) (cut : ℕ) → LiesInRoot state j → SameBut (journal_name j.active) state new
+pub moved : (state new : DiskState) (j : Journaling) (whole later : List Written) (cut : ℕ) → LiesInRoot state j → SameBut (journal_name j.active) state new
     → new (journal_name j.active) ≡ place_of (texts_of whole) (take cut (texts_of later))
     → AllByRecursion IsWritten (batches_in j.sealed ++ (whole ++ later)) → first_fault 0 (map shown (batches_in j.sealed ++ (whole ++ later))) ≡ None
     → LiesInRoot new (with_active j whole later cut)
@@ -129,7 +129,7 @@ behind_part : (part buffer all more : List ℕ) (n : ℕ) → part ++ buffer ≡
 behind_part part buffer all more n is =
     ap (λ (l : List ℕ). take (length part + n) (l ++ more)) (sym is) ∙ ap (take (length part + n)) (append_assoc part buffer more) ∙ take-append-add part (buffer ++ more) n
 
-module _ (state new : State) (writer : journal.Journal) (j : Journaling) (more : List Written) (writing : IsWriting state writer j) (each : AllByRecursion IsWritten more)
+module _ (state new : DiskState) (writer : journal.Journal) (j : Journaling) (more : List Written) (writing : IsWriting state writer j) (each : AllByRecursion IsWritten more)
     (sound : first_fault 0 (map shown (batches_in (journals_with j (j.later ++ more)))) ≡ None) (same : SameBut (journal_name j.active) state new) where
   abbrev part : List ℕ
   part = take j.cut (texts_of j.later)
@@ -175,7 +175,7 @@ module _ (state new : State) (writer : journal.Journal) (j : Journaling) (more :
       }
 
 -- a writer with nothing in its buffer, where all are synced
-pub begins : (state : State) (writer : journal.Journal) (j : Journaling) → LiesInRoot state j → j.later ≡ [] → writer.name ≡ journal_name j.active → writer.buffer ≡ [] → IsWriting state writer j
+pub begins : (state : DiskState) (writer : journal.Journal) (j : Journaling) → LiesInRoot state j → j.later ≡ [] → writer.name ≡ journal_name j.active → writer.buffer ≡ [] → IsWriting state writer j
 begins state writer j lies none named empty =
     let none_out : take j.cut (texts_of []) ≡ texts_of [] = take_all j.cut [] (omega arith) in
     record {
@@ -186,7 +186,7 @@ begins state writer j lies none named empty =
 
 -- ---- all of them synced
 
-pub synced_lies : (state new : State) (j : Journaling) → LiesInRoot state j → SameBut (journal_name j.active) state new → new (journal_name j.active) ≡ place_of (texts_of j.whole ++ texts_of j.later) [] → LiesInRoot new (synced j)
+pub synced_lies : (state new : DiskState) (j : Journaling) → LiesInRoot state j → SameBut (journal_name j.active) state new → new (journal_name j.active) ≡ place_of (texts_of j.whole ++ texts_of j.later) [] → LiesInRoot new (synced j)
 synced_lies state new j lies same place =
     let all = j.whole ++ j.later in
     let batches : batches_in (journals_with j j.later) ≡ batches_in j.sealed ++ (all ++ []) =

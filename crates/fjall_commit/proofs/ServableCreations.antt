@@ -1,21 +1,21 @@
 -- Which calls of a creation a disk can serve.
 use Rattle.std.proofs.Common.{◌≡◌, inr, ℕ, false, List, [], codes, refl, sym, ◌∙◌, ap, subst}
-use Rattle.fjall_base.specs.Disk.{Name, Entry, Missing, File, Folder, Place, State, Meaning, Took, CanCreate, CanMakeFolder, IsNoFile, IsNoFolder, IsThere, folder_of, removing, standing, state_in}
+use Rattle.fjall_base.specs.Disk.{Name, DiskEntry, Missing, File, Folder, Place, DiskState, Meaning, Took, CanCreate, CanMakeFolder, IsNoFile, IsNoFolder, IsThere, folder_of, removing, standing, state_in}
 use Rattle.fjall_base.proofs.States.{put-now}
 use Rattle.fjall_files.specs.Regions.{Within, is_under}
 use Rattle.fjall_files.proofs.Changes.{within_state}
 use Rattle.fjall_files.proofs.Made.{removing_within}
 use Rattle.fjall_files.proofs.Under.{folder_is_shorter, shorter_out, under_self}
-use Rattle.fjall_tree.specs.Records.{Fields}
+use Rattle.fjall_manifest.specs.Records.{Fields}
 use Rattle.fjall_files.specs.Names.{keyspace_folder}
 use Rattle.fjall_recovery.specs.Halves.{Tree}
 use Rattle.fjall_recovery.specs.Places.{LiesInTree}
-use Rattle.fjall_commit.specs.Changes.{HasRoom}
-use Rattle.fjall_home.proofs.Naming.{some_folder}
+use Rattle.fjall_commit.specs.Changes.{HasRoomForKeyspace}
+use Rattle.fjall_manifest.proofs.Naming.{some_folder}
 
-removed_kind : (file : Name) (m1 m2 : Meaning) (there : Entry) → (state_in m1 file).now ≡ there → IsNoFolder there → Took m1 m2 (removing file there) → IsNoFolder (state_in m2 file).now
-removed_kind file m1 m2 Missing is kind took = subst (λ (e : Entry). IsNoFolder e) (sym (ap (λ (s : State). (s file).now) took.state ∙ is)) tt
-removed_kind file m1 m2 (File synced unsynced) is kind took = subst (λ (e : Entry). IsNoFolder e) (sym (put-now (state_in m1) (state_in m2) file Missing took.state)) tt
+removed_kind : (file : Name) (m1 m2 : Meaning) (there : DiskEntry) → (state_in m1 file).now ≡ there → IsNoFolder there → Took m1 m2 (removing file there) → IsNoFolder (state_in m2 file).now
+removed_kind file m1 m2 Missing is kind took = subst (λ (e : DiskEntry). IsNoFolder e) (sym (ap (λ (s : DiskState). (s file).now) took.state ∙ is)) tt
+removed_kind file m1 m2 (File synced unsynced) is kind took = subst (λ (e : DiskEntry). IsNoFolder e) (sym (put-now (state_in m1) (state_in m2) file Missing took.state)) tt
 removed_kind file m1 m2 Folder is kind took = absurd kind
 
 -- once the file of before is removed, it can be made in the folder that stands there
@@ -29,7 +29,7 @@ still_can folder file inside some m1 m2 took there can =
       kind = removed_kind file m1 m2 (state_in m1 file).now refl can.kind took;
     }
 
-pub can_make_home : (id : ℕ) (folder : Name) → folder ≡ keyspace_folder id → folder_of (keyspace_folder id) ≡ codes "keyspaces" → (state : State) (records : List Fields) (t : Tree) → LiesInTree state records t → HasRoom state id → CanMakeFolder state folder
+pub can_make_home : (id : ℕ) (folder : Name) → folder ≡ keyspace_folder id → folder_of (keyspace_folder id) ≡ codes "keyspaces" → (state : DiskState) (records : List Fields) (t : Tree) → LiesInTree state records t → HasRoomForKeyspace state id → CanMakeFolder state folder
 can_make_home id folder at inside state records t lies room = record {
   named = λ e. some_folder id (sym at ∙ e);
   housed = subst (λ (f : Name). IsThere (standing state) f) (sym (ap (λ (n : Name). folder_of n) at ∙ inside)) (inr (ap (λ (p : Place). p.now) lies.rests.catalog.home.keyspaces_folder));

@@ -14,16 +14,16 @@ use Rattle.fjall_contents.proofs.Held.{same_stores}
 use Rattle.fjall_journal.specs.Batches.{Shown, Written, shown}
 use Rattle.fjall_journal.specs.declared.batch.ReadBatchItem.{ReadBatchItem}
 use Rattle.fjall_meta.specs.Keyspaces.{Keyspaces}
-use Rattle.fjall_recovery.specs.Folders.{number_of, past_records, store_of}
+use Rattle.fjall_recovery.specs.Folders.{number_of_contents, past_records, store_of_contents}
 use Rattle.fjall_recovery.specs.Halves.{Tree}
 use Rattle.fjall_recovery.specs.Homes.{lasts, stored_in}
-use Rattle.fjall_recovery.specs.Journals.{Journal, batches_in}
+use Rattle.fjall_recovery.specs.Journals.{WholeJournal, batches_in}
 use Rattle.fjall_recovery.specs.Places.{Journaling, contents_with, journals_with}
 use Rattle.fjall_recovery.proofs.Roots.{batches_are}
 use Rattle.fjall_table.specs.Blocks.{Entry}
-use Rattle.fjall_versions.specs.Replays.{first_fault, least_after}
-use Rattle.fjall_versions.specs.Views.{clear_in, clears_of, entries_in, entry_of, versions_of}
-use Rattle.fjall_versions.proofs.Faults.{least_after-append}
+use Rattle.fjall_contents.specs.Replays.{first_fault, least_after}
+use Rattle.fjall_contents.specs.Views.{clear_in, clears_of, entries_in, entry_of, versions_of}
+use Rattle.fjall_contents.proofs.Faults.{least_after-append}
 use Rattle.fjall_views.specs.Views.{view_of}
 use Rattle.fjall_commit.specs.Evictions.{evicted}
 use Rattle.fjall_commit.specs.Journaling.{CanFollow, next_number}
@@ -39,10 +39,10 @@ rotated_batches j = batches-rotated j.sealed j.active (j.whole ++ j.later) ∙ s
 pub rotated_next : (j : Journaling) → next_number (rotated j) ≡ next_number j
 rotated_next j = ap (λ (l : List Written). least_after 0 (map shown l)) (rotated_batches j)
 
-pub rotated_store : (j : Journaling) (t : Tree) → store_of (contents_with (rotated j) t []) ≡ store_of (contents_with j t j.later)
+pub rotated_store : (j : Journaling) (t : Tree) → store_of_contents (contents_with (rotated j) t []) ≡ store_of_contents (contents_with j t j.later)
 rotated_store j t = ap (λ (l : List Written). store_held t.keyspaces (stored_in t.homes t.versions) (map shown l)) (rotated_batches j)
 
-pub rotated_number : (j : Journaling) (t : Tree) → number_of (contents_with (rotated j) t []) ≡ number_of (contents_with j t j.later)
+pub rotated_number : (j : Journaling) (t : Tree) → number_of_contents (contents_with (rotated j) t []) ≡ number_of_contents (contents_with j t j.later)
 rotated_number j t = ap (λ (l : List Written). max (least_after 0 (map shown l)) (past_records (fields t.last ∷ lasts t.keyspaces.living t.homes))) (rotated_batches j)
 
 -- ---- one batch that is stored
@@ -120,15 +120,15 @@ module _ (s : Keyspaces) (stored : ℕ → Stored) where
 -- the batches of those that go, and the others
 parted : (j : Journaling) (n : ℕ) (behind : List Written) → batches_in (journals_with j behind) ≡ batches_in (take n j.sealed) ++ batches_in (journals_with (evicted n j) behind)
 parted j n behind =
-    let active : List Journal = record { id = j.active; batches = j.whole ++ behind } ∷ [] in
-    ap (λ (l : List Journal). batches_in (l ++ active)) (sym (take-append-drop n j.sealed)) ∙ ap (λ (l : List Journal). batches_in l) (append_assoc (take n j.sealed) (drop n j.sealed) active)
-    ∙ flat_map-append (λ (k : Journal). k.batches) (take n j.sealed) (drop n j.sealed ++ active)
+    let active : List WholeJournal = record { id = j.active; batches = j.whole ++ behind } ∷ [] in
+    ap (λ (l : List WholeJournal). batches_in (l ++ active)) (sym (take-append-drop n j.sealed)) ∙ ap (λ (l : List WholeJournal). batches_in l) (append_assoc (take n j.sealed) (drop n j.sealed) active)
+    ∙ flat_map-append (λ (k : WholeJournal). k.batches) (take n j.sealed) (drop n j.sealed ++ active)
 
 pub shown_parted : (j : Journaling) (n : ℕ) (behind : List Written)
     → map shown (batches_in (journals_with j behind)) ≡ map shown (batches_in (take n j.sealed)) ++ map shown (batches_in (journals_with (evicted n j) behind))
 shown_parted j n behind = ap (map shown) (parted j n behind) ∙ map-append shown (batches_in (take n j.sealed)) (batches_in (journals_with (evicted n j) behind))
 
-pub evicted_store : (j : Journaling) (t : Tree) (n : ℕ) (behind : List Written) → AreStored t (batches_in (take n j.sealed)) → store_of (contents_with (evicted n j) t behind) ≡ store_of (contents_with j t behind)
+pub evicted_store : (j : Journaling) (t : Tree) (n : ℕ) (behind : List Written) → AreStored t (batches_in (take n j.sealed)) → store_of_contents (contents_with (evicted n j) t behind) ≡ store_of_contents (contents_with j t behind)
 evicted_store j t n behind are =
     let stored = stored_in t.homes t.versions in
     sym (ap (store_held t.keyspaces stored) (shown_parted j n behind)
@@ -157,7 +157,7 @@ least_without bound front [] low =
 least_without bound front (b ∷ behind) low = ap (λ n. max n bound) (sym (least_after-append 0 front (b ∷ behind)))
 
 pub evicted_number : (j : Journaling) (t : Tree) (n : ℕ) (behind : List Written)
-    → AllByRecursion (λ b. b.number < past_records (fields t.last ∷ lasts t.keyspaces.living t.homes)) (batches_in (take n j.sealed)) → number_of (contents_with (evicted n j) t behind) ≡ number_of (contents_with j t behind)
+    → AllByRecursion (λ b. b.number < past_records (fields t.last ∷ lasts t.keyspaces.living t.homes)) (batches_in (take n j.sealed)) → number_of_contents (contents_with (evicted n j) t behind) ≡ number_of_contents (contents_with j t behind)
 evicted_number j t n behind low =
     let bound = past_records (fields t.last ∷ lasts t.keyspaces.living t.homes) in
     least_without bound (map shown (batches_in (take n j.sealed))) (map shown (batches_in (journals_with (evicted n j) behind))) (all_shown bound (batches_in (take n j.sealed)) low)
@@ -177,7 +177,7 @@ evicted_follow j n seqno can =
     record { above = omega (arith, fewer, all); room = can.room }
 
 -- nor is the greatest number of a folder without them
-pub evicted_least : (j : Journaling) (t : Tree) (n : ℕ) (behind : List Written) → number_of (contents_with (evicted n j) t behind) ≤ number_of (contents_with j t behind)
+pub evicted_least : (j : Journaling) (t : Tree) (n : ℕ) (behind : List Written) → number_of_contents (contents_with (evicted n j) t behind) ≤ number_of_contents (contents_with j t behind)
 evicted_least j t n behind =
     let bound = past_records (fields t.last ∷ lasts t.keyspaces.living t.homes) in
     let front = map shown (batches_in (take n j.sealed)) in

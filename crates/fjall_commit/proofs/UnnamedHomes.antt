@@ -4,10 +4,8 @@ use Rattle.std.specs.List.{flat_map}
 use Rattle.std.proofs.lemmas.List.{append-nil}
 use Rattle.std.proofs.lemmas.List.Concat.{flat_map-cons}
 use Rattle.fjall_base.specs.declared.error.Error.{Error}
-use Rattle.fjall_base.specs.declared.error.Error.TheVariants.{OutOfMemory}
-use Rattle.fjall_base.specs.Errors.{IsFault}
 use Rattle.fjall_base.specs.Crash.{IsHoused}
-use Rattle.fjall_base.specs.Disk.{Name, Entry, Missing, File, Folder, Place, State, Image, IsEmpty, IsNoFile, Meaning, LeavesOnly, Survives, SyncFolder, Took, folder_of, removing, settle, state_in}
+use Rattle.fjall_base.specs.Disk.{Name, DiskEntry, Missing, File, Folder, Place, DiskState, Image, IsEmpty, IsNoFile, Meaning, LeavesOnly, Survives, SyncFolder, Took, folder_of, removing, settle, state_in}
 use Rattle.fjall_base.proofs.Moments.{started, stays, steps_on, runs_on}
 use Rattle.fjall_base.proofs.States.{settle-in}
 use Rattle.fjall_files.specs.declared.own.OwnFiles.{OwnFiles}
@@ -18,7 +16,7 @@ use Rattle.fjall_files.proofs.Under.{folder_is_shorter, shorter_out, under_self}
 use Rattle.fjall_files.proofs.Changes.{SameOutside, settle-now, within_state}
 use Rattle.fjall_files.proofs.Parts.{in_region, leaves_outside}
 use Rattle.fjall_files.proofs.Made.{removing_within, safe_file, settled_within, within_both, within_none}
-use Rattle.fjall_tree.specs.Records.{Fields, record_text}
+use Rattle.fjall_manifest.specs.Records.{Fields, record_text}
 use Rattle.fjall_files.specs.Names.{keyspace_folder, current_name, table_name}
 use Rattle.fjall_meta.specs.Keyspaces.{Keyspaces}
 use Rattle.fjall_catalog.specs.declared.catalog.Catalog.{Catalog}
@@ -29,13 +27,13 @@ use Rattle.fjall_recovery.proofs.Listed.{in_keyspaces}
 use Rattle.fjall_recovery.specs.Places.{HasSafeHome, LiesInTree}
 use Rattle.fjall_commit.specs.Removals.{IsUnused, RemovesOwn}
 use Rattle.fjall_files.proofs.Fitting.{folder_of-current}
-use Rattle.fjall_home.specs.Homes as homes
-use Rattle.fjall_home.specs.Homes.{is_counted, only}
-use Rattle.fjall_home.proofs.Naming.{current_under, some_folder, table_counts}
-use Rattle.fjall_home.proofs.Outside.{counted_outside, within_keyspaces}
-use Rattle.fjall_home.proofs.Removals.{missing_now}
-use Rattle.fjall_home.proofs.Resting.{region_home, rests_where}
-use Rattle.fjall_home.proofs.Views.{usual_region}
+use Rattle.fjall_manifest.specs.Homes as homes
+use Rattle.fjall_manifest.specs.Homes.{is_counted, only}
+use Rattle.fjall_manifest.proofs.Naming.{current_under, some_folder, table_counts}
+use Rattle.fjall_manifest.proofs.Outside.{counted_outside, within_keyspaces}
+use Rattle.fjall_manifest.proofs.Removals.{missing_now}
+use Rattle.fjall_manifest.proofs.Resting.{region_home, rests_where}
+use Rattle.fjall_manifest.proofs.Views.{usual_region}
 use Rattle.fjall_catalog.specs.Catalog.{fields, first_of, home_of}
 use Rattle.fjall_catalog.proofs.Resting.{files_say, rests_with}
 use Rattle.fjall_recovery.specs.Halves.{HasTree, Tree, outside}
@@ -56,7 +54,7 @@ module _ (id : ℕ) (records : List Fields) (t : Tree) (unused : IsUnused id t.k
   counted_out : (q : Name) → is_counted 0 q ≡ true → is_under (keyspace_folder id) q ≡ false
   counted_out q counts = counted_outside id 0 q unused.fits (omega arith) not_zero counts
 
-  module _ (state : State) (lies : LiesInTree state records t) where
+  module _ (state : DiskState) (lies : LiesInTree state records t) where
     others : AreOthers id t.keyspaces.living
     others k d lt = let given = lies.rests.catalog.are.given k d lt in let fits = lies.rests.catalog.are.fits in (omega (arith, given, fits), unused.unused k d lt)
 
@@ -70,7 +68,7 @@ module _ (id : ℕ) (records : List Fields) (t : Tree) (unused : IsUnused id t.k
         let home = region_home (outside id) state image 0 records (home_of t.last rests.texts) (omega arith) region rests.home (usual_region (outside id) state image is) in
         tree_left id unused.fits state image is records t others besides lies.rests.made lies.rests.versions home.folder (files_say state image records t.last t.keyspaces rests home.files)
 
-  lies_along : (old new : State) → SameOutside (is_under (keyspace_folder id)) old new → LiesInTree old records t → LiesInTree new records t
+  lies_along : (old new : DiskState) → SameOutside (is_under (keyspace_folder id)) old new → LiesInTree old records t → LiesInTree new records t
   lies_along old new agree lies =
       let besides = beside_along id unused.fits old new t.keyspaces.living t.homes agree (others old lies) (besides old lies) in
       let same : (q : Name) → is_counted 0 q ≡ true → new q ≡ old q = λ q counts. agree q (counted_out q counts) in
@@ -102,18 +100,18 @@ module _ (id : ℕ) (records : List Fields) (t : Tree) (unused : IsUnused id t.k
 
   lies_settled : (mid new : Meaning) (folder : Name) → Took mid new (SyncFolder folder ∷ []) → LiesInTree (state_in mid) records t → LiesInTree (state_in new) records t
   lies_settled mid new folder took lies =
-      let besides = subst (λ (s : State). Beside s t.keyspaces.living t.homes) (sym took.state) (beside_settled (state_in mid) folder t.keyspaces.living t.homes (besides (state_in mid) lies)) in
+      let besides = subst (λ (s : DiskState). Beside s t.keyspaces.living t.homes) (sym took.state) (beside_settled (state_in mid) folder t.keyspaces.living t.homes (besides (state_in mid) lies)) in
       let rests = lies.rests.catalog in
       let h = home_of t.last rests.texts in
       record {
         rests = record {
           named = besides.named;
-          catalog = rests_with (state_in mid) (state_in new) records t.last t.keyspaces rests (subst (λ (s : State). homes.Rests s 0 records h) (sym took.state) (settled_home (state_in mid) folder 0 records h rests.home));
+          catalog = rests_with (state_in mid) (state_in new) records t.last t.keyspaces rests (subst (λ (s : DiskState). homes.Rests s 0 records h) (sym took.state) (settled_home (state_in mid) folder 0 records h rests.home));
           made = lies.rests.made;
           homes = besides.safe;
           versions = lies.rests.versions;
         };
-        free = λ i above below. ap (λ (s : State). (s (table_name 0 i)).now) took.state ∙ settle-now (state_in mid) folder (table_name 0 i) ∙ lies.free i above below;
+        free = λ i above below. ap (λ (s : DiskState). (s (table_name 0 i)).now) took.state ∙ settle-now (state_in mid) folder (table_name 0 i) ∙ lies.free i above below;
       }
 
   settled_on : (old mid new : Meaning) (folder : Name) → Still old mid → Took mid new (SyncFolder folder ∷ []) → Still old new
@@ -121,12 +119,12 @@ module _ (id : ℕ) (records : List Fields) (t : Tree) (unused : IsUnused id t.k
       let lies = lies_settled mid new folder took so_far.lies in
       record {
         run = steps_on old mid new P (SyncFolder folder) so_far.run took (λ image is.
-            tree_at (settle (state_in mid) folder) (subst (λ (s : State). LiesInTree s records t) took.state lies) image (in_region (outside id) (settle (state_in mid) folder) image is));
+            tree_at (settle (state_in mid) folder) (subst (λ (s : DiskState). LiesInTree s records t) took.state lies) image (in_region (outside id) (settle (state_in mid) folder) image is));
         lies = lies;
       }
 
   stays_on : (old mid new : Meaning) → Still old mid → Took mid new [] → Still old new
-  stays_on old mid new so_far took = record { run = stays old mid new P so_far.run took; lies = subst (λ (s : State). LiesInTree s records t) (sym took.state) so_far.lies }
+  stays_on old mid new so_far took = record { run = stays old mid new P so_far.run took; lies = subst (λ (s : DiskState). LiesInTree s records t) (sym took.state) so_far.lies }
 
   settled_or_not : (old mid new : Meaning) (folder : Name) (r : Result Unit Error) → Still old mid → OnOk r (Took mid new (SyncFolder folder ∷ [])) → OnErr r (Took mid new []) → Still old new
   settled_or_not old mid new folder (Ok done) so_far ok err = settled_on old mid new folder so_far ok
@@ -189,13 +187,13 @@ home_safe id number m1 m2 new text (Ok done) small below is made first then = λ
     let ok : Result Unit Error = Ok done in
     let one : List Fields = fields (first_of number) ∷ [] in
     let safe : IsSafe (state_in m2) (current_name id) text = safe_file (keyspace_folder id) (current_name id) (folder_of-current id) m1 m1 m2 text ok made.file_now first in
-    let there : (state_in m2 (keyspace_folder id)).now ≡ Folder = ap (λ (s : State). (s (keyspace_folder id)).now) first.state ∙ settle-now (state_in m1) (keyspace_folder id) (keyspace_folder id) ∙ made.folder_now in
-    let settled : IsSafe (state_in new) (current_name id) text = ap (λ (s : State). s (current_name id)) then.state ∙ settled_at (state_in m2) (codes "keyspaces") (current_name id) (File text []) safe ∙ safe in
+    let there : (state_in m2 (keyspace_folder id)).now ≡ Folder = ap (λ (s : DiskState). (s (keyspace_folder id)).now) first.state ∙ settle-now (state_in m1) (keyspace_folder id) (keyspace_folder id) ∙ made.folder_now in
+    let settled : IsSafe (state_in new) (current_name id) text = ap (λ (s : DiskState). s (current_name id)) then.state ∙ settled_at (state_in m2) (codes "keyspaces") (current_name id) (File text []) safe ∙ safe in
     record {
       records = one;
       rests = record {
         keyspaces_folder = outer;
-        folder = ap (λ (s : State). s (keyspace_folder id)) then.state ∙ settle-in (state_in m2) (codes "keyspaces") (keyspace_folder id) (in_keyspaces id small) ∙ ap (λ (e : Entry). only e) there;
+        folder = ap (λ (s : DiskState). s (keyspace_folder id)) then.state ∙ settle-in (state_in m2) (codes "keyspaces") (keyspace_folder id) (in_keyspaces id small) ∙ ap (λ (e : DiskEntry). only e) there;
         current = subst (IsSafe (state_in new) (current_name id)) (is ∙ sym (first_text number)) settled;
         each = (first_fits (Some number) 0 below (omega arith), tt);
         last_is = refl;
@@ -221,7 +219,7 @@ module _ (id : ℕ) (folder current : Name) (at : folder ≡ keyspace_folder id)
   pub within_as : (old new : Meaning) → (is_under folder current ≡ true → Within folder old new) → Within (keyspace_folder id) old new
   within_as old new run = subst (λ (n : Name). Within n old new) at (run under)
 
-  pub made_as : (state : State) (text : List ℕ) → (folder_of current ≡ folder → IsMade state folder current text) → IsMade state (keyspace_folder id) (current_name id) text
+  pub made_as : (state : DiskState) (text : List ℕ) → (folder_of current ≡ folder → IsMade state folder current text) → IsMade state (keyspace_folder id) (current_name id) text
   made_as state text is =
       let made = is inside in
       record {
@@ -252,7 +250,7 @@ module _ (id : ℕ) (old mid : Meaning) (took : Took old mid []) (option : Optio
       (subst (λ (n : Name). Within n mid new) folder_at (run files_inside (λ none. some_folder id (sym folder_at ∙ none))))
 
   pub own_held : HoldsOnlyOwn (state_in old) id → IsNoFile (state_in old (keyspace_folder id)).now → HoldsOnly (state_in mid) folder (map string_bytes files)
-  own_held holds kind = subst (λ (s : State). HoldsOnly s folder (map string_bytes files)) (sym took.state)
+  own_held holds kind = subst (λ (s : DiskState). HoldsOnly s folder (map string_bytes files)) (sym took.state)
       (subst (λ (n : Name). HoldsOnly (state_in old) n (map string_bytes files)) (sym folder_at)
       (subst (λ (l : List (String Global)). HoldsOnly (state_in old) (keyspace_folder id) (map string_bytes l)) (sym files_are) (holds_own (state_in old) id own found holds kind)))
 
@@ -261,8 +259,8 @@ module _ (id : ℕ) (old mid : Meaning) (took : Took old mid []) (option : Optio
 
 -- a sync of names changes nothing that stands
 pub settled_now : (folder : Name) (old new : Meaning) (r : Result Unit Error) → OnOk r (Took old new (SyncFolder folder ∷ [])) → OnErr r (Took old new []) → (q : Name) → (state_in new q).now ≡ (state_in old q).now
-settled_now folder old new (Ok done) ok err q = ap (λ (s : State). (s q).now) ok.state ∙ settle-now (state_in old) folder q
-settled_now folder old new (Err e) ok err q = ap (λ (s : State). (s q).now) err.state
+settled_now folder old new (Ok done) ok err q = ap (λ (s : DiskState). (s q).now) ok.state ∙ settle-now (state_in old) folder q
+settled_now folder old new (Err e) ok err q = ap (λ (s : DiskState). (s q).now) err.state
 
 -- nor do calls in a keyspace's folder change what stands elsewhere
 pub others_stay : (id : ℕ) (old new : Meaning) → Within (keyspace_folder id) old new → (q : Name) → is_under (keyspace_folder id) q ≡ false → (state_in new q).now ≡ (state_in old q).now
@@ -275,10 +273,10 @@ others_stay_settled id old mid new r run ok err q out = settled_now (codes "keys
 -- a folder that is gone comes back no more once the names in `keyspaces` are synced
 gone_for_good : (id : ℕ) → id < 2 ^ 64 → (old new : Meaning) → (state_in old (keyspace_folder id)).now ≡ Missing → Took old new (SyncFolder (codes "keyspaces") ∷ []) → state_in new (keyspace_folder id) ≡ only Missing
 gone_for_good id small old new gone sync =
-    ap (λ (s : State). s (keyspace_folder id)) sync.state ∙ settle-in (state_in old) (codes "keyspaces") (keyspace_folder id) (in_keyspaces id small) ∙ ap (λ (e : Entry). only e) gone
+    ap (λ (s : DiskState). s (keyspace_folder id)) sync.state ∙ settle-in (state_in old) (codes "keyspaces") (keyspace_folder id) (in_keyspaces id small) ∙ ap (λ (e : DiskEntry). only e) gone
 
 -- In a folder that isn't there nothing stands.
-pub nothing_inside : (state : State) (folder : Name) → (folder ≡ [] → ⊥) → IsHoused state → (state folder).now ≡ Missing → IsEmpty state folder
+pub nothing_inside : (state : DiskState) (folder : Name) → (folder ≡ [] → ⊥) → IsHoused state → (state folder).now ≡ Missing → IsEmpty state folder
 nothing_inside state folder some housed gone name inside = of (state name).now refl
   where
     there : (state name).now ≢ Missing → ⊥
@@ -286,7 +284,7 @@ nothing_inside state folder some housed gone name inside = of (state name).now r
         let at : (state folder).now ≡ Folder = subst (λ (f : Name). (state f).now ≡ Folder) inside (housed.each name some_entry (λ root. some (sym inside ∙ root))) in
         let no : Missing ≡ Folder = sym gone ∙ at in cc
 
-    of : (entry : Entry) → (state name).now ≡ entry → (state name).now ≡ Missing
+    of : (entry : DiskEntry) → (state name).now ≡ entry → (state name).now ≡ Missing
     of Missing is = is
     of (File synced unsynced) is = absurd (there (λ e. let no : File synced unsynced ≡ Missing = sym is ∙ e in cc))
     of Folder is = absurd (there (λ e. let no : Folder ≡ Missing = sym is ∙ e in cc))
@@ -298,7 +296,3 @@ removes_own id small old mid new (Err e) housed holds gone sync = tt
 removes_own id small old mid new (Ok done) housed holds gone sync =
     let folder = gone_for_good id small mid new gone sync in
     inl (holds, record { folder = folder; inside = nothing_inside (state_in new) (keyspace_folder id) (some_folder id) housed (ap (λ (p : Place). p.now) folder) })
-
--- a change of a disk is never refused for want of memory
-pub fault_alone : (before after : ℕ) (e : Error) → IsFault before after e → e ≡ OutOfMemory → ⊥
-fault_alone before after e fault is = subst (IsFault before after) is fault

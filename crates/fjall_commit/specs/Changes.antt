@@ -1,7 +1,7 @@
 -- A keyspace that is made or deleted on the disk: the tree before it and after it.
 use Rattle.std.specs.Prelude.{◌≡◌, ◌⊎◌, ℕ, List, [], string_bytes, ◌<◌, ◌≤◌, ◌^◌}
-use Rattle.fjall_base.specs.Disk.{Image, IsNoFile, IsNoFolder, State, CanMakeFolder, Meaning, Name, folder_of, state_in}
-use Rattle.fjall_tree.specs.Records.{record_text, Fields}
+use Rattle.fjall_base.specs.Disk.{Image, IsNoFile, IsNoFolder, DiskState, CanMakeFolder, Meaning, Name, folder_of, state_in}
+use Rattle.fjall_manifest.specs.Records.{record_text, Fields}
 use Rattle.fjall_files.specs.Names.{keyspace_folder, current_name}
 use Rattle.fjall_meta.specs.Keyspaces.{AreKeyspaces, Keyspaces, with_keyspace, without_keyspace}
 use Rattle.fjall_catalog.specs.declared.catalog.Catalog.{Catalog}
@@ -11,7 +11,7 @@ use Rattle.fjall_recovery.specs.Folders.{AreMade, past_record}
 use Rattle.fjall_recovery.specs.Halves.{HasTree, Tree}
 use Rattle.fjall_recovery.specs.Places.{HaveSafeHomes, LiesInTree}
 use Rattle.fjall_recovery.specs.Homes.{HaveVersions}
-use Rattle.fjall_home.specs.Homes.{Home}
+use Rattle.fjall_manifest.specs.Homes.{Home}
 use Rattle.std.specs.FinMap.{insert, remove}
 use Rattle.fjall_commit.specs.declared.creation.Creation.{Creation}
 use Rattle.fjall_catalog.specs.declared.update.Update.{Update}
@@ -52,14 +52,14 @@ abbrev pub HasEither : Tree → Tree → Image → Type 0
 HasEither t next image = HasTree image t ⊎ HasTree image next
 
 -- The keyspaces that are to live next have safe homes already, and were made under numbers that the next record knows.
-pub record AreHoused (state : State) (next : Tree) : Type 0 where
+pub record AreHoused (state : DiskState) (next : Tree) : Type 0 where
   pub are : AreKeyspaces next.keyspaces
   pub made : AreMade next.last next.keyspaces
   pub homes : HaveSafeHomes state next.keyspaces.living next.homes
   pub versions : HaveVersions next.homes next.versions
 
 -- Where the keyspace of this id is to stand there is room: no file in the place of its folder, no folder in that of its file.
-pub record HasRoom (state : State) (id : ℕ) : Type 0 where
+pub record HasRoomForKeyspace (state : DiskState) (id : ℕ) : Type 0 where
   pub folder : IsNoFile (state (keyspace_folder id)).now
   pub current : IsNoFolder (state (current_name id)).now
 
@@ -101,7 +101,7 @@ ForHomeOn disk creation Holds = (records : List Fields) (t : Tree) (old : Catalo
 -- where some tree lies on the disk and there is room for the home, each call could be served
 abbrev pub ServesHome : Meaning → Meaning → Creation → Type 0
 ServesHome old new creation = (records : List Fields) (t : Tree) (before : Catalog) (s : Keyspaces) (id number : ℕ) → id < 2 ^ 64 → LiesInTree (state_in old) records t → IsCreation before s id number creation
-    → HasRoom (state_in old) id → new.misuses ≡ old.misuses
+    → HasRoomForKeyspace (state_in old) id → new.misuses ≡ old.misuses
 
 -- where a folder can stand at its name and no folder stands in the file's place, each call could be served
 abbrev pub ServesFirstFile : Meaning → Meaning → Name → Name → Type 0

@@ -1,19 +1,19 @@
 -- The active journal of a database as it is written: batches go out behind those that stand, and are synced.
 use Rattle.std.specs.Prelude.{◌≡◌, ◌≢◌, ℕ, ◌<◌, ◌≤◌, ◌^◌, Bool, if◌then◌else◌, List, [], ◌∷◌, ◌++◌, length, map, take, true, Option, None, Some, is_none}
-use Rattle.fjall_base.specs.Disk.{State, Image, Step, Survives, Meaning, Name, state_in}
+use Rattle.fjall_base.specs.Disk.{DiskState, Image, DiskStep, Survives, Meaning, Name, state_in}
 use Rattle.fjall_files.specs.Regions.{IsImageIn, is_under}
 use Rattle.fjall_journal.specs.declared.persist_mode.PersistMode.{PersistMode}
 use Rattle.fjall_journal.specs.declared.persist_mode.PersistMode.TheVariants.{Buffer, SyncData, SyncAll}
 use Rattle.fjall_journal.specs.Batches.{Written, shown, batch_text}
 use Rattle.fjall_journal.specs.Writer.{Journal, PersistTook, goes_out, persist_steps, written_out}
 use Rattle.fjall_files.specs.Names.{journal_name, keyspace_folder}
-use Rattle.fjall_versions.specs.Replays.{least_after}
+use Rattle.fjall_contents.specs.Replays.{least_after}
 use Rattle.fjall_recovery.specs.Journals.{batches_in}
 use Rattle.fjall_recovery.specs.Halves.{HasRoot, is_of_keyspaces}
 use Rattle.fjall_recovery.specs.Places.{Journaling, LiesInRoot, journals_with, texts_of}
 
 -- The writer goes on where the active journal ends: what waits in its buffer follows what stands in the file.
-pub record IsWriting (state : State) (writer : Journal) (j : Journaling) : Type 0 where
+pub record IsWriting (state : DiskState) (writer : Journal) (j : Journaling) : Type 0 where
   pub root : LiesInRoot state j
   pub name : writer.name ≡ journal_name j.active
   pub exact : take j.cut (texts_of j.later) ++ writer.buffer ≡ texts_of j.later
@@ -50,7 +50,7 @@ out_in None writer = writer
 out_in (Some mode) writer = written_out writer
 
 -- what that does to the disk
-abbrev pub steps_in : Option PersistMode → Journal → List Step
+abbrev pub steps_in : Option PersistMode → Journal → List DiskStep
 steps_in None writer = []
 steps_in (Some mode) writer = persist_steps writer mode
 
@@ -73,7 +73,7 @@ abbrev pub HasSome : Journaling → List Written → Image → Type 0
 HasSome j batches image = (behind rest : List Written) × (behind ++ rest ≡ batches) × HasRoot image (journals_with j behind)
 
 -- The same, and in `keyspaces` the image has what a crash of that state may leave there.
-pub record LeavesRoot (state : State) (j : Journaling) (batches : List Written) (image : Image) : Type 0 where
+pub record LeavesRoot (state : DiskState) (j : Journaling) (batches : List Written) (image : Image) : Type 0 where
   pub some : HasSome j batches image
   pub elsewhere : IsImageIn Survives is_of_keyspaces state image
 

@@ -1,12 +1,12 @@
 -- A deleted keyspace's files while they are removed.
 use Rattle.std.specs.Prelude.{◌≡◌, ◌≢◌, ◌⊎◌, ℕ, ◌<◌, ◌^◌, [], All, List}
-use Rattle.fjall_base.specs.Disk.{IsEmpty, IsNoFile, Missing, State, Meaning, Took, state_in}
+use Rattle.fjall_base.specs.Disk.{IsEmpty, IsNoFile, Missing, DiskState, Meaning, Took, state_in}
 use Rattle.fjall_meta.specs.Keyspaces.{Keyspaces}
 use Rattle.fjall_files.specs.Calls.{AllServed}
 use Rattle.fjall_files.specs.Names.{keyspace_folder}
 use Rattle.fjall_files.specs.Own.{HoldsOnlyOwn}
-use Rattle.fjall_home.specs.Homes.{only}
-use Rattle.fjall_tree.specs.Records.{Fields}
+use Rattle.fjall_manifest.specs.Homes.{only}
+use Rattle.fjall_manifest.specs.Records.{Fields}
 use Rattle.fjall_recovery.specs.Halves.{Tree}
 use Rattle.fjall_recovery.specs.Places.{LiesInTree}
 
@@ -17,7 +17,7 @@ pub record IsUnused (id : ℕ) (s : Keyspaces) : Type 0 where
   pub unused : All (λ k. k.id ≢ id) s.living
 
 -- nothing stands in the place of the keyspace's folder, and no crash brings one back; nothing stands right in it
-pub record IsRemoved (id : ℕ) (state : State) : Type 0 where
+pub record IsRemoved (id : ℕ) (state : DiskState) : Type 0 where
   pub folder : state (keyspace_folder id) ≡ only Missing
   pub inside : IsEmpty state (keyspace_folder id)
 

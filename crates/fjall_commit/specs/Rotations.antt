@@ -1,6 +1,6 @@
 -- The active journal is sealed and an empty one begins: the journals after it, and what a crash leaves of it.
 use Rattle.std.specs.Prelude.{◌≡◌, ◌⊎◌, ℕ, ◌+◌, [], ◌∷◌, ◌++◌, codes, map, List}
-use Rattle.fjall_base.specs.Disk.{Image, Meaning, State, Survives, state_in}
+use Rattle.fjall_base.specs.Disk.{DiskState, Image, Meaning, Survives, state_in}
 use Rattle.fjall_files.specs.Regions.{IsImageIn}
 use Rattle.fjall_journal.specs.Writer.{Journal}
 use Rattle.fjall_manager.specs.Journals.{Sealed}
@@ -19,12 +19,12 @@ rotated j = record {
 }
 
 -- the list tells of the sealed journals: these are their ids, in order
-abbrev pub TellsOf : List Sealed → Journaling → Type 0
-TellsOf journals j = map (λ s. s.id) journals ≡ map (λ s. s.id) j.sealed
+abbrev pub ListsSealed : List Sealed → Journaling → Type 0
+ListsSealed journals j = map (λ s. s.id) journals ≡ map (λ s. s.id) j.sealed
 
 -- The image's root is sound: it holds the synced batches and a beginning of the later ones, or all of these and an empty
 -- journal behind them. In `keyspaces` the image has what a crash of that state may leave there.
-pub record LeavesRotation (state : State) (j : Journaling) (image : Image) : Type 0 where
+pub record LeavesRotation (state : DiskState) (j : Journaling) (image : Image) : Type 0 where
   pub root : HasSome j j.later image ⊎ HasRoot image (journals_with (rotated j) [])
   pub elsewhere : IsImageIn Survives is_of_keyspaces state image
 

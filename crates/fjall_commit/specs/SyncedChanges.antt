@@ -14,7 +14,7 @@ use Rattle.fjall_recovery.specs.Halves.{is_of_keyspaces}
 use Rattle.fjall_recovery.specs.Places.{LiesInTree}
 use Rattle.fjall_commit.specs.Journaling.{IsWriting, LeavesRoot, after_persist, ForWriting, KeepsHomes, KeepsKeyspaces, KeepsOtherHomes}
 use Rattle.fjall_commit.specs.declared.creation.Creation.{Creation}
-use Rattle.fjall_commit.specs.Changes.{HasEither, HasRoom, ForCreation, ForCreationOn, ForDeletionOn, ForNewId, ForUpdate}
+use Rattle.fjall_commit.specs.Changes.{HasEither, HasRoomForKeyspace, ForCreation, ForCreationOn, ForDeletionOn, ForNewId, ForUpdate}
 
 -- All that waited went out in that mode, in just these steps, and where it was done the writer goes on behind it; where it wasn't it
 -- stopped in one of them. What stands in `keyspaces` stayed, and so did the homes there wherever else the journal's file is.
@@ -35,7 +35,7 @@ pub record CreatedKeyspace (mid new : Meaning) (creation : Creation) (done : Boo
   pub leaves : ForCreationOn mid creation (λ records t next. LeavesOnly mid new (HasEither t next))
   pub lies : done ≡ true → ForCreationOn mid creation (λ records t next. LiesInTree (state_in new) (records ++ fields creation.update.catalog ∷ []) next)
   pub others : ForNewId creation (λ id number. KeepsOtherHomes id mid new)
-  pub served : ForCreationOn mid creation (λ records t next. HasRoom (state_in mid) t.keyspaces.next → new.misuses ≡ mid.misuses)
+  pub served : ForCreationOn mid creation (λ records t next. HasRoomForKeyspace (state_in mid) t.keyspaces.next → new.misuses ≡ mid.misuses)
   pub gone : done ≡ true → ForCreation creation (λ old. IsTableGone (state_in new) old)
   pub kinds : ForNewId creation (λ id number. StaysTidy mid new)
 

@@ -8,7 +8,7 @@ pub use Rattle.fjall_manager.specs.Telling.{AreMarksOf, AreRaised, changed_by, g
 use Rattle.fjall_meta.specs.Keyspaces.{Keyspaces, keyspace_at}
 use Rattle.fjall_recovery.specs.Halves.{Tree}
 use Rattle.fjall_recovery.specs.Homes.{stored_in}
-use Rattle.fjall_recovery.specs.Journals.{Journal}
+use Rattle.fjall_recovery.specs.Journals.{WholeJournal}
 
 -- ---- batches
 
@@ -25,7 +25,7 @@ AreStored t batches = AllByRecursion (IsStored t.keyspaces (stored_in t.homes t.
 -- ---- watermarks
 
 -- the list tells of these journals, in order: their ids, and the watermarks of their batches
-abbrev pub AreMarked : List Sealed → List Journal → Type 0
+abbrev pub AreMarked : List Sealed → List WholeJournal → Type 0
 AreMarked [] [] = Unit {0}
 AreMarked (s ∷ sealed) (j ∷ journals) = (s.id ≡ j.id) × AreMarksOf (map shown j.batches) s.watermarks × AreMarked sealed journals
 AreMarked sealed journals = ⊥

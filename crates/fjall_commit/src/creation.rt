@@ -4,13 +4,13 @@ ghost use Rattle.std.specs.Prelude.{◌≡◌, ◌++◌, ◌∷◌, [], true, If
 ghost use Rattle.fjall_base.specs.Disk.{File, Folder, LeavesOnly, OnlyFaults, folder_of, state_in};
 ghost use Rattle.fjall_files.specs.Regions.{IsMade, Within, is_under};
 ghost use Rattle.fjall_files.specs.Tidy.{FitsAt, StaysTidy};
-ghost use Rattle.fjall_home.specs.Homes.{only};
+ghost use Rattle.fjall_manifest.specs.Homes.{only};
 ghost use Rattle.fjall_catalog.specs.Catalog.{fields};
 ghost use Rattle.fjall_catalog.specs.Updates.{IsPreparingRefusal, IsTableGone};
 ghost use Rattle.fjall_recovery.specs.Halves.{HasTree};
 ghost use Rattle.fjall_recovery.specs.Places.{HasSafeHome, LiesInTree};
 ghost use Rattle.fjall_commit.specs.Journaling.{KeepsOtherHomes};
-ghost use Rattle.fjall_commit.specs.Changes.{HasEither, HasRoom, IsCreation, ForCreation, ForCreationOn, ForHomeOn, ForNewId, ServesFirstFile, ServesHome, first_home};
+ghost use Rattle.fjall_commit.specs.Changes.{HasEither, HasRoomForKeyspace, IsCreation, ForCreation, ForCreationOn, ForHomeOn, ForNewId, ServesFirstFile, ServesHome, first_home};
 
 use crate::change::change_tree;
 use fjall_base::{Disk, Result};
@@ -114,7 +114,7 @@ pub fn create_keyspace<D: Disk>(disk: &mut D, creation: &Creation) -> Result<()>
     // The homes of all other keyspaces stay, also where the call fails.
     ensures others { IsTrue D.honest → ForNewId creation.now (λ id number. KeepsOtherHomes id (D.meaning disk.old) (D.meaning disk.new)) }
     ensures served { IsTrue D.honest → ForCreationOn (D.meaning disk.old) creation.now (λ records t next.
-        HasRoom (state_in (D.meaning disk.old)) t.keyspaces.next → (D.meaning disk.new).misuses ≡ (D.meaning disk.old).misuses) }
+        HasRoomForKeyspace (state_in (D.meaning disk.old)) t.keyspaces.next → (D.meaning disk.new).misuses ≡ (D.meaning disk.old).misuses) }
     ensures cause { OnlyFaults (D.meaning disk.old) (D.meaning disk.new) result }
     // The old table of tree 0 is gone.
     ensures gone { IsTrue D.honest → ForCreation creation.now (λ old. OnOk result (IsTableGone (state_in (D.meaning disk.new)) old)) }

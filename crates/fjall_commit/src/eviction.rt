@@ -9,7 +9,7 @@ ghost use Rattle.fjall_manager.specs.Journals.{Sealed, going, names_of, staying}
 ghost use Rattle.fjall_recovery.specs.Places.{Journaling};
 ghost use Rattle.fjall_commit.specs.Evictions.{ForEvicting, LeavesEviction, StoppedEvicting, evicted};
 ghost use Rattle.fjall_commit.specs.Journaling.{IsWriting};
-ghost use Rattle.fjall_commit.specs.Rotations.{KeepsSyncedKeyspaces, TellsOf};
+ghost use Rattle.fjall_commit.specs.Rotations.{KeepsSyncedKeyspaces, ListsSealed};
 
 use fjall_base::{Disk, Result};
 use fjall_manager::{Flushed, JournalManager};
@@ -28,8 +28,8 @@ pub fn evict_journals<D: Disk, F: Flushed>(
 ) -> Result<()>
     ensures ok { OnOk result (journals.new ≡ staying (F.flushed flushed.now) journals.old) }
     ensures left { OnErr result ((gone : List Sealed) × StoppedBehind (F.flushed flushed.now) journals.old journals.new gone) }
-    ensures told { (j : Journaling) → TellsOf journals.old j
-        → OnOk result (TellsOf journals.new (evicted (length (going (F.flushed flushed.now) journals.old)) j)) }
+    ensures told { (j : Journaling) → ListsSealed journals.old j
+        → OnOk result (ListsSealed journals.new (evicted (length (going (F.flushed flushed.now) journals.old)) j)) }
     ensures served { IsTrue D.honest → ForEvicting (D.meaning disk.old) journals.old (λ writer j. (D.meaning disk.new).misuses ≡ (D.meaning disk.old).misuses) }
     ensures cause { OnlyFaults (D.meaning disk.old) (D.meaning disk.new) result }
     ensures took { IsTrue D.honest → OnOk result (Took (D.meaning disk.old) (D.meaning disk.new)

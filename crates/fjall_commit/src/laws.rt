@@ -1,7 +1,7 @@
 //! What holds of the active journal between two calls.
 
 ghost use Rattle.std.specs.Prelude.{◌≡◌, ◌+◌, Bool, [], Option};
-ghost use Rattle.fjall_base.specs.Disk.{Image, IsImage, State};
+ghost use Rattle.fjall_base.specs.Disk.{DiskState, Image, IsImage};
 ghost use Rattle.fjall_journal.specs.Batches.{Written};
 ghost use Rattle.fjall_journal.specs.Writer.{Journal};
 ghost use Rattle.fjall_journal.specs.declared.persist_mode.PersistMode.{PersistMode};
@@ -12,19 +12,19 @@ ghost use Rattle.fjall_commit.specs.Journaling.{IsWriting, LeavesRoot, after_mod
 
 /// Where all batches are synced, a writer of the active journal with an empty buffer goes on behind them.
 pub fn a_writer_begins()
-    ensures { (state : State) (writer : Journal) (j : Journaling) → LiesInRoot state j → j.later ≡ []
+    ensures { (state : DiskState) (writer : Journal) (j : Journaling) → LiesInRoot state j → j.later ≡ []
         → writer.name ≡ journal_name j.active → writer.buffer ≡ [] → IsWriting state writer j }
 {}
 
 /// A crash leaves the synced batches, and of those behind them a beginning.
 pub fn crashes_leave_some()
-    ensures { (state : State) (writer : Journal) (j : Journaling) (image : Image) → IsWriting state writer j
+    ensures { (state : DiskState) (writer : Journal) (j : Journaling) (image : Image) → IsWriting state writer j
         → IsImage state image → LeavesRoot state j j.later image }
 {}
 
 /// Where all batches are synced, a crash leaves just these.
 pub fn synced_batches_stay()
-    ensures { (state : State) (writer : Journal) (j : Journaling) (image : Image) → IsWriting state writer j
+    ensures { (state : DiskState) (writer : Journal) (j : Journaling) (image : Image) → IsWriting state writer j
         → j.later ≡ [] → IsImage state image → HasRoot image (journals_with j []) }
 {}
 

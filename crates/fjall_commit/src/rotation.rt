@@ -9,7 +9,7 @@ ghost use Rattle.fjall_journal.specs.Rotations.{RotationTook, empty_journal, rot
 ghost use Rattle.fjall_manager.specs.Rotations.{sealed_of};
 ghost use Rattle.fjall_recovery.specs.Places.{Journaling};
 ghost use Rattle.fjall_commit.specs.Journaling.{IsWriting};
-ghost use Rattle.fjall_commit.specs.Rotations.{ForRotating, KeepsSyncedKeyspaces, LeavesRotation, TellsOf, rotated};
+ghost use Rattle.fjall_commit.specs.Rotations.{ForRotating, KeepsSyncedKeyspaces, LeavesRotation, ListsSealed, rotated};
 
 use fjall_base::{Disk, Error, Result};
 use fjall_journal::Writer;
@@ -35,7 +35,7 @@ pub fn rotate_journal<D: Disk>(
 ) -> Result<()>
     ensures sealed { OnOk result (journals.new ≡ journals.old ++ sealed_of id.old journal.old watermarks.old ∷ []) }
     ensures begun { OnOk result ((journal.new ≡ empty_journal (journal_name (id.old + 1))) × (id.new ≡ id.old + 1) × (watermarks.new ≡ [])) }
-    ensures told { (j : Journaling) → j.active ≡ id.old → TellsOf journals.old j → OnOk result (TellsOf journals.new (rotated j)) }
+    ensures told { (j : Journaling) → j.active ≡ id.old → ListsSealed journals.old j → OnOk result (ListsSealed journals.new (rotated j)) }
     ensures unchanged { OnErr result ((journals.new ≡ journals.old) × (id.new ≡ id.old) × (watermarks.new ≡ watermarks.old)) }
     ensures used_up { 2 ^ 64 - 2 ≤ id.old → result ≡ Err Error.NumbersUsedUp }
     ensures untouched { IfErr result (λ e. (IsIo e → ⊥) → (journal.new ≡ journal.old) × (D.meaning disk.new ≡ D.meaning disk.old)) }

@@ -9,9 +9,9 @@ use Rattle.fjall_journal.specs.declared.batch.ReadBatchItem.{ReadBatchItem}
 use Rattle.fjall_journal.specs.Batches.{Shown}
 use Rattle.fjall_meta.specs.Keyspaces.{Keyspaces}
 use Rattle.fjall_table.specs.Blocks.{Entry}
-use Rattle.fjall_versions.specs.Replays.{counts}
-use Rattle.fjall_versions.specs.Views.{clear_in, clears_of, entries_in, entry_of, versions_of}
-use Rattle.fjall_versions.proofs.Viewing.{clears_numbered, versions_numbered}
+use Rattle.fjall_contents.specs.Replays.{counts}
+use Rattle.fjall_contents.specs.Views.{clear_in, clears_of, entries_in, entry_of, versions_of}
+use Rattle.fjall_contents.proofs.Viewing.{clears_numbered, versions_numbered}
 use Rattle.fjall_views.specs.Jobs.{AreBelow}
 use Rattle.fjall_contents.specs.Contents.{IsWithin, Stored, clears_held, is_beyond, versions_held}
 

@@ -5,11 +5,11 @@ use Rattle.std.specs.FinMap.{empty, get}
 use Rattle.fjall_base.specs.Pairs.{Pairs}
 use Rattle.fjall_base.specs.Store.{Clear, Command, Store, fold}
 use Rattle.fjall_journal.specs.Batches.{Shown}
-use Rattle.fjall_versions.specs.Replays.{item_of, writing}
-use Rattle.fjall_versions.specs.Versions.{Version, command_of, version_of}
-use Rattle.fjall_versions.proofs.Behind.{slot_step}
-use Rattle.fjall_versions.proofs.Replaying.{among, clears_at, items_make}
-use Rattle.fjall_versions.proofs.Slots.{SameButMaps, clears_maps, fold-append, slot_after, slot_at, slot-filter, writes_maps}
+use Rattle.fjall_contents.specs.Replays.{item_of, writing}
+use Rattle.fjall_contents.specs.Versions.{Version, command_of, version_of}
+use Rattle.fjall_contents.proofs.Behind.{slot_step}
+use Rattle.fjall_contents.proofs.Replaying.{among, clears_at, items_make}
+use Rattle.fjall_contents.proofs.Slots.{SameButMaps, clears_maps, fold-append, slot_after, slot_at, slot-filter, writes_maps}
 
 -- the clears of a batch, and then its items as one write, of the ids that pass a test
 abbrev pub commands_where : (ℕ → Bool) → Shown → List Command

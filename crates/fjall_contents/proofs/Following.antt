@@ -11,21 +11,21 @@ use Rattle.fjall_base.specs.Store.{Store, fold}
 use Rattle.fjall_journal.specs.Batches.{Shown}
 use Rattle.fjall_meta.specs.declared.living.LivingKeyspace.{LivingKeyspace}
 use Rattle.fjall_meta.specs.Keyspaces.{Keyspaces, keyspace_at}
-use Rattle.fjall_versions.specs.Replays.{bare, commands_of, counts, fault_of, first_fault, journal_commands, least_after, store_in}
-use Rattle.fjall_versions.specs.Versions.{Version, version_of}
-use Rattle.fjall_versions.specs.Views.{clear_in, entries_in}
-use Rattle.fjall_versions.proofs.Behind.{slot_step}
-use Rattle.fjall_versions.proofs.Faults.{first_fault-append}
-use Rattle.fjall_versions.proofs.Living.{counts_of, get_by_id, no_pairs}
-use Rattle.fjall_versions.proofs.Slots.{fold-append, same_store, slot_after}
-use Rattle.fjall_versions.proofs.Viewing.{as_view, held, no_fault, number_fits, step_view}
+use Rattle.fjall_contents.specs.Replays.{bare, commands_of, counts, fault_of, first_fault, journal_commands, least_after, store_in}
+use Rattle.fjall_contents.specs.Versions.{Version, version_of}
+use Rattle.fjall_contents.specs.Views.{clear_in, entries_in}
+use Rattle.fjall_contents.proofs.Behind.{slot_step}
+use Rattle.fjall_contents.proofs.Faults.{first_fault-append}
+use Rattle.fjall_contents.proofs.Living.{counts_of, get_by_id, no_pairs}
+use Rattle.fjall_contents.proofs.Slots.{fold-append, same_store, slot_after}
+use Rattle.fjall_contents.proofs.Viewing.{as_view, held, no_fault, number_fits, step_view}
 use Rattle.fjall_views.specs.Views.{view_of}
 use Rattle.fjall_views.proofs.Shown.{is_view, one_view}
 use Rattle.fjall_views.proofs.Tests.{all_of}
 use Rattle.fjall_contents.specs.Contents.{AreWithin, IsWithin, Stored, clears_held, commands_beyond, counts_beyond, is_beyond, journal_beyond, map_held, nothing_stored, store_held, versions_held}
 use Rattle.fjall_contents.proofs.Beyond.{clear_beyond, clear_where, clears_are_below, clears_more, entries_beyond, entries_where, versions_are_below, versions_more}
 use Rattle.fjall_contents.proofs.Commanding.{commands_at, commands_change_maps, commands_where}
-use Rattle.fjall_versions.proofs.Ids.{living_has}
+use Rattle.fjall_contents.proofs.Ids.{living_has}
 use Rattle.fjall_contents.proofs.Held.{held_at, others_have_none}
 
 -- ---- numbers

@@ -8,10 +8,10 @@ use Rattle.fjall_base.specs.Store.{map_at}
 use Rattle.fjall_journal.specs.Batches.{Shown}
 use Rattle.fjall_meta.specs.declared.living.LivingKeyspace.{LivingKeyspace}
 use Rattle.fjall_meta.specs.Keyspaces.{Keyspaces, keyspace_at}
-use Rattle.fjall_versions.specs.Replays.{by_id}
-use Rattle.fjall_versions.proofs.Ids.{living_has, own_id}
-use Rattle.fjall_versions.proofs.Living.{get_by_id}
-use Rattle.fjall_versions.proofs.Slots.{same_maps}
+use Rattle.fjall_contents.specs.Replays.{by_id}
+use Rattle.fjall_contents.proofs.Ids.{living_has, own_id}
+use Rattle.fjall_contents.proofs.Living.{get_by_id}
+use Rattle.fjall_contents.proofs.Slots.{same_maps}
 use Rattle.fjall_views.specs.Views.{value_at}
 use Rattle.fjall_views.proofs.Shown.{same_views}
 use Rattle.fjall_contents.specs.Contents.{Stored, clears_held, map_held, store_held, versions_held}

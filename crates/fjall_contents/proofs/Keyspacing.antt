@@ -10,12 +10,12 @@ use Rattle.fjall_journal.specs.Batches.{Shown}
 use Rattle.fjall_meta.specs.declared.living.LivingKeyspace.{LivingKeyspace}
 use Rattle.fjall_meta.specs.Keyspaces.{AreKeyspaces, Keyspaces, keyspace_at, with_keyspace, without_keyspace}
 use Rattle.fjall_table.specs.Blocks.{Entry}
-use Rattle.fjall_versions.specs.Replays.{counts, option_pairs}
-use Rattle.fjall_versions.specs.Views.{clears_of, versions_of}
-use Rattle.fjall_versions.proofs.Creating as Creating
-use Rattle.fjall_versions.proofs.Keeping as Keeping
-use Rattle.fjall_versions.proofs.Kept.{all_are_kept}
-use Rattle.fjall_versions.proofs.Living.{found_new, found_other, found_without}
+use Rattle.fjall_contents.specs.Replays.{counts, option_pairs}
+use Rattle.fjall_contents.specs.Views.{clears_of, versions_of}
+use Rattle.fjall_contents.proofs.Creating as Creating
+use Rattle.fjall_contents.proofs.Keeping as Keeping
+use Rattle.fjall_contents.proofs.Kept.{all_are_kept}
+use Rattle.fjall_contents.proofs.Living.{found_new, found_other, found_without}
 use Rattle.fjall_views.specs.Views.{view_of}
 use Rattle.fjall_contents.specs.Contents.{Stored, clears_held, counts_beyond, is_beyond, map_held, store_held, versions_held}
 use Rattle.fjall_contents.proofs.Beyond.{clear_where, clears_more, entries_where, no_clears, no_versions, versions_more}

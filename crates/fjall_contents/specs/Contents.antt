@@ -9,8 +9,8 @@ use Rattle.fjall_base.specs.Store.{Store, Command, Clear}
 use Rattle.fjall_journal.specs.Batches.{Shown}
 use Rattle.fjall_meta.specs.Keyspaces.{Keyspaces}
 use Rattle.fjall_table.specs.Blocks.{Entry}
-use Rattle.fjall_versions.specs.Replays.{bare, by_id, counts, item_of, writing}
-use Rattle.fjall_versions.specs.Views.{clears_of, versions_of}
+use Rattle.fjall_contents.specs.Replays.{bare, by_id, counts, item_of, writing}
+use Rattle.fjall_contents.specs.Views.{clears_of, versions_of}
 use Rattle.fjall_views.specs.Views.{view_of}
 
 -- ---- one keyspace's files

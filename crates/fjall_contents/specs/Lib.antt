@@ -1,1 +1,4 @@
+pub mod Replays
+pub mod Versions
+pub mod Views
 pub mod Contents

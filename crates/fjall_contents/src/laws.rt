@@ -8,7 +8,7 @@ ghost use Rattle.fjall_contents.specs.Contents.{AreWithin, IsWithin, Stored, cle
 ghost use Rattle.fjall_journal.specs.Batches.{Shown};
 ghost use Rattle.fjall_meta.specs.declared.living.LivingKeyspace.{LivingKeyspace};
 ghost use Rattle.fjall_meta.specs.Keyspaces.{AreKeyspaces, Keyspaces, keyspace_at, with_keyspace, without_keyspace};
-ghost use Rattle.fjall_versions.specs.Replays.{commands_of, first_fault, journal_commands, option_pairs, store_in};
+ghost use Rattle.fjall_contents.specs.Replays.{commands_of, first_fault, journal_commands, option_pairs, store_in};
 ghost use Rattle.fjall_views.specs.Views.{value_at};
 
 /// Within a persisted number is what is numbered at most it. Where there is none, nothing is.

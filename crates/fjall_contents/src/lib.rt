@@ -1,10 +1,22 @@
-//! What a folder's tables, records and journals hold of its keyspaces, and the store that they stand for.
+//! What a folder's tables, records and journals hold of its keyspaces: what batches command, the versions that they make, and
+//! the store that all of it stands for.
 #![tactic(auto)]
 
 mod laws;
+mod recovery;
+mod replay_laws;
+mod sound;
 
 pub use laws::{
     a_keyspace_reads, batches_follow_one_another, creation_is_a_command, deletion_is_a_command,
     nothing_to_keep, one_more_batch, stored_batches_may_go, views_alone_matter,
     what_is_stored_has_its_number, without_tables_the_journals_tell_all,
 };
+pub use recovery::Persisted;
+pub use replay_laws::{
+    a_batch_is_a_write, a_clear_is_a_command, a_creation_is_replayed, a_deletion_is_replayed,
+    a_replay_holds_no_rest, batches_make_their_versions, names_stand_in_order, one_item_is_a_write,
+    one_more_batch_replayed, replay_is_a_view, replays_follow_one_another, the_living_have_names,
+    versions_change_maps_alone, what_is_kept_goes_on,
+};
+pub use sound::check_batches;

@@ -9,23 +9,23 @@ use Rattle.fjall_base.specs.Disk.{Meaning}
 use Rattle.fjall_base.specs.Pairs.{Bytes, Pairs, altered, byte_order}
 use Rattle.fjall_base.specs.Store.{map_at}
 use Rattle.fjall_table.specs.Blocks.{Entry}
-use Rattle.fjall_blocks.specs.Readers.{AreRead, Reader}
+use Rattle.fjall_table_reader.specs.Readers.{AreRead, Reader}
 use Rattle.fjall_views.specs.Views.{given, value_at}
-use Rattle.fjall_sorted.specs.Sorted.{flat}
-use Rattle.fjall_parts.specs.Parts.{parts_of, versions_in}
-use Rattle.fjall_lsm.specs.Puts.{bare_tree}
-use Rattle.fjall_lsm.specs.Trees.{Shape, clears_of, versions_of}
+use Rattle.fjall_memtable.specs.Sorted.{flat}
+use Rattle.fjall_memtable.specs.Parts.{parts_of, versions_in}
+use Rattle.fjall_tree.specs.Puts.{bare_tree}
+use Rattle.fjall_tree.specs.Trees.{Shape, clears_of, versions_of}
 use Rattle.fjall_trees.specs.Forests.{tree_at}
 use Rattle.fjall_trees.specs.Tables.{shape_in}
 use Rattle.fjall_trees.proofs.Changing.{tree_under}
-use Rattle.fjall_maps.specs.Tables.{map_with}
+use Rattle.fjall_trees.specs.MapTables.{map_with}
 use Rattle.fjall_history.specs.declared.ticket.View.{View}
 use Rattle.fjall_history.specs.Queries.{Query}
-use Rattle.fjall_state.specs.Shapes.{OfRead}
-use Rattle.fjall_state.specs.Machine.{State, due, maps_in, version_count}
-use Rattle.fjall_state.specs.Remembered.{instant_in}
-use Rattle.fjall_state.proofs.Sizes.{versions_agree}
-use Rattle.fjall_state.proofs.Standing.{pairs_agree}
+use Rattle.fjall_machine.specs.Shapes.{OfRead}
+use Rattle.fjall_machine.specs.Machine.{State, due, maps_in, version_count}
+use Rattle.fjall_machine.specs.Remembered.{instant_in}
+use Rattle.fjall_machine.proofs.Sizes.{versions_agree}
+use Rattle.fjall_machine.proofs.Standing.{pairs_agree}
 use Rattle.fjall_core.specs.Holding.{Held}
 use Rattle.fjall_core.specs.Standing.{ReadsOn, StandsFor}
 use Rattle.fjall_core.proofs.OwedStates.{same_due}

@@ -6,17 +6,17 @@ use Rattle.fjall_base.specs.Pairs.{Bytes}
 use Rattle.fjall_base.specs.Store.{Command, Create, Delete}
 use Rattle.fjall_base.specs.declared.error.Error.{Error}
 use Rattle.fjall_base.specs.declared.error.Error.TheVariants.{Io, NumbersUsedUp, OutOfMemory, Poisoned, Storage, TooManyItems, ValueTooLong}
-use Rattle.fjall_state.specs.Ingests.{ingestion}
+use Rattle.fjall_compaction.specs.Ingests.{ingestion}
 use Rattle.fjall_writes.specs.Ingestions.{KeyOp}
-use Rattle.fjall_versions.specs.Replays.{option_pairs}
+use Rattle.fjall_contents.specs.Replays.{option_pairs}
 use Rattle.fjall_journal.specs.Changes.{Emptied, Items, command_of}
 use Rattle.fjall_history.specs.declared.job.JobId.{JobId}
 use Rattle.fjall_history.specs.declared.reply.Reply.{Reply}
 use Rattle.fjall_history.specs.declared.reply.Reply.TheVariants.{Refused}
 use Rattle.fjall_history.specs.Histories.{Accepted, History, grown, extended, plain}
-use Rattle.fjall_state.specs.declared.call.Call.{Call}
-use Rattle.fjall_state.specs.Shapes.{OfChange, OfCount, OfCreation, OfDeletion, OfFlushBegin, OfFlushFinish, OfHandle, OfIngestion, OfJournalRotation, OfMaintenance, OfMergeBegin, OfMergeFinish, OfPersist, OfRead, OfRotation, OfTickets, OneLess, OneMore, Shape, shape_of}
-use Rattle.fjall_state.specs.Machine.{Answers, BeginsFlush, BeginsMerge, CreatesOrFinds, FinishesFlush, FinishesMerge, IngestionFails, IngestsInto, State, StepOf, ReadsTables, Refuses, MayFail, IsPoisoned, WorkFails, at_fault, begins_flush, begins_merge, deleted, due, facts, is_flushing, is_living, is_long, is_merging, journal_rotated, journal_synced, present, rotated, rotates, takes_effect, with_sealed, written_out}
+use Rattle.fjall_machine.specs.declared.call.Call.{Call}
+use Rattle.fjall_machine.specs.Shapes.{CallShape, OfChange, OfCount, OfCreation, OfDeletion, OfFlushBegin, OfFlushFinish, OfHandle, OfIngestion, OfJournalRotation, OfMaintenance, OfMergeBegin, OfMergeFinish, OfPersist, OfRead, OfRotation, OfTickets, OneLess, OneMore, shape_of}
+use Rattle.fjall_machine.specs.Machine.{Answers, BeginsFlush, BeginsMerge, CreatesOrFinds, FinishesFlush, FinishesMerge, IngestionFails, IngestsInto, State, StepOf, ReadsTables, Refuses, MayFail, IsPoisoned, WorkFails, at_fault, begins_flush, begins_merge, deleted, due, facts, is_flushing, is_living, is_long, is_merging, journal_rotated, journal_synced, present, rotated, rotates, takes_effect, with_sealed, written_out}
 use Rattle.fjall_trees.specs.Forests.{Forest}
 use Rattle.fjall_core.specs.Durables.{Durable}
 use Rattle.fjall_core.specs.Crashes.{asked, attempt, RunOn, Tried, is_io}
@@ -32,7 +32,7 @@ as_it_was : (s t : State) (tried : List Command) → tried ≡ [] → t ≡ s �
 as_it_was s t tried none same = stays none (ap (λ (x : State). x.history) same) (λ bad. ap (λ (x : State). x.poisoned) same ∙ bad)
 
 -- what a fault leaves, but that it poisons, has the history and the flag
-same_history : (s : State) (shape : Shape) → (at_fault s shape).history ≡ s.history
+same_history : (s : State) (shape : CallShape) → (at_fault s shape).history ≡ s.history
 same_history s (OfHandle OneLess id) = refl
 same_history s (OfHandle OneMore id) = refl
 same_history s (OfChange change how) = refl
@@ -52,12 +52,12 @@ same_history s (OfPersist mode) = refl
 same_history s (OfCount count) = refl
 
 -- a fault, of whatever was asked
-fault_moves : (s left t : State) (shape : Shape) → Asks s shape → due s shape ≡ None → left.history ≡ s.history → IsPoisoned left t → Moves s (asked s shape) t
+fault_moves : (s left t : State) (shape : CallShape) → Asks s shape → due s shape ≡ None → left.history ≡ s.history → IsPoisoned left t → Moves s (asked s shape) t
 fault_moves s left t shape (asks_nothing none) due_is same fault = stays none (ap (λ (x : State). x.history) fault.is ∙ same) (λ _. ap (λ (x : State). x.poisoned) fault.is)
 fault_moves s left t shape (asks_one command is well) due_is same fault = faults command is (ap (λ (x : State). x.history) fault.is ∙ same) (ap (λ (x : State). x.poisoned) fault.is) (well due_is)
 
 -- a read asks for nothing
-reads_ask : (s : State) (trees : Forest) (shape : Shape) → ReadsTables trees shape → asked s shape ≡ []
+reads_ask : (s : State) (trees : Forest) (shape : CallShape) → ReadsTables trees shape → asked s shape ≡ []
 reads_ask s trees (OfRead view id query) reads = refl
 reads_ask s trees (OfHandle call id) reads = absurd reads
 reads_ask s trees (OfChange change how) reads = absurd reads
@@ -76,7 +76,7 @@ reads_ask s trees (OfPersist mode) reads = absurd reads
 reads_ask s trees (OfCount count) reads = absurd reads
 
 -- a fault of a call that asks for nothing
-worked : (s left t : State) (shape : Shape) → asked s shape ≡ [] → left.history ≡ s.history → IsPoisoned left t → Moves s (asked s shape) t
+worked : (s left t : State) (shape : CallShape) → asked s shape ≡ [] → left.history ≡ s.history → IsPoisoned left t → Moves s (asked s shape) t
 worked s left t shape none same fault = stays none (ap (λ (x : State). x.history) fault.is ∙ same) (λ _. ap (λ (x : State). x.poisoned) fault.is)
 
 -- a sync of the journal leaves the history and the flag
@@ -97,7 +97,7 @@ ingestion_moves s t id items none (inr (inr (mid, left, ingests, evicts, fault))
     fault_moves s (with_sealed left.parts.journals.sealed (journal_synced s)) t (OfIngestion id items) (asks s (OfIngestion id items)) none (synced_history s (is_long s.parts) refl).0 fault
 
 -- a worker's step asks for nothing, an ingestion for one command, and a fault leaves the history
-work_moves : (s t : State) (shape : Shape) → due s shape ≡ None → WorkFails shape s t → Moves s (asked s shape) t
+work_moves : (s t : State) (shape : CallShape) → due s shape ≡ None → WorkFails shape s t → Moves s (asked s shape) t
 work_moves s t (OfFlushBegin id) none (begins, numbered, fault) = worked s s t (OfFlushBegin id) refl refl fault
 work_moves s t (OfFlushFinish job) none (due_so, well, inl fault) = worked s s t (OfFlushFinish job) refl refl fault
 work_moves s t (OfFlushFinish job) none (due_so, well, inr (parts, mid, flushes, (gone, left, all, may, is), fault)) = worked s mid t (OfFlushFinish job) refl (ap (λ (x : State). x.history) is) fault
@@ -118,7 +118,7 @@ work_moves s t (OfTickets call) none fails = absurd fails
 work_moves s t (OfPersist mode) none fails = absurd fails
 work_moves s t (OfCount count) none fails = absurd fails
 
-failure_moves : (s t : State) (shape : Shape) (error : Error) → due s shape ≡ None → MayFail shape error s t → Moves s (attempt s shape (Refused error)) t
+failure_moves : (s t : State) (shape : CallShape) (error : Error) → due s shape ≡ None → MayFail shape error s t → Moves s (attempt s shape (Refused error)) t
 failure_moves s t shape (Io kind) none (inl (changes, fault)) = fault_moves s (at_fault s shape) t shape (asks s shape) none (same_history s shape) fault
 failure_moves s t shape (Io kind) none (inr (inl (reads, same))) = as_it_was s t _ (reads_ask s s.parts.trees shape reads) same
 failure_moves s t shape (Io kind) none (inr (inr fails)) = work_moves s t shape none fails
@@ -130,13 +130,13 @@ failure_moves s t shape NumbersUsedUp none (used, same) = as_it_was s t _ refl s
 failure_moves s t shape TooManyItems none (room, same) = as_it_was s t _ refl same
 failure_moves s t shape error none fault = absurd fault
 
-refusal_moves : (s t : State) (shape : Shape) (error : Error) (first : Option Error) → due s shape ≡ first → Refuses first shape error s t → Moves s (attempt s shape (Refused error)) t
+refusal_moves : (s t : State) (shape : CallShape) (error : Error) (first : Option Error) → due s shape ≡ first → Refuses first shape error s t → Moves s (attempt s shape (Refused error)) t
 refusal_moves s t shape error (Some first) due_is (is, same) =
     as_it_was s t _ (no_attempt s shape error (ap is_io is ∙ ap is_fault (sym due_is) ∙ never_due (facts s) shape)) same
 refusal_moves s t shape error None due_is failure = failure_moves s t shape error due_is failure
 
 -- what was asked was accepted
-accepted_moves : (s t : State) (shape : Shape) (command : Command) → Asks s shape → asked s shape ≡ command ∷ [] → due s shape ≡ None → t.history ≡ grown s.history (plain command) → Moves s (asked s shape) t
+accepted_moves : (s t : State) (shape : CallShape) (command : Command) → Asks s shape → asked s shape ≡ command ∷ [] → due s shape ≡ None → t.history ≡ grown s.history (plain command) → Moves s (asked s shape) t
 accepted_moves s t shape command (asks_nothing none) is due_is history = let bad : ⊥ = cc in absurd bad
 accepted_moves s t shape command (asks_one other other_is well) is due_is history = accepts command is history (well due_is)
 
@@ -186,7 +186,7 @@ ingested_moves s t id (item ∷ items) reply none (told, left, mid, ingests, is)
     accepted_moves s t shape (ingestion id all) (asks s shape) refl none
     (ap (λ (x : State). x.history) is ∙ ap (λ (x : State). x.history) ingests.is ∙ ap (λ (h : History). grown h (plain (ingestion id all))) (synced_history s (is_long s.parts) refl).0)
 
-answer_moves : (s t : State) (shape : Shape) (reply : Reply) → due s shape ≡ None → Answers s shape reply t → Moves s (asked s shape) t
+answer_moves : (s t : State) (shape : CallShape) (reply : Reply) → due s shape ≡ None → Answers s shape reply t → Moves s (asked s shape) t
 answer_moves s t (OfChange (Items []) how) reply none (told, is) = as_it_was s t [] refl is
 answer_moves s t (OfChange (Items (item ∷ items)) how) reply none (told, is) =
     let all = Items (item ∷ items) in
@@ -211,7 +211,7 @@ answer_moves s t (OfPersist mode) reply none (told, is) = quiet s t [] refl (ap 
 answer_moves s t (OfCount count) reply none (told, same) = as_it_was s t [] refl same
 
 -- each step of the machine is one of these
-pub step_moves : (s t : State) (shape : Shape) (reply : Reply) → StepOf s shape reply t → Moves s (attempt s shape reply) t
+pub step_moves : (s t : State) (shape : CallShape) (reply : Reply) → StepOf s shape reply t → Moves s (attempt s shape reply) t
 step_moves s t shape (Refused error) refuses = refusal_moves s t shape error (due s shape) refl refuses
 step_moves s t shape reply (none, answers) = answer_moves s t shape reply none answers
 

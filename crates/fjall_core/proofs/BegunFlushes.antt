@@ -4,24 +4,24 @@ use Rattle.std.specs.Option.{option_map}
 use Rattle.std.proofs.lemmas.Bool.{eqb-false, eqb-true}
 use Rattle.fjall_base.specs.Store.{kept}
 use Rattle.fjall_journal.specs.Batches.{Written}
-use Rattle.fjall_lsm.specs.Jobs.{flush_begun}
-use Rattle.fjall_lsm.specs.Trees.{Shape}
-use Rattle.fjall_loading.specs.Known.{GoesOnFrom}
-use Rattle.fjall_maps.specs.Tables.{store_with}
-use Rattle.fjall_maps.proofs.Alike.{changed_alike_store, flush_leaves}
+use Rattle.fjall_tree.specs.Jobs.{flush_begun}
+use Rattle.fjall_tree.specs.Trees.{Shape}
+use Rattle.fjall_recovery.specs.Known.{GoesOnFrom}
+use Rattle.fjall_trees.specs.MapTables.{store_with}
+use Rattle.fjall_trees.proofs.Alike.{changed_alike_store, flush_leaves}
 use Rattle.fjall_meta.specs.declared.living.LivingKeyspace.{LivingKeyspace}
 use Rattle.fjall_meta.specs.Keyspaces.{Keyspaces}
 use Rattle.fjall_recovery.specs.Halves.{Tree}
 use Rattle.fjall_recovery.specs.Homes.{stored_in}
 use Rattle.fjall_recovery.specs.Places.{Journaling}
 use Rattle.fjall_contents.specs.Contents.{clears_held, versions_held}
-use Rattle.fjall_replay.specs.Beside.{ShowsWith}
-use Rattle.fjall_state.specs.Machine.{is_among}
-use Rattle.fjall_state.specs.Remembered.{flush_out}
-use Rattle.fjall_state.proofs.SameTrees.{altered_tables}
+use Rattle.fjall_recovery.specs.Beside.{ShowsWith}
+use Rattle.fjall_machine.specs.Machine.{is_among}
+use Rattle.fjall_machine.specs.Remembered.{flush_out}
+use Rattle.fjall_machine.proofs.SameTrees.{altered_tables}
 use Rattle.fjall_table.specs.Blocks.{Entry}
-use Rattle.fjall_blocks.specs.Readers.{Reader}
-use Rattle.fjall_tree.specs.Records.{Fields}
+use Rattle.fjall_table_reader.specs.Readers.{Reader}
+use Rattle.fjall_manifest.specs.Records.{Fields}
 use Rattle.fjall_trees.specs.Forests.{Forest, altered_at, tree_at}
 use Rattle.fjall_trees.proofs.Others.{altered_here, altered_other}
 use Rattle.fjall_core.specs.Holding.{Held}

@@ -8,10 +8,10 @@ use Rattle.fjall_base.specs.declared.error.Error.{Error}
 use Rattle.fjall_base.specs.declared.error.Error.TheVariants.{OutOfMemory}
 use Rattle.fjall_history.specs.declared.reply.Reply.{Reply}
 use Rattle.fjall_history.specs.declared.reply.Reply.TheVariants.{Done, Flag, Names, Number, Refused}
-use Rattle.fjall_state.specs.Shapes.{Count, Exists, OfCount, OfHandle, OfRead, OneMore, Shape}
-use Rattle.fjall_state.specs.Shapes as shapes
-use Rattle.fjall_state.specs.Machine.{State, due_in, has_name}
-use Rattle.fjall_state.specs.Remembered.{IsDueOrMemory, Remembered, facts_of, retained}
+use Rattle.fjall_machine.specs.Shapes.{CallShape, Count, Exists, OfCount, OfHandle, OfRead, OneMore}
+use Rattle.fjall_machine.specs.Shapes as shapes
+use Rattle.fjall_machine.specs.Machine.{State, due_in, has_name}
+use Rattle.fjall_machine.specs.Remembered.{IsDueOrMemory, Remembered, facts_of, retained}
 use Rattle.fjall_files.proofs.Tidying.{stays_start}
 use Rattle.fjall_core.specs.Crashes.{BlamesDevice, IsSync, attempt}
 use Rattle.fjall_table.specs.Blocks.{Entry}
@@ -59,21 +59,21 @@ retained_serves old core m id result same none is unchanged cause =
 -- ---- what is told of the core
 
 -- a count that takes no memory
-pub count_serves : (core : Held) (shape : Shape) (count : Count) (reply : Reply) → shape ≡ OfCount count → HeldCount core count reply → BlamesDevice reply core.disk core.disk → OnDisk core (OfCount count) reply core
+pub count_serves : (core : Held) (shape : CallShape) (count : Count) (reply : Reply) → shape ≡ OfCount count → HeldCount core count reply → BlamesDevice reply core.disk core.disk → OnDisk core (OfCount count) reply core
     → Owes core (OfCount count) reply core → ((s : State) → attempt s (OfCount count) reply ≡ []) → ((s : State) → IsSync s (OfCount count) reply → ⊥) → Serves core shape reply core
-count_serves core shape count reply asked told blames disk owes none unsynced = subst (λ (c : Shape). Serves core c reply core) (sym asked) (answer_serves core (OfCount count) reply (λ reads. reads) owes disk blames none unsynced)
+count_serves core shape count reply asked told blames disk owes none unsynced = subst (λ (c : CallShape). Serves core c reply core) (sym asked) (answer_serves core (OfCount count) reply (λ reads. reads) owes disk blames none unsynced)
 
-pub number_serves : (core : Held) (shape : Shape) (count : Count) (n : ℕ) → shape ≡ OfCount count → HeldCount core count (Number n) → Serves core shape (Number n) core
+pub number_serves : (core : Held) (shape : CallShape) (count : Count) (n : ℕ) → shape ≡ OfCount count → HeldCount core count (Number n) → Serves core shape (Number n) core
 number_serves core shape count n asked told = count_serves core shape count (Number n) asked told refl refl (refl, (told, refl)) (λ s. refl) (λ s sync. sync)
 
-pub number_owes : (core : Held) (shape : Shape) (count : Count) (n : ℕ) → shape ≡ OfCount count → HeldCount core count (Number n) → Owes core shape (Number n) core
-number_owes core shape count n asked told = subst (λ (c : Shape). Owes core c (Number n) core) (sym asked) (refl, (told, refl))
+pub number_owes : (core : Held) (shape : CallShape) (count : Count) (n : ℕ) → shape ≡ OfCount count → HeldCount core count (Number n) → Owes core shape (Number n) core
+number_owes core shape count n asked told = subst (λ (c : CallShape). Owes core c (Number n) core) (sym asked) (refl, (told, refl))
 
-pub flag_serves : (core : Held) (shape : Shape) (count : Count) (flag : Bool) → shape ≡ OfCount count → HeldCount core count (Flag flag) → Serves core shape (Flag flag) core
+pub flag_serves : (core : Held) (shape : CallShape) (count : Count) (flag : Bool) → shape ≡ OfCount count → HeldCount core count (Flag flag) → Serves core shape (Flag flag) core
 flag_serves core shape count flag asked told = count_serves core shape count (Flag flag) asked told refl refl (refl, (told, refl)) (λ s. refl) (λ s sync. sync)
 
-pub flag_owes : (core : Held) (shape : Shape) (count : Count) (flag : Bool) → shape ≡ OfCount count → HeldCount core count (Flag flag) → Owes core shape (Flag flag) core
-flag_owes core shape count flag asked told = subst (λ (c : Shape). Owes core c (Flag flag) core) (sym asked) (refl, (told, refl))
+pub flag_owes : (core : Held) (shape : CallShape) (count : Count) (flag : Bool) → shape ≡ OfCount count → HeldCount core count (Flag flag) → Owes core shape (Flag flag) core
+flag_owes core shape count flag asked told = subst (λ (c : CallShape). Owes core c (Flag flag) core) (sym asked) (refl, (told, refl))
 
 pub exists_owes : (core : Held) (name given : Bytes) (exists : Bool) → given ≡ name → exists ≡ has_name (store_in core) given → Owes core (OfCount (Exists name)) (Flag exists) core
 exists_owes core name given exists same is = (refl, (ap Flag (is ∙ ap (has_name (store_in core)) same), refl))

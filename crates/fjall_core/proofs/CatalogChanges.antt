@@ -8,9 +8,9 @@ use Rattle.fjall_base.proofs.Moments.{at_end, weaken}
 use Rattle.fjall_files.specs.Regions.{Within}
 use Rattle.fjall_journal.specs.Batches.{Shown}
 use Rattle.fjall_meta.specs.Keyspaces.{Keyspaces}
-use Rattle.fjall_tree.specs.Records.{Fields}
-use Rattle.fjall_versions.specs.Replays.{first_fault, least_after}
-use Rattle.fjall_versions.proofs.Kept.{kept_along}
+use Rattle.fjall_manifest.specs.Records.{Fields}
+use Rattle.fjall_contents.specs.Replays.{first_fault, least_after}
+use Rattle.fjall_contents.proofs.Kept.{kept_along}
 use Rattle.fjall_contents.proofs.Following.{before_least}
 use Rattle.fjall_recovery.specs.Folders.{past_record, past_records}
 use Rattle.fjall_recovery.specs.Folders as folders
@@ -20,11 +20,11 @@ use Rattle.fjall_recovery.proofs.Roots.{crashes_leave_the_root}
 use Rattle.fjall_recovery.proofs.Holding.{made}
 use Rattle.fjall_commit.specs.Journaling.{IsWriting}
 use Rattle.fjall_commit.specs.Changes.{HasEither}
-use Rattle.fjall_state.specs.Remembered.{Remembered}
+use Rattle.fjall_machine.specs.Remembered.{Remembered}
 use Rattle.fjall_table.specs.Blocks.{Entry}
-use Rattle.fjall_maps.specs.Tables.{store_with}
+use Rattle.fjall_trees.specs.MapTables.{store_with}
 use Rattle.fjall_core.specs.Holding.{Held}
-use Rattle.fjall_core.specs.Durables.{Durable, Knows, Lies, Rests, StandsAmid, StaysFinished, AreKnown}
+use Rattle.fjall_core.specs.Durables.{Durable, Knows, Lies, CrashLeavesPending, StandsAmid, StaysFinished, AreKnown}
 use Rattle.fjall_core.specs.Standing.{Poisons, StandsOn}
 use Rattle.fjall_core.proofs.CrashesInRuns.{amid_more}
 use Rattle.fjall_commit.proofs.CrashedJournals.{commanded, store_is_kept}
@@ -43,7 +43,7 @@ numbers_below limit least batches none le =
 
 -- the store of the synced batches
 abbrev pub store_of_tree : Journaling → Tree → Store
-store_of_tree j t = folders.store_of (contents_with j t [])
+store_of_tree j t = folders.store_of_contents (contents_with j t [])
 
 no_more : {X : Type 0} (front rest : List X) → front ++ rest ≡ [] → front ≡ []
 no_more [] rest e = refl
@@ -75,7 +75,7 @@ pub ill_leads : (entries : ℕ → List (List Entry)) (old new : Held) (d : Dura
     → ((base : Store) (pending : List Command) → Lies old (held_on old base pending) → StaysFinished (state_in new.disk)) → StandsOn old entries d → Leads entries new d (command ∷ [])
 ill_leads entries old new d command well fault leaves finished = leads_on entries old new d (command ∷ []) (λ base pending on.
     let left = leaves base pending (on.lies well) in
-    let rests : Rests (held_on new base (pending ++ command ∷ [])) = at_end old.disk new.disk _ left in
+    let rests : CrashLeavesPending (held_on new base (pending ++ command ∷ [])) = at_end old.disk new.disk _ left in
     let was = present_of entries old (held_on old base pending) false well on ∙ ap (λ (m : Remembered). kept (store_with entries m.keyspaces m.trees)) (sym fault.memory_is) in
     let still = stands_ill entries new base (pending ++ command ∷ []) (ap (λ (m : Remembered). m.poisoned) fault.memory_is) rests (finished base pending (on.lies well)) (inr (pending, command, refl, was)) in
     (held_on new base (pending ++ command ∷ []), still, record { leaves = left; safe = []; base = refl; rest = refl; rests = rests }))
@@ -93,7 +93,7 @@ pub record Changed (mid new : Held) (j : Journaling) (t : Tree) (command : Comma
   pub after : store_of_tree j next ≡ kept (apply (store_of_tree j t) command)
   pub run : Within (codes "keyspaces") mid.disk new.disk
   pub leaves : LeavesOnly mid.disk new.disk (HasEither t next)
-  pub number : done ≡ true → folders.number_of (contents_with j next []) ≤ new.memory.next
+  pub number : done ≡ true → folders.number_of_contents (contents_with j next []) ≤ new.memory.next
   pub records : done ≡ true → List Fields
   pub in_tree : (is : done ≡ true) → LiesInTree (state_in new.disk) (records is) next
   pub last : done ≡ true → next.last ≡ new.catalog
@@ -117,7 +117,7 @@ changed_lies mid new base command lies none c =
       keyspaces = c.keyspaces refl;
       made = kept_along base (store_of_tree j lies.tree) (command ∷ []) (lies.made ∙ sym (store_is_kept (contents_with j lies.tree []))) ∙ sym c.after;
       waits = sym (ap (commanded c.next) none);
-      next = subst (λ l. folders.number_of (contents_with j c.next l) ≤ new.memory.next) (sym none) (c.number refl);
+      next = subst (λ l. folders.number_of_contents (contents_with j c.next l) ≤ new.memory.next) (sym none) (c.number refl);
     }
 
 -- what is known of homes there

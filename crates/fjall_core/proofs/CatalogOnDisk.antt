@@ -15,7 +15,7 @@ use Rattle.fjall_catalog.specs.declared.catalog.Catalog.{Catalog}
 use Rattle.fjall_catalog.specs.declared.update.Update.{Update}
 use Rattle.fjall_catalog.specs.Catalog.{fields}
 use Rattle.fjall_catalog.specs.Updates.{IsUpdate}
-use Rattle.fjall_versions.specs.Replays.{option_pairs}
+use Rattle.fjall_contents.specs.Replays.{option_pairs}
 use Rattle.fjall_contents.specs.Contents.{Stored, nothing_stored}
 use Rattle.fjall_contents.proofs.Held.{same_stored}
 use Rattle.fjall_contents.proofs.Keyspacing.{creation, deletion, nothing_to_keep}
@@ -28,8 +28,8 @@ use Rattle.fjall_recovery.specs.Places.{Journaling, LiesInRoot, LiesInTree, cont
 use Rattle.fjall_recovery.proofs.Roots.{crashes_leave_the_root, fewer_sound}
 use Rattle.fjall_recovery.proofs.Storing.{stored_inserted, stored_removed}
 use Rattle.fjall_commit.specs.declared.creation.Creation.{Creation}
-use Rattle.fjall_commit.specs.Changes.{HasRoom, IsCreation, first_home, with_home, without_home}
-use Rattle.fjall_state.specs.Remembered.{Remembered, with_creation, with_deletion}
+use Rattle.fjall_commit.specs.Changes.{HasRoomForKeyspace, IsCreation, first_home, with_home, without_home}
+use Rattle.fjall_machine.specs.Remembered.{Remembered, with_creation, with_deletion}
 use Rattle.fjall_core.specs.Holding.{Held}
 use Rattle.fjall_commit.specs.SyncedChanges as on_disk
 use Rattle.fjall_core.specs.Durables.{Durable, Lies, StandsAmid}
@@ -49,10 +49,10 @@ same_tree : (core : Held) (d : Durable) (lies : Lies core d) → tree_held core 
 same_tree core d lies = λ i. record { last = sym lies.last i; keyspaces = sym lies.keyspaces i; homes = lies.tree.homes; versions = lies.tree.versions }
 
 -- the number of a core on whose disk nothing is pending
-number_is : (core : Held) (base : Store) (lies : Lies core (held_on core base [])) → lies.journals.later ≡ [] → folders.number_of (contents_with lies.journals (tree_held core lies.tree.homes lies.tree.versions) []) ≤ core.memory.next
+number_is : (core : Held) (base : Store) (lies : Lies core (held_on core base [])) → lies.journals.later ≡ [] → folders.number_of_contents (contents_with lies.journals (tree_held core lies.tree.homes lies.tree.versions) []) ≤ core.memory.next
 number_is core base lies none =
-    subst (λ (t : Tree). folders.number_of (contents_with lies.journals t []) ≤ core.memory.next) (sym (same_tree core (held_on core base []) lies))
-    (subst (λ l. folders.number_of (contents_with lies.journals lies.tree l) ≤ core.memory.next) none lies.next)
+    subst (λ (t : Tree). folders.number_of_contents (contents_with lies.journals t []) ≤ core.memory.next) (sym (same_tree core (held_on core base []) lies))
+    (subst (λ l. folders.number_of_contents (contents_with lies.journals lies.tree l) ≤ core.memory.next) none lies.next)
 
 -- ---- a creation
 
@@ -76,7 +76,7 @@ stays_stored t number are =
     ∙ ap (λ b. cond b (stored_of (first_home number) []) (stored_in t.homes t.versions k.id)) other) t.keyspaces.living are.given
 
 -- the store of the keyspaces with one more
-created_store : (state : _) (j : Journaling) (t : Tree) (name : List ℕ) (options : List (List ℕ)) (number : ℕ) (c : Catalog) → LiesInRoot state j → AreKeyspaces t.keyspaces → folders.number_of (contents_with j t []) ≤ number
+created_store : (state : _) (j : Journaling) (t : Tree) (name : List ℕ) (options : List (List ℕ)) (number : ℕ) (c : Catalog) → LiesInRoot state j → AreKeyspaces t.keyspaces → folders.number_of_contents (contents_with j t []) ≤ number
     → store_of_tree j (with_home name options number c t) ≡ kept (apply (store_of_tree j t) (Create name (option_pairs options)))
 created_store state j t name options number c root are is =
     let batches = map shown (batches_in (journals_with j [])) in
@@ -115,7 +115,7 @@ creation_changed mid new base name options creation done lies none is were are g
       after = created_store (state_in mid.disk) j t name options number catalog lies.writing.root were numbered;
       run = disk.within;
       leaves = disk.leaves lies.records t name options number there is are below were.fits;
-      number = λ ok. subst (λ (n : ℕ). folders.number_of (contents_with j (with_home name options number catalog t) []) ≤ n) (sym (ap (λ (m : Remembered). m.next) (core.memory_is ok)))
+      number = λ ok. subst (λ (n : ℕ). folders.number_of_contents (contents_with j (with_home name options number catalog t) []) ≤ n) (sym (ap (λ (m : Remembered). m.next) (core.memory_is ok)))
           (created_number j t name options number catalog is.update.persisted is.update.highest numbered);
       records = λ ok. lies.records ++ fields catalog ∷ [];
       in_tree = λ ok. disk.lies ok lies.records t name options number there is are below were.fits;
@@ -131,7 +131,7 @@ creation_changed mid new base name options creation done lies none is were are g
 -- no call of it was one that no disk can serve
 pub creation_served : (mid new : Held) (base : Store) (name : List ℕ) (options : List (List ℕ)) (creation : Creation) (done : Bool) (lies : Lies mid (held_on mid base [])) → lies.journals.later ≡ []
     → IsCreation mid.catalog (with_keyspace name options mid.memory.next mid.memory.keyspaces) mid.memory.keyspaces.next mid.memory.next creation → AreKeyspaces mid.memory.keyspaces
-    → AreKeyspaces (with_keyspace name options mid.memory.next mid.memory.keyspaces) → CreatedKeyspace mid new creation done → HasRoom (state_in mid.disk) mid.memory.keyspaces.next → new.disk.misuses ≡ mid.disk.misuses
+    → AreKeyspaces (with_keyspace name options mid.memory.next mid.memory.keyspaces) → CreatedKeyspace mid new creation done → HasRoomForKeyspace (state_in mid.disk) mid.memory.keyspaces.next → new.disk.misuses ≡ mid.disk.misuses
 creation_served mid new base name options creation done lies none is were are disk room =
     let t = tree_held mid lies.tree.homes lies.tree.versions in
     let there : LiesInTree (state_in mid.disk) lies.records t = subst (λ (x : Tree). LiesInTree (state_in mid.disk) lies.records x) (sym (same_tree mid (held_on mid base []) lies)) lies.in_tree in
@@ -171,7 +171,7 @@ deletion_changed mid new base id update done lies none is were disk core =
       after = deleted_store j t id update.catalog;
       run = disk.within;
       leaves = disk.leaves lies.records t id number there is below;
-      number = λ ok. subst (λ (n : ℕ). folders.number_of (contents_with j (without_home id update.catalog t) []) ≤ n) (sym (ap (λ (m : Remembered). m.next) (core.memory_is ok)))
+      number = λ ok. subst (λ (n : ℕ). folders.number_of_contents (contents_with j (without_home id update.catalog t) []) ≤ n) (sym (ap (λ (m : Remembered). m.next) (core.memory_is ok)))
           (deleted_number j t id number update.catalog is.persisted is.highest numbered);
       records = λ ok. lies.records ++ fields update.catalog ∷ [];
       in_tree = λ ok. disk.lies ok lies.records t id number there is below;

@@ -19,17 +19,17 @@ use Rattle.fjall_meta.specs.declared.living.LivingKeyspace.{LivingKeyspace}
 use Rattle.fjall_meta.specs.Entries.{entries_of, name_entry, option_entries, option_entry}
 use Rattle.fjall_meta.specs.Keyspaces.{AreKeyspaces, Keyspaces, is_name, keyspace_at, with_keyspace, without_keyspace}
 use Rattle.fjall_meta.proofs.Rising.{Rises, from_pairs}
-use Rattle.fjall_home.specs.declared.writing.TableFile.{TableFile}
+use Rattle.fjall_manifest.specs.declared.writing.TableFile.{TableFile}
 use Rattle.fjall_catalog.specs.Updates.{IsNewTable, IsTooLong}
 use Rattle.fjall_catalog.proofs.Pairs.{pairs_some}
 use Rattle.fjall_trees.specs.Forests.{Forest}
-use Rattle.fjall_versions.specs.Replays.{option_pairs}
-use Rattle.fjall_maps.specs.Maps.{store_of}
-use Rattle.fjall_versions.proofs.Found.{found_has}
-use Rattle.fjall_versions.proofs.Naming.{living_names, settings}
-use Rattle.fjall_versions.proofs.Slots.{same_id}
-use Rattle.fjall_state.specs.Machine.{HasLongOption, is_living}
-use Rattle.fjall_state.proofs.Facts.{counted_is}
+use Rattle.fjall_contents.specs.Replays.{option_pairs}
+use Rattle.fjall_trees.specs.Maps.{store_of}
+use Rattle.fjall_contents.proofs.Found.{found_has}
+use Rattle.fjall_contents.proofs.Naming.{living_names, settings}
+use Rattle.fjall_contents.proofs.Slots.{same_id}
+use Rattle.fjall_machine.specs.Machine.{HasLongOption, is_living}
+use Rattle.fjall_machine.proofs.Facts.{counted_is}
 use Rattle.fjall_base.proofs.Names.{bool_cases}
 
 -- ---- whether a table is written

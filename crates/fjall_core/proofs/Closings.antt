@@ -15,9 +15,9 @@ use Rattle.fjall_files.specs.Tidy.{StaysTidy}
 use Rattle.fjall_commit.proofs.KeptHomes.{persisted_homes}
 use Rattle.fjall_commit.proofs.TidyWrites.{persist_stays}
 use Rattle.fjall_commit.proofs.CrashesInWrites.{persist_apart, persist_leaves, persist_out}
-use Rattle.fjall_state.specs.Shapes.{OfPersist}
+use Rattle.fjall_machine.specs.Shapes.{OfPersist}
 use Rattle.fjall_history.specs.declared.reply.Reply.TheVariants.{Refused}
-use Rattle.fjall_state.specs.Machine as machine
+use Rattle.fjall_machine.specs.Machine as machine
 use Rattle.fjall_core.specs.Holding.{Held}
 use Rattle.fjall_core.specs.Durables.{Durable, Passes}
 use Rattle.fjall_core.specs.Crashes.{BlamesDevice, attempt}

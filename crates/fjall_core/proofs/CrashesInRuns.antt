@@ -7,15 +7,15 @@ use Rattle.fjall_base.specs.Disk as disk
 use Rattle.fjall_base.proofs.Moments.{after-append, started, runs_on, weaken}
 use Rattle.fjall_files.specs.Tidy.{IsTidy, StaysTidy}
 use Rattle.fjall_files.proofs.Tidying.{stays_both, stays_start, tidy_on}
-use Rattle.fjall_state.specs.declared.call.Call.{Call}
-use Rattle.fjall_state.specs.Shapes.{shape_of}
+use Rattle.fjall_machine.specs.declared.call.Call.{Call}
+use Rattle.fjall_machine.specs.Shapes.{shape_of}
 use Rattle.fjall_history.specs.declared.reply.Reply.{Reply}
-use Rattle.fjall_state.specs.Machine.{State, Step}
-use Rattle.fjall_recovery.specs.Folders.{StandsFor}
-use Rattle.fjall_core.specs.Durables.{Durable, IsBeginning, StandsAmid, Rests, Passes}
+use Rattle.fjall_machine.specs.Machine.{State, Step}
+use Rattle.fjall_recovery.specs.Folders.{ImageStandsFor}
+use Rattle.fjall_core.specs.Durables.{Durable, IsBeginning, StandsAmid, CrashLeavesPending, Passes}
 use Rattle.fjall_core.specs.Crashes.{attempt, BlamesEach, CallPasses, RunOn, IsSyncAt, SafeSince, SafeAt, Settled}
-use Rattle.fjall_versions.proofs.Kept.{kept_along}
-use Rattle.fjall_versions.proofs.Slots.{fold-append}
+use Rattle.fjall_contents.proofs.Kept.{kept_along}
+use Rattle.fjall_contents.proofs.Slots.{fold-append}
 
 pub none_first : (commands : List Command) → IsBeginning [] commands
 none_first commands = (commands, refl)
@@ -35,7 +35,7 @@ amid_shift base later safe least all image same s = record {
   front = safe ++ s.front;
   holds = (s.holds.0, append_assoc safe least s.holds.0 ∙ ap (λ (l : List Command). safe ++ l) s.holds.1);
   within = (s.within.0, append_assoc safe s.front s.within.0 ∙ ap (λ (l : List Command). safe ++ l) s.within.1);
-  stands = subst (λ t. StandsFor image t) (kept_along later (fold base safe) s.front same ∙ ap kept (sym (fold-append base safe s.front))) s.stands;
+  stands = subst (λ t. ImageStandsFor image t) (kept_along later (fold base safe) s.front same ∙ ap kept (sym (fold-append base safe s.front))) s.stands;
 }
 
 pub amid_least : (base : Store) (least all : List Command) (image : Image) → StandsAmid base least all image → StandsAmid base [] all image
@@ -62,7 +62,7 @@ passes_on d m e a b first second = record {
 }
 
 -- nothing was done, and nothing was tried
-pub passes_still : (d : Durable) → Rests d → Passes d [] d
+pub passes_still : (d : Durable) → CrashLeavesPending d → Passes d [] d
 passes_still d here = record {
   leaves = started d.meaning (StandsAmid d.base [] (d.pending ++ [])) (λ image is. amid_more d.base [] d.pending [] image (here image is));
   safe = [];
@@ -72,7 +72,7 @@ passes_still d here = record {
 }
 
 -- a run of calls passes
-pub run_passes : (s t : State) (d e : Durable) (calls : List Call) (replies : List Reply) (tried : List Command) → Rests d → RunOn s d calls replies tried t e → Passes d tried e
+pub run_passes : (s t : State) (d e : Durable) (calls : List Call) (replies : List Reply) (tried : List Command) → CrashLeavesPending d → RunOn s d calls replies tried t e → Passes d tried e
 run_passes s t d e [] [] tried here run = subst (λ l. Passes d l e) (sym run.0) (subst (λ x. Passes d [] x) (sym run.2) (passes_still d here))
 run_passes s t d e (c ∷ calls) (r ∷ replies) tried here (mid, on, rest, step, call, is, run) =
     subst (λ l. Passes d l e) (sym is) (passes_on d on e (attempt s (shape_of c) r) rest call.0 (run_passes mid t on e calls replies rest call.0.rests run))
@@ -133,9 +133,9 @@ safe_now d m new tried more p none later =
       since = weaken m.meaning new _ _ later (λ image s. behind image all (subst (λ l. StandsAmid m.base [] (l ++ more) image) none s));
     }
   where
-    settled : (image : Image) → p.safe ≡ d.pending ++ tried → StandsAmid m.base [] [] image → StandsFor image (kept (fold d.base (d.pending ++ tried)))
+    settled : (image : Image) → p.safe ≡ d.pending ++ tried → StandsAmid m.base [] [] image → ImageStandsFor image (kept (fold d.base (d.pending ++ tried)))
     settled image all s =
-        subst (λ t. StandsFor image t) (ap (λ l. kept (fold m.base l)) (no_more s.front s.within.0 s.within.1) ∙ p.base ∙ ap (λ l. kept (fold d.base l)) all) s.stands
+        subst (λ t. ImageStandsFor image t) (ap (λ l. kept (fold m.base l)) (no_more s.front s.within.0 s.within.1) ∙ p.base ∙ ap (λ l. kept (fold d.base l)) all) s.stands
 
     behind : (image : Image) → p.safe ≡ d.pending ++ tried → StandsAmid m.base [] more image → StandsAmid d.base (d.pending ++ tried) (d.pending ++ (tried ++ more)) image
     behind image all s =
@@ -147,10 +147,10 @@ safe_now d m new tried more p none later =
 joined : (d m : Durable) (tried more : List Command) (p : Passes d tried m) → p.safe ++ (m.pending ++ more) ≡ d.pending ++ (tried ++ more)
 joined d m tried more p = sym (append_assoc p.safe m.pending more) ∙ ap (λ (l : List Command). l ++ more) p.rest ∙ append_assoc d.pending tried more
 
-took_on : (a b c : Meaning) (first then : List disk.Step) → Took a b first → Took b c then → Took a c (first ++ then)
+took_on : (a b c : Meaning) (first then : List disk.DiskStep) → Took a b first → Took b c then → Took a c (first ++ then)
 took_on a b c first then p q = record {
-  state = q.state ∙ ap (λ (s : disk.State). after s then) p.state ∙ sym (after-append (state_in a) first then);
-  steps = q.steps ∙ ap (λ (l : List disk.Step). l ++ then) p.steps ∙ append_assoc a.steps first then;
+  state = q.state ∙ ap (λ (s : disk.DiskState). after s then) p.state ∙ sym (after-append (state_in a) first then);
+  steps = q.steps ∙ ap (λ (l : List disk.DiskStep). l ++ then) p.steps ∙ append_assoc a.steps first then;
 }
 
 -- a moment within a later part is one of the whole
@@ -160,7 +160,7 @@ safe_later d m new tried before all p safe = record {
   added = p.leaves.added ++ safe.added;
   passed = took_on d.meaning m.meaning safe.moment p.leaves.added safe.added p.leaves.took safe.passed;
   exactly = λ image is.
-      subst (λ t. StandsFor image t) (kept_along m.base (fold d.base p.safe) (m.pending ++ before) p.base ∙ ap kept (sym (fold-append d.base p.safe (m.pending ++ before))) ∙ ap (λ l. kept (fold d.base l)) (joined d m tried before p)) (safe.exactly image is);
+      subst (λ t. ImageStandsFor image t) (kept_along m.base (fold d.base p.safe) (m.pending ++ before) p.base ∙ ap kept (sym (fold-append d.base p.safe (m.pending ++ before))) ∙ ap (λ l. kept (fold d.base l)) (joined d m tried before p)) (safe.exactly image is);
   since = weaken safe.moment new _ _ safe.since (λ image s.
       subst (λ l. StandsAmid d.base l (d.pending ++ (tried ++ all)) image) (joined d m tried before p)
       (subst (λ l. StandsAmid d.base (p.safe ++ (m.pending ++ before)) l image) (joined d m tried all p) (amid_shift d.base m.base p.safe (m.pending ++ before) (m.pending ++ all) image p.base s)));

@@ -4,10 +4,10 @@ use Rattle.fjall_base.specs.Pairs.{Bytes}
 use Rattle.fjall_base.specs.declared.error.Error.{Error}
 use Rattle.fjall_options.specs.Options.{AreOptions}
 use Rattle.fjall_meta.specs.Keyspaces.{id_of}
-use Rattle.fjall_state.specs.Machine.{has_name}
-use Rattle.fjall_state.specs.Shapes.{OfCreation}
+use Rattle.fjall_machine.specs.Machine.{has_name}
+use Rattle.fjall_machine.specs.Shapes.{OfCreation}
 use Rattle.fjall_history.specs.declared.reply.Reply.TheVariants.{Number, Refused}
-use Rattle.fjall_state.specs.Remembered.{IsLawful, Remembered, poisoned, with_creation}
+use Rattle.fjall_machine.specs.Remembered.{IsLawful, Remembered, poisoned, with_creation}
 use Rattle.fjall_core.specs.Holding.{Held}
 use Rattle.fjall_core.specs.Crashes.{is_io}
 use Rattle.fjall_core.specs.Standing.{Owes, Serves, held_due, store_in}

@@ -8,28 +8,28 @@ use Rattle.fjall_base.specs.declared.error.Error.{Error}
 use Rattle.fjall_base.specs.declared.error.Error.TheVariants.{Io, NumbersUsedUp, OutOfMemory, ValueTooLong}
 use Rattle.fjall_meta.specs.Keyspaces.{id_of, with_keyspace}
 use Rattle.fjall_catalog.specs.Updates.{IsPreparingRefusal}
-use Rattle.fjall_versions.specs.Replays.{option_pairs}
-use Rattle.fjall_maps.specs.Maps.{store_of}
+use Rattle.fjall_contents.specs.Replays.{option_pairs}
+use Rattle.fjall_trees.specs.Maps.{store_of}
 use Rattle.fjall_trees.specs.Writes.{with_tree}
 use Rattle.fjall_table.specs.Blocks.{Entry}
 use Rattle.fjall_trees.specs.Forests.{Planted}
-use Rattle.fjall_maps.specs.Tables.{store_with}
-use Rattle.fjall_maps.proofs.Planted.{creation_of_trees, creation_with}
+use Rattle.fjall_trees.specs.MapTables.{store_with}
+use Rattle.fjall_trees.proofs.Planted.{creation_of_trees, creation_with}
 use Rattle.fjall_commit.specs.Journaling.{KeepsHomes, KeepsOtherHomes}
 use Rattle.fjall_commit.proofs.KeptHomes.{others_both}
 use Rattle.fjall_commit.specs.declared.creation.Creation.{Creation}
 use Rattle.fjall_commit.specs.Changes.{IsCreation}
-use Rattle.fjall_state.specs.Shapes.{OfCreation}
+use Rattle.fjall_machine.specs.Shapes.{OfCreation}
 use Rattle.fjall_history.specs.declared.reply.Reply.TheVariants.{Number, Refused}
-use Rattle.fjall_state.specs.Allowed.{HasRoom}
-use Rattle.fjall_state.specs.Machine.{HasLongOption, State, has_name, present}
-use Rattle.fjall_state.specs.Remembered.{AreBeside, IsLawful, Remembered, facts_of, poisoned, with_creation}
+use Rattle.fjall_machine.specs.Allowed.{HasRoomForChange}
+use Rattle.fjall_machine.specs.Machine.{HasLongOption, State, has_name, present}
+use Rattle.fjall_machine.specs.Remembered.{AreBeside, IsLawful, Remembered, facts_of, poisoned, with_creation}
 use Rattle.std.proofs.lemmas.List.Elements.{All-weaker}
 use Rattle.std.specs.Option.{is_some}
 use Rattle.fjall_options.specs.Options.{AreOptions}
-use Rattle.fjall_state.proofs.Dues.{may_create}
-use Rattle.fjall_state.proofs.Facts.{named_is}
-use Rattle.fjall_state.proofs.Lawful.{creation_is_lawful}
+use Rattle.fjall_machine.proofs.Dues.{may_create}
+use Rattle.fjall_machine.proofs.Facts.{named_is}
+use Rattle.fjall_machine.proofs.Lawful.{creation_is_lawful}
 use Rattle.fjall_base.specs.Errors.{Rose}
 use Rattle.fjall_journal.specs.declared.persist_mode.PersistMode.TheVariants.{SyncAll}
 use Rattle.fjall_journal.specs.Writer.{PersistTook}
@@ -46,7 +46,7 @@ use Rattle.fjall_commit.specs.SyncedChanges as on_disk
 use Rattle.fjall_core.proofs.CatalogOnDisk.{Becomes, creation_changed, creation_served}
 use Rattle.fjall_core.proofs.DeviceFaults.{served_on, room_on}
 use Rattle.fjall_core.proofs.JournalWrites.{held_on}
-use Rattle.fjall_state.proofs.Standing.{a_name_agrees, a_name_there}
+use Rattle.fjall_machine.proofs.Standing.{a_name_agrees, a_name_there}
 use Rattle.fjall_core.proofs.ServedCalls.{LeadsFrom, still_led, led_by, long_owes, long_serves, memory_owes, memory_serves, replaces_table, serves_by}
 use Rattle.fjall_core.proofs.TablesAtHome.{HomesStay, KeepsReads, LieThere, all_stay, carry_all, homes_stay, keeps_homes, keeps_same, others_there, outside_ill, outside_same, planted_there}
 use Rattle.fjall_core.proofs.Syncs.{Persisted, StaysSame, sync_empty, sync_lies}
@@ -119,7 +119,7 @@ module _ (old : Held) (name : Bytes) (options : List Bytes) (id number : ℕ) (i
   }
 
   module _ (none : held_due old (OfCreation name options) ≡ None) (fresh : has_name (store_in old) name ≡ false) where
-    room : HasRoom (facts_of old.memory old.catalog.next_table_id)
+    room : HasRoomForChange (facts_of old.memory old.catalog.next_table_id)
     room = (may_create (facts_of old.memory old.catalog.next_table_id) name none).room fresh
 
     pub created_owes : (honest : Type 0) (made : Held) → Makes honest (raised name options old) id number (Ok tt) made → Owes old (OfCreation name options) (Number id) made
@@ -286,12 +286,6 @@ is_fresh old name options lawful none unnamed are =
       fresh = fresh;
       after = creation_is_lawful name options old.memory lawful allowed.named unnamed are (λ same. (allowed.room fresh).free same) (allowed.room fresh).numbered;
     }
-
-pub room_of : (old : Held) (name : Bytes) (options : List Bytes) → IsFresh old name options → HasRoom (facts_of old.memory old.catalog.next_table_id)
-room_of old name options f = (may_create (facts_of old.memory old.catalog.next_table_id) name f.none).room f.fresh
-
-pub free_of : (old : Held) (name : Bytes) (options : List Bytes) → IsFresh old name options → old.memory.keyspaces.next ≢ 2 ^ 64 - 1
-free_of old name options f same = (room_of old name options f).free same
 
 pub to_raised : (honest : Type 0) (old made : Held) (name : Bytes) (options : List Bytes) (m : Remembered) (id number : ℕ) (result : Result Unit Error) → m ≡ with_creation name options old.memory → Makes honest (record old { memory = m }) id number result made
     → Makes honest (raised name options old) id number result made

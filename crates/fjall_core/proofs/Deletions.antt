@@ -10,18 +10,18 @@ use Rattle.fjall_meta.specs.Keyspaces.{without_keyspace}
 use Rattle.fjall_catalog.specs.declared.update.Update.{Update}
 use Rattle.fjall_catalog.specs.Updates.{IsPreparingRefusal, IsUpdate}
 use Rattle.fjall_table.specs.Blocks.{Entry}
-use Rattle.fjall_maps.specs.Tables.{pairs_with}
-use Rattle.fjall_maps.proofs.Commands.{deleted_by}
-use Rattle.fjall_maps.proofs.Planted.{deletion_of_trees}
+use Rattle.fjall_trees.specs.MapTables.{pairs_with}
+use Rattle.fjall_trees.proofs.Commands.{deleted_by}
+use Rattle.fjall_trees.proofs.Planted.{deletion_of_trees}
 use Rattle.fjall_commit.specs.Journaling.{KeepsHomes, KeepsOtherHomes}
 use Rattle.fjall_commit.proofs.KeptHomes.{others_both}
-use Rattle.fjall_state.specs.Shapes.{OfDeletion}
+use Rattle.fjall_machine.specs.Shapes.{OfDeletion}
 use Rattle.fjall_history.specs.declared.reply.Reply.TheVariants.{Done, Refused}
-use Rattle.fjall_state.specs.Allowed.{HasNumber}
-use Rattle.fjall_state.specs.Machine.{HasLongOption, State, is_living, present}
-use Rattle.fjall_state.specs.Remembered.{IsLawful, Remembered, facts_of, poisoned, with_deletion}
-use Rattle.fjall_state.proofs.Dues.{may_delete}
-use Rattle.fjall_state.proofs.Lawful.{deletion_is_lawful}
+use Rattle.fjall_machine.specs.Allowed.{HasNumber}
+use Rattle.fjall_machine.specs.Machine.{HasLongOption, State, is_living, present}
+use Rattle.fjall_machine.specs.Remembered.{IsLawful, Remembered, facts_of, poisoned, with_deletion}
+use Rattle.fjall_machine.proofs.Dues.{may_delete}
+use Rattle.fjall_machine.proofs.Lawful.{deletion_is_lawful}
 use Rattle.fjall_files.specs.Tidy.{StaysTidy}
 use Rattle.fjall_files.proofs.Tidying.{stays_both, stays_start}
 use Rattle.fjall_files.specs.Regions.{Within}
@@ -35,7 +35,7 @@ use Rattle.fjall_core.specs.CallParts.{Unmakes}
 use Rattle.fjall_commit.specs.SyncedChanges as on_disk
 use Rattle.fjall_core.proofs.CatalogOnDisk.{Becomes, deletion_changed, deletion_served}
 use Rattle.fjall_core.proofs.DeviceFaults.{served_on}
-use Rattle.fjall_state.proofs.Standing.{living_agree}
+use Rattle.fjall_machine.proofs.Standing.{living_agree}
 use Rattle.fjall_core.proofs.Creations.{between, given_fit, stays}
 use Rattle.fjall_core.proofs.TablesAtHome.{HomesStay, KeepsReads, all_stay, carry_all, keeps_homes, keeps_same, others_there, outside_ill, outside_same}
 use Rattle.fjall_core.proofs.ServedCalls.{LeadsFrom, led_by, long_owes, long_serves, memory_owes, memory_serves, replaces_table, serves_by, still_led}

@@ -7,7 +7,7 @@ use Rattle.fjall_files.specs.Tidy.{IsTidy}
 use Rattle.fjall_files.proofs.Fitting.{current_kind, folder_kind}
 use Rattle.fjall_recovery.specs.Halves.{is_of_keyspaces}
 use Rattle.fjall_recovery.proofs.Named.{current_within, folder_within}
-use Rattle.fjall_commit.specs.Changes.{HasRoom}
+use Rattle.fjall_commit.specs.Changes.{HasRoomForKeyspace}
 use Rattle.fjall_base.specs.Errors.{IsFault, Rose}
 use Rattle.fjall_base.specs.declared.error.Error.{Error}
 use Rattle.fjall_base.specs.declared.error.Error.TheVariants.{Io}
@@ -48,7 +48,7 @@ fault_blames entries old new d (Io kind) well cause served on = failed_on entrie
 fault_blames entries old new d error well cause served on = absurd cause
 
 -- where the disk is tidy there is room for a keyspace, also once the journal was synced
-pub room_on : (old mid : Meaning) (id : ℕ) → id < 2 ^ 64 → IsTidy (state_in old) → ((q : Name) → is_of_keyspaces q ≡ true → state_in mid q ≡ state_in old q) → HasRoom (state_in mid) id
+pub room_on : (old mid : Meaning) (id : ℕ) → id < 2 ^ 64 → IsTidy (state_in old) → ((q : Name) → is_of_keyspaces q ≡ true → state_in mid q ≡ state_in old q) → HasRoomForKeyspace (state_in mid) id
 room_on old mid id small tidy same = record {
   folder = subst (λ (p : Place). IsNoFile p.now) (sym (same (keyspace_folder id) (folder_within id))) (folder_kind (state_in old) id small tidy);
   current = subst (λ (p : Place). IsNoFolder p.now) (sym (same (current_name id) (current_within id))) (current_kind (state_in old) id small tidy);

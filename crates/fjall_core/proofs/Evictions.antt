@@ -1,6 +1,5 @@
 -- Where an eviction of sealed journals leads a core and its disk.
-use Rattle.std.proofs.Common.{◌≡◌, ◌⊎◌, inl, inr, ℕ, ◌≤◌, ◌==◌, arith, not, Bool, true, false, List, [], ◌∷◌, ◌++◌, length, map, take, get_or, Option, None, Some}
-use Rattle.std.proofs.Common.{Result, Ok, Err, IfOk, IsOkUnless, Vec, refl, sym, ◌∙◌, ap, subst}
+use Rattle.std.proofs.Common.{◌≡◌, ◌⊎◌, inl, inr, ℕ, ◌≤◌, ◌==◌, arith, not, Bool, true, false, List, [], ◌∷◌, ◌++◌, length, map, take, get_or, Option, None, Some, Result, Ok, Err, IfOk, IsOkUnless, Vec, refl, sym, ◌∙◌, ap, subst}
 use Rattle.std.specs.declared.alloc.Global.{Global}
 use Rattle.std.specs.List.{AllByRecursion}
 use Rattle.std.specs.List.Sorted.{IsStrictlyIncreasing}
@@ -16,38 +15,38 @@ use Rattle.fjall_contents.specs.Contents.{Stored, clears_held, is_beyond, versio
 use Rattle.fjall_journal.specs.Batches.{Shown, shown}
 use Rattle.fjall_journal.specs.Writer.{Journal}
 use Rattle.fjall_history.specs.declared.reply.Reply.TheVariants.{Done, Ids, Refused}
-use Rattle.fjall_loading.specs.Known.{IsKnown, LastFields, last_known}
+use Rattle.fjall_recovery.specs.Known.{IsKnown, LastFields, last_known}
 use Rattle.fjall_manager.specs.Evictions.{StoppedBehind, TookEvictions}
 use Rattle.fjall_manager.specs.Journals.{Sealed, waited_for}
 use Rattle.fjall_meta.specs.declared.living.LivingKeyspace.{LivingKeyspace}
 use Rattle.fjall_meta.specs.Keyspaces.{Keyspaces, keyspace_at}
-use Rattle.fjall_recovery.specs.Folders.{number_of}
+use Rattle.fjall_recovery.specs.Folders.{number_of_contents}
 use Rattle.fjall_recovery.specs.Homes.{Homes, Versions, stored_at, stored_in}
 use Rattle.fjall_recovery.specs.Journals.{batches_in}
 use Rattle.fjall_recovery.specs.Places.{Journaling, contents_with}
-use Rattle.fjall_replay.specs.Beside.{AreReplayedWith, ShowsWith}
+use Rattle.fjall_recovery.specs.Beside.{AreReplayedWith, ShowsWith}
 use Rattle.fjall_table.specs.Blocks.{Entry}
-use Rattle.fjall_tree.specs.Records.{Fields}
+use Rattle.fjall_manifest.specs.Records.{Fields}
 use Rattle.fjall_trees.specs.Forests.{Forest}
-use Rattle.fjall_versions.proofs.Found.{found_has, found_passes}
-use Rattle.fjall_versions.proofs.Slots.{same_id}
-use Rattle.fjall_maps.specs.Tables.{store_with}
+use Rattle.fjall_contents.proofs.Found.{found_has, found_passes}
+use Rattle.fjall_contents.proofs.Slots.{same_id}
+use Rattle.fjall_trees.specs.MapTables.{store_with}
 use Rattle.fjall_commit.specs.Evictions.{LeavesEviction, evicted}
 use Rattle.fjall_commit.specs.Journaling.{IsWriting, KeepsHomes}
-use Rattle.fjall_commit.specs.Rotations.{TellsOf}
+use Rattle.fjall_commit.specs.Rotations.{ListsSealed}
 use Rattle.fjall_commit.specs.Watermarks.{AreStored, IsStored, TellsTrue}
 use Rattle.fjall_commit.proofs.CrashedJournals.{eviction_stands}
 use Rattle.fjall_commit.proofs.CrashesInEvictions.{took_eviction}
 use Rattle.fjall_commit.proofs.KeptHomes.{evicted_homes}
 use Rattle.fjall_commit.proofs.MarkedJournals.{all_stored, marked_ids, marked_left}
 use Rattle.fjall_commit.proofs.StoredJournals.{evicted_least, evicted_store, same_clears, same_versions, shown_parted}
-use Rattle.fjall_state.specs.Evicting.{going_in}
-use Rattle.fjall_state.specs.Machine.{first_due}
-use Rattle.fjall_state.specs.Remembered.{Remembered, flushed_by, flushed_of, poisoned}
-use Rattle.fjall_state.specs.Shapes.{OfCount, OfMaintenance, ToFlush}
+use Rattle.fjall_machine.specs.Evicting.{going_in}
+use Rattle.fjall_machine.specs.Machine.{first_due}
+use Rattle.fjall_machine.specs.Remembered.{Remembered, flushed_by, flushed_of, poisoned}
+use Rattle.fjall_machine.specs.Shapes.{OfCount, OfMaintenance, ToFlush}
 use Rattle.fjall_core.specs.Holding.{Held}
 use Rattle.fjall_core.specs.CallParts.{Evicts, WentAway}
-use Rattle.fjall_core.specs.Durables.{AreKnown, Durable, Knows, Lies, Rests, StandsAmid, StaysFinished}
+use Rattle.fjall_core.specs.Durables.{AreKnown, CrashLeavesPending, Durable, Knows, Lies, StandsAmid, StaysFinished}
 use Rattle.fjall_core.specs.Standing.{Becomes, EvictionTook, EvictsInMemory, Owes, OwesRefusal, Poisons, Serves, StandsOn, evicted_in_memory, held_due, ids_reply, reply_of}
 use Rattle.fjall_core.proofs.CrashImages.{has_finished}
 use Rattle.fjall_core.proofs.JournalWrites.{Leads, held_on, leads_on, present_of, stands_ill, stands_well}
@@ -121,7 +120,7 @@ module _ (entries : ℕ → List (List Entry)) (old new : Held) (base : Store) (
   gone_stored : AreStored lies.tree (batches_in (take (count old) j.sealed))
   gone_stored = all_stored flushed lies.tree tells_true sealed j.sealed (count old) lies.told.sealed (omega arith)
 
-  tells : TellsOf sealed j
+  tells : ListsSealed sealed j
   tells = marked_ids sealed j.sealed lies.told.sealed
 
   -- what a crash leaves
@@ -150,7 +149,7 @@ module _ (entries : ℕ → List (List Entry)) (old new : Held) (base : Store) (
       let t = lies.tree in
       let least = evicted_least j t (count old) j.later in
       let before = lies.next in
-      let fewer : number_of (contents_with left_over t j.later) ≤ old.memory.next = omega (arith, least, before) in
+      let fewer : number_of_contents (contents_with left_over t j.later) ≤ old.memory.next = omega (arith, least, before) in
       record {
         journals = left_over;
         records = lies.records;
@@ -162,7 +161,7 @@ module _ (entries : ℕ → List (List Entry)) (old new : Held) (base : Store) (
         keyspaces = lies.keyspaces ∙ ap (λ (m : Remembered). m.keyspaces) (sym becomes.memory_is);
         made = lies.made ∙ sym (evicted_store j t (count old) [] gone_stored);
         waits = lies.waits;
-        next = subst (λ (n : ℕ). number_of (contents_with left_over t j.later) ≤ n) (sym (ap (λ (m : Remembered). m.next) becomes.memory_is)) fewer;
+        next = subst (λ (n : ℕ). number_of_contents (contents_with left_over t j.later) ≤ n) (sym (ap (λ (m : Remembered). m.next) becomes.memory_is)) fewer;
       }
 
   -- what is known of homes stays
@@ -203,7 +202,7 @@ unevicted_leads entries old new left d well (gone, rest, stopped, is) fault away
     let lies = on.lies well in
     let knows = on.knows well in
     let leaves = evict_leaves entries old new base pending lies knows false away in
-    let rests : Rests (held_on new base (pending ++ [])) = at_end old.disk new.disk _ leaves in
+    let rests : CrashLeavesPending (held_on new base (pending ++ [])) = at_end old.disk new.disk _ leaves in
     let memory = fault.memory_is ∙ ap poisoned is in
     let was = present_of entries old (held_on old base pending) false well on ∙ ap (λ (m : Remembered). kept (store_with entries m.keyspaces m.trees)) (sym memory) in
     let still = stands_ill entries new base (pending ++ []) (ap (λ (m : Remembered). m.poisoned) fault.memory_is) rests (evict_finished entries old new base pending lies knows false away)

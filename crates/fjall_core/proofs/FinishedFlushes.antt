@@ -1,6 +1,5 @@
 -- What came of finishing a flush is what the call owes, and a crash leaves what it may.
-use Rattle.std.proofs.Common.{◌≡◌, ◌≢◌, ◌⊎◌, inl, inr, ℕ, ◌+◌, ◌<◌, ◌≤◌, ◌^◌, ◌==◌, ◌&&◌, Bool, true, false, if◌then◌else◌, List, [], map, nat_lt, suc, take, zero}
-use Rattle.std.proofs.Common.{Option, None, Some, Result, Ok, Err, MatchBool, get_or, length, refl, sym, ◌∙◌, ap, subst, arith}
+use Rattle.std.proofs.Common.{◌≡◌, ◌≢◌, ◌⊎◌, inl, inr, ℕ, ◌+◌, ◌<◌, ◌≤◌, ◌^◌, ◌==◌, ◌&&◌, Bool, true, false, if◌then◌else◌, List, [], map, nat_lt, suc, take, zero, Option, None, Some, Result, Ok, Err, MatchBool, get_or, length, refl, sym, ◌∙◌, ap, subst, arith}
 use Rattle.std.proofs.lemmas.Bool.{eq-eqb, eqb-true, true≢false}
 use Rattle.std.proofs.lemmas.Bool.Decides.{nat_tests}
 use Rattle.std.proofs.lemmas.Grind.{common_steps}
@@ -11,45 +10,44 @@ use Rattle.fjall_base.specs.declared.error.Error.{Error}
 use Rattle.fjall_base.specs.declared.error.Error.TheVariants.{Io, NumbersUsedUp, OutOfMemory, Poisoned, TooManyItems}
 use Rattle.fjall_files.specs.Tidy.{IsTidy, StaysTidy}
 use Rattle.fjall_files.proofs.Tidying.{stays_both, stays_start}
-use Rattle.fjall_state.specs.Flushes.{record_after}
-use Rattle.fjall_state.proofs.NewTables.{at_most_one}
+use Rattle.fjall_compaction.specs.Flushes.{record_after}
+use Rattle.fjall_compaction.proofs.NewTables.{at_most_one}
 use Rattle.fjall_history.specs.declared.job.JobId.{JobId}
 use Rattle.fjall_history.specs.declared.reply.Reply.{Reply}
 use Rattle.fjall_history.specs.declared.reply.Reply.TheVariants.{Flag, Refused}
 use Rattle.fjall_jobs.specs.declared.flush_made.FlushMade.{FlushMade}
 use Rattle.fjall_jobs.specs.Flushes.{flush_task}
 use Rattle.fjall_journal.specs.Writer.{Journal}
-use Rattle.fjall_loading.specs.Known.{GoesOnFrom, last_known}
-use Rattle.fjall_lsm.specs.Ingestions.{is_flush_due}
-use Rattle.fjall_lsm.specs.Jobs.{count_out, flush_dropped, is_flush_out}
-use Rattle.fjall_lsm.specs.Trees.{Flushing, Shape as Tree}
-use Rattle.fjall_maps.proofs.Alike.{changed_alike_store}
+use Rattle.fjall_recovery.specs.Known.{GoesOnFrom, last_known}
+use Rattle.fjall_tree.specs.Ingestions.{is_flush_due}
+use Rattle.fjall_tree.specs.Jobs.{count_out, flush_dropped, is_flush_out}
+use Rattle.fjall_tree.specs.Trees.{Flushing, Shape as Tree}
+use Rattle.fjall_trees.proofs.Alike.{changed_alike_store}
 use Rattle.fjall_meta.specs.declared.living.LivingKeyspace.{LivingKeyspace}
-use Rattle.fjall_parts.specs.Parts as part
+use Rattle.fjall_memtable.specs.Parts as part
 use Rattle.fjall_recovery.specs.Halves.{Tree as DiskTree}
 use Rattle.fjall_recovery.specs.Homes.{stored_in}
 use Rattle.fjall_recovery.specs.Places.{Journaling}
 use Rattle.fjall_contents.specs.Contents.{clears_held, versions_held}
-use Rattle.fjall_replay.specs.Beside.{ShowsWith}
+use Rattle.fjall_recovery.specs.Beside.{ShowsWith}
 use Rattle.fjall_table.specs.Blocks.{Entry}
-use Rattle.fjall_tree.specs.Records.{Fields, body}
+use Rattle.fjall_manifest.specs.Records.{Fields, body}
 use Rattle.fjall_trees.specs.Forests.{altered_at}
 use Rattle.fjall_trees.specs.Tables.{shape_in}
-use Rattle.fjall_state.specs.Finishing.{IsFinished, keyspace_of}
-use Rattle.fjall_state.specs.Machine.{FinishesFlush, Flushed, LacksRoom, Parts, State, StepOf, WorkFails, flush_with, is_flushing, is_living}
-use Rattle.fjall_state.specs.Machine as machine
-use Rattle.fjall_state.specs.Remembered.{KnowsTask, Remembered, flush_gone, with_flush}
-use Rattle.fjall_state.specs.Remembered as memory
-use Rattle.fjall_state.specs.Shapes.{OfFlushFinish, Shape}
-use Rattle.fjall_state.proofs.Flushing.{a_finished_flush_stands, an_eviction_stands, some_evicted, with_sealed_stands}
-use Rattle.fjall_state.proofs.SameTrees.{altered_tables}
-use Rattle.fjall_state.proofs.Sizes.{out_agrees}
+use Rattle.fjall_machine.specs.Finishing.{IsFlushFinished, keyspace_of}
+use Rattle.fjall_machine.specs.Machine.{FinishesFlush, Flushed, LacksRoom, Parts, State, StepOf, WorkFails, flush_with, is_flushing, is_living}
+use Rattle.fjall_machine.specs.Machine as machine
+use Rattle.fjall_machine.specs.Remembered.{KnowsTask, Remembered, flush_gone, with_flush}
+use Rattle.fjall_machine.specs.Remembered as memory
+use Rattle.fjall_machine.specs.Shapes.{CallShape, OfFlushFinish}
+use Rattle.fjall_machine.proofs.Flushing.{a_finished_flush_stands, an_eviction_stands, some_evicted, with_sealed_stands}
+use Rattle.fjall_machine.proofs.SameTrees.{altered_tables}
+use Rattle.fjall_machine.proofs.Sizes.{out_agrees}
 use Rattle.fjall_core.specs.Holding.{Held}
 use Rattle.fjall_core.specs.CallParts.{Evicts, Finishes, PutInMemory, Puts, WentAway, WroteFlush}
 use Rattle.fjall_core.specs.Crashes.{BlamesDevice, IsSync, attempt, is_io}
 use Rattle.fjall_core.specs.Durables.{Durable, Knows, Passes}
-use Rattle.fjall_core.specs.Standing.{Becomes, EvictsInMemory, FlushTook, FlushedInMemory, IsDueToFinish, LeadsOn, Owes, OwesFinish, Poisons, ReadsOn, Serves, StandsFor, StandsOn, evicted_in_memory, job_of, store_in, store_with_tables, AreRecorded}
-use Rattle.fjall_core.specs.Standing.{takes_effect}
+use Rattle.fjall_core.specs.Standing.{Becomes, EvictsInMemory, FlushTook, FlushedInMemory, IsDueToFinish, LeadsOn, Owes, OwesFinish, Poisons, ReadsOn, Serves, StandsFor, StandsOn, evicted_in_memory, job_of, store_in, store_with_tables, AreRecorded, takes_effect}
 use Rattle.fjall_core.proofs.BegunFlushes.{one_at}
 use Rattle.fjall_core.proofs.CrashesInRuns.{passes_on}
 use Rattle.fjall_core.proofs.Evictions.{evicted_keeps, evicted_leads, evicted_served, unevicted_keeps, unevicted_leads}
@@ -70,7 +68,7 @@ use Rattle.fjall_core.proofs.TablesAtHome.{keeps_disk, keeps_same, outside_same}
 use Rattle.fjall_core.proofs.RecordedTables.{recorded_flush}
 
 -- the call that finishes what was made
-abbrev pub finishing : FlushMade → Shape
+abbrev pub finishing : FlushMade → CallShape
 finishing made = OfFlushFinish (job_of (flush_task made.job))
 
 -- the reply to one that isn't stale
@@ -98,7 +96,7 @@ pub both_true : (a b : Bool) → a ≡ true → b ≡ true → (a && b) ≡ true
 both_true a b one two = ap (λ c. c && b) one ∙ two
 
 -- what leads from a core's own disk
-pub led_on : (old new : Held) (s t : State) (shape : Shape) (reply : Reply) → attempt s shape reply ≡ [] → (IsSync s shape reply → ⊥) → StaysTidy old.disk new.disk
+pub led_on : (old new : Held) (s t : State) (shape : CallShape) (reply : Reply) → attempt s shape reply ≡ [] → (IsSync s shape reply → ⊥) → StaysTidy old.disk new.disk
     → ((d : Durable) → StandsOn old s.parts.entries d → IsTidy (state_in old.disk) → BlamesDevice reply old.disk new.disk) → ((d : Durable) → StandsOn old s.parts.entries d → Leads t.parts.entries new d [])
     → LeadsOn old s shape reply new t
 led_on old new s t shape reply none unsynced stays blames leads d on =
@@ -244,8 +242,8 @@ late_serves core job due ill = refused_serves core job Poisoned refl (late_owes 
 -- ---- one that is finished
 
 -- a flush whose task has some runs takes some memtable
-takes_some : (runs : List (List Entry)) (sealed : List part.Held) (count : ℕ) → runs ≡ map (λ h. h.versions) (take count sealed) → runs ≢ [] → nat_lt 0 count ≡ true
-takes_some runs sealed zero is some = let none : take 0 sealed ≡ [] = grind (arith, common_steps) in absurd (some (is ∙ ap (λ (l : List part.Held). map (λ h. h.versions) l) none))
+takes_some : (runs : List (List Entry)) (sealed : List part.HeldPart) (count : ℕ) → runs ≡ map (λ h. h.versions) (take count sealed) → runs ≢ [] → nat_lt 0 count ≡ true
+takes_some runs sealed zero is some = let none : take 0 sealed ≡ [] = grind (arith, common_steps) in absurd (some (is ∙ ap (λ (l : List part.HeldPart). map (λ h. h.versions) l) none))
 takes_some runs sealed (suc count) is some = grind (arith, nat_tests)
 
 module _ (honest : Type 0) (old new : Held) (made : FlushMade) (may : MayPut old made) where
@@ -269,7 +267,7 @@ module _ (honest : Type 0) (old new : Held) (made : FlushMade) (may : MayPut old
   due = (out_is, takes)
 
   abbrev IsPut : Held → Type 0
-  IsPut mid = IsFinished old.memory id (last_known old.memory.records (living_there old made may)) may.out.out made.tables.items mid.memory
+  IsPut mid = IsFlushFinished old.memory id (last_known old.memory.records (living_there old made may)) may.out.out made.tables.items mid.memory
 
   finished_there : (mid : Held) → PutInMemory old.memory made mid.memory → IsPut mid
   finished_there mid put = put (living_there old made may) may.out.out (lives_there old made may) may.out.is
@@ -329,7 +327,7 @@ module _ (honest : Type 0) (old new : Held) (made : FlushMade) (may : MayPut old
 
   -- ---- states
 
-  module _ (mid : Held) (fin : IsFinished old.memory (keyspace_of made) (last_known old.memory.records (living_there old made may)) may.out.out made.tables.items mid.memory) (becomes : Becomes old mid.memory mid)
+  module _ (mid : Held) (fin : IsFlushFinished old.memory (keyspace_of made) (last_known old.memory.records (living_there old made may)) may.out.out made.tables.items mid.memory) (becomes : Becomes old mid.memory mid)
       (s : State) (stands : StandsFor old s) where
     abbrev parts_with : Parts
     parts_with = machine.flushed id may.out.out made.tables.items (lists_there old made may) fin.readers s.parts
@@ -346,15 +344,15 @@ module _ (honest : Type 0) (old new : Held) (made : FlushMade) (may : MayPut old
         let last = last_known old.memory.records (living_there old made may) in
         with_flush id may.out.out fin.readers (record_after (flush_with (shape_in id old.memory.trees) may.out.out made.tables.items) last) old.memory
 
-    both : Flushed s.parts id parts_with × memory.StandsFor memory_with old.catalog.next_table_id state_with
+    both : Flushed s.parts id parts_with × memory.MemoryStandsFor memory_with old.catalog.next_table_id state_with
     both =
         a_finished_flush_stands old.memory old.catalog.next_table_id s stands.remembered id (flush_task made.job) may.out made.tables.items (clears_there old made may) (flushed_there old made may) (living_there old made may)
         (lives_there old made may) fin.readers fin.are.infos
 
     stands_with : StandsFor mid state_with
     stands_with = record {
-      remembered = subst (λ (x : Remembered). memory.StandsFor x table state_with) (sym fin.is)
-          (subst (λ (n : ℕ). memory.StandsFor memory_with n state_with) (ap (λ c. c.next_table_id) (sym becomes.catalog)) both.1);
+      remembered = subst (λ (x : Remembered). memory.MemoryStandsFor x table state_with) (sym fin.is)
+          (subst (λ (n : ℕ). memory.MemoryStandsFor memory_with n state_with) (ap (λ c. c.next_table_id) (sym becomes.catalog)) both.1);
       journal = stands.journal ∙ ap (λ (j : Journal). j.len) (sym becomes.journal);
       buffer = stands.buffer ∙ ap (λ (j : Journal). length j.buffer) (sym becomes.journal);
     }
@@ -398,8 +396,8 @@ module _ (honest : Type 0) (old new : Held) (made : FlushMade) (may : MayPut old
     module _ (after : Becomes mid (evicted_in_memory mid.memory) new) where
       stands_after : StandsFor new (machine.evicted state_with)
       stands_after = record {
-        remembered = subst (λ (x : Remembered). memory.StandsFor x new.catalog.next_table_id (machine.evicted state_with)) (sym after.memory_is)
-            (subst (λ (n : ℕ). memory.StandsFor (evicted_in_memory mid.memory) n (machine.evicted state_with)) (ap (λ c. c.next_table_id) (sym after.catalog))
+        remembered = subst (λ (x : Remembered). memory.MemoryStandsFor x new.catalog.next_table_id (machine.evicted state_with)) (sym after.memory_is)
+            (subst (λ (n : ℕ). memory.MemoryStandsFor (evicted_in_memory mid.memory) n (machine.evicted state_with)) (ap (λ c. c.next_table_id) (sym after.catalog))
             (an_eviction_stands mid.memory table state_with stands_with.remembered));
         journal = stands_with.journal ∙ ap (λ (j : Journal). j.len) (sym after.journal);
         buffer = stands_with.buffer ∙ ap (λ (j : Journal). length j.buffer) (sym after.journal);
@@ -434,8 +432,8 @@ module _ (honest : Type 0) (old new : Held) (made : FlushMade) (may : MayPut old
       abbrev some_left : State
       some_left = machine.with_sealed evicts.1 state_with
 
-      held_left : memory.StandsFor left table some_left
-      held_left = subst (λ (x : Remembered). memory.StandsFor x table some_left) (sym evicts.3) (with_sealed_stands mid.memory table state_with stands_with.remembered evicts.1)
+      held_left : memory.MemoryStandsFor left table some_left
+      held_left = subst (λ (x : Remembered). memory.MemoryStandsFor x table some_left) (sym evicts.3) (with_sealed_stands mid.memory table state_with stands_with.remembered evicts.1)
 
       fails : WorkFails (finishing made) s (poisoned_state new some_left)
       fails = (

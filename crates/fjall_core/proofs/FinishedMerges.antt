@@ -6,7 +6,7 @@ use Rattle.fjall_base.specs.Store.{kept}
 use Rattle.fjall_base.specs.Disk.{Meaning}
 use Rattle.fjall_base.specs.declared.error.Error.{Error}
 use Rattle.fjall_base.specs.declared.error.Error.TheVariants.{Io, NumbersUsedUp, OutOfMemory, Poisoned, TooManyItems}
-use Rattle.fjall_blocks.proofs.Several.{length_read}
+use Rattle.fjall_table_reader.proofs.Several.{length_read}
 use Rattle.fjall_files.specs.Names.{keyspace_folder}
 use Rattle.fjall_files.specs.Regions.{Within}
 use Rattle.fjall_files.proofs.Made.{within_both}
@@ -18,27 +18,27 @@ use Rattle.fjall_jobs.specs.declared.merge_made.MergeMade.{MergeMade}
 use Rattle.fjall_jobs.specs.Merges.{merge_task}
 use Rattle.fjall_jobs.specs.Tasks.{Task}
 use Rattle.fjall_journal.specs.Writer.{Journal, counted}
-use Rattle.fjall_loading.specs.Known.{last_known}
-use Rattle.fjall_lsm.specs.Jobs.{IsMerging, merge_dropped}
-use Rattle.fjall_lsm.specs.Trees.{Merging, ReadsAll}
-use Rattle.fjall_lsm.proofs.Staying.{input_sorted}
-use Rattle.fjall_state.specs.Merges.{Merge, record_after}
+use Rattle.fjall_recovery.specs.Known.{last_known}
+use Rattle.fjall_tree.specs.Jobs.{IsMerging, merge_dropped}
+use Rattle.fjall_tree.specs.Trees.{Merging, ReadsAll}
+use Rattle.fjall_tree.proofs.Staying.{input_sorted}
+use Rattle.fjall_compaction.specs.Merges.{Merge, record_after}
 use Rattle.fjall_meta.specs.declared.living.LivingKeyspace.{LivingKeyspace}
 use Rattle.fjall_meta.specs.Keyspaces.{keyspace_at}
-use Rattle.fjall_state.specs.Machine.{FinishesMerge, LacksMergeIds, LacksMergeRoom, MayLack, Merged, Parts, State, StepOf, is_living, is_merging, options_in, present, target_size}
-use Rattle.fjall_state.specs.Machine as machine
-use Rattle.fjall_state.specs.Merging.{AreTaken, KnowsMerge, counted_as, keyspace_of}
-use Rattle.fjall_state.specs.Remembered.{Remembered, merge_gone, with_merge, with_merge_done}
-use Rattle.fjall_state.specs.Remembered as memory
-use Rattle.fjall_state.specs.Shapes.{OfMergeFinish, Shape}
-use Rattle.fjall_state.proofs.Flushing.{known_record}
-use Rattle.fjall_state.proofs.MergeFinishing.{merge_there}
-use Rattle.fjall_state.proofs.MergeSettings.{merges_are_out}
-use Rattle.fjall_state.proofs.Merging.{a_counted_merge_stands, a_dropped_merge_stands, finished_stands, made_there, merged_there}
-use Rattle.fjall_state.proofs.Merging as law
-use Rattle.fjall_state.proofs.SameTrees.{altered_tables, infos_same, same_in}
-use Rattle.fjall_state.proofs.Standing.{living_agree}
-use Rattle.fjall_tree.specs.Records.{Fields}
+use Rattle.fjall_machine.specs.Machine.{FinishesMerge, LacksMergeIds, LacksMergeRoom, MayLack, Merged, Parts, State, StepOf, is_living, is_merging, options_in, present, target_size}
+use Rattle.fjall_machine.specs.Machine as machine
+use Rattle.fjall_machine.specs.Merging.{AreTaken, KnowsMerge, counted_as, keyspace_of}
+use Rattle.fjall_machine.specs.Remembered.{Remembered, merge_gone, with_merge, with_merge_done}
+use Rattle.fjall_machine.specs.Remembered as memory
+use Rattle.fjall_machine.specs.Shapes.{CallShape, OfMergeFinish}
+use Rattle.fjall_machine.proofs.Flushing.{known_record}
+use Rattle.fjall_machine.proofs.MergeFinishing.{merge_there}
+use Rattle.fjall_machine.proofs.MergeSettings.{merges_are_out}
+use Rattle.fjall_machine.proofs.Merging.{a_counted_merge_stands, a_dropped_merge_stands, finished_stands, made_there, merged_there}
+use Rattle.fjall_machine.proofs.Merging as law
+use Rattle.fjall_machine.proofs.SameTrees.{altered_tables, infos_same, same_in}
+use Rattle.fjall_machine.proofs.Standing.{living_agree}
+use Rattle.fjall_manifest.specs.Records.{Fields}
 use Rattle.fjall_trees.specs.Forests.{Planted}
 use Rattle.fjall_trees.specs.Tables.{shape_in}
 use Rattle.fjall_trees.proofs.Changing.{tree_under}
@@ -63,22 +63,22 @@ use Rattle.fjall_core.proofs.TablesAtHome.{keeps_disk, outside_ill, outside_same
 use Rattle.fjall_core.proofs.RecordedTables.{recorded_altered, recorded_merge}
 
 -- the call that finishes what was made
-abbrev pub finishing : MergeMade → Shape
+abbrev pub finishing : MergeMade → CallShape
 finishing made = OfMergeFinish (job_of (merge_task made.job))
 
 -- where a core goes on from a state
-abbrev pub GoesOn : Held → State → Shape → Reply → Held → Type 0
+abbrev pub GoesOn : Held → State → CallShape → Reply → Held → Type 0
 GoesOn old s shape reply new = (t : State) × StandsFor new t × ReadsOn new t × StepOf s shape reply t × LeadsOn old s shape reply new t
 
 -- ---- a core that stays as it was
 
-stays : (core : Held) (s : State) (shape : Shape) (reply : Reply) → attempt s shape reply ≡ [] → (IsSync s shape reply → ⊥) → BlamesDevice reply core.disk core.disk → StandsFor core s → ReadsOn core s → StepOf s shape reply s
+stays : (core : Held) (s : State) (shape : CallShape) (reply : Reply) → attempt s shape reply ≡ [] → (IsSync s shape reply → ⊥) → BlamesDevice reply core.disk core.disk → StandsFor core s → ReadsOn core s → StepOf s shape reply s
     → GoesOn core s shape reply core
 stays core s shape reply none unsynced blames stands reads step =
     (s, stands, reads, step, led_on core core s s shape reply none unsynced (stays_start core.disk) (λ d on tidy. blames) (λ d on. (d, on, passes_still d on.rests)))
 
 -- a refusal that is no fault
-refuses : (core : Held) (s : State) (shape : Shape) (error : Error) → is_io error ≡ false → StandsFor core s → ReadsOn core s → StepOf s shape (Refused error) s → GoesOn core s shape (Refused error) core
+refuses : (core : Held) (s : State) (shape : CallShape) (error : Error) → is_io error ≡ false → StandsFor core s → ReadsOn core s → StepOf s shape (Refused error) s → GoesOn core s shape (Refused error) core
 refuses core s shape error other = stays core s shape (Refused error) (no_attempt s shape error other) (no_sync s shape error) (refusal_blames error core.disk other)
 
 -- ---- a merge that is stale
@@ -320,7 +320,7 @@ module _ (honest : Type 0) (old new : Held) (made : MergeMade) (may : MayMerge o
       abbrev memory_with : Remembered
       memory_with = with_merge id out_of fin.readers (record_after does last) old.memory
 
-      held_with : memory.StandsFor memory_with table state_with
+      held_with : memory.MemoryStandsFor memory_with table state_with
       held_with =
           let each = sym (length_read old.disk (shape_in id old.memory.trees).tables (s.parts.entries id) all_read.tables) in
           finished_stands old.memory table s stands.remembered id made.job.target task has.begun made.tables.items made.clears.items has.merged there lives_so_there fin.readers fin.are.infos each
@@ -330,8 +330,8 @@ module _ (honest : Type 0) (old new : Held) (made : MergeMade) (may : MayMerge o
 
       stands_with : StandsFor mid state_with
       stands_with = record {
-        remembered = subst (λ (x : Remembered). memory.StandsFor x mid.catalog.next_table_id state_with) (sym fin.is)
-            (subst (λ (n : ℕ). memory.StandsFor memory_with n state_with) (ap (λ c. c.next_table_id) (sym becomes.catalog)) held_with);
+        remembered = subst (λ (x : Remembered). memory.MemoryStandsFor x mid.catalog.next_table_id state_with) (sym fin.is)
+            (subst (λ (n : ℕ). memory.MemoryStandsFor memory_with n state_with) (ap (λ c. c.next_table_id) (sym becomes.catalog)) held_with);
         journal = stands.journal ∙ ap (λ (j : Journal). j.len) (sym becomes.journal);
         buffer = stands.buffer ∙ ap (λ (j : Journal). length j.buffer) (sym becomes.journal);
       }
@@ -374,8 +374,8 @@ module _ (honest : Type 0) (old new : Held) (made : MergeMade) (may : MayMerge o
             let away = away_of true took in (
               state_done,
               record {
-                remembered = subst (λ (x : Remembered). memory.StandsFor x new.catalog.next_table_id state_done) (sym done.memory_is)
-                    (subst (λ (n : ℕ). memory.StandsFor (with_merge_done mid.memory) n state_done) (ap (λ c. c.next_table_id) (sym done.catalog))
+                remembered = subst (λ (x : Remembered). memory.MemoryStandsFor x new.catalog.next_table_id state_done) (sym done.memory_is)
+                    (subst (λ (n : ℕ). memory.MemoryStandsFor (with_merge_done mid.memory) n state_done) (ap (λ c. c.next_table_id) (sym done.catalog))
                     (a_counted_merge_stands mid.memory mid.catalog.next_table_id state_with stands_with.remembered));
                 journal = stands_with.journal ∙ ap (λ (j : Journal). j.len) (sym done.journal);
                 buffer = stands_with.buffer ∙ ap (λ (j : Journal). length j.buffer) (sym done.journal);

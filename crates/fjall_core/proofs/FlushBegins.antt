@@ -15,21 +15,21 @@ use Rattle.fjall_jobs.specs.Flushes.{flush_task}
 use Rattle.fjall_jobs.specs.Tasks.{Task}
 use Rattle.fjall_journal.specs.declared.persist_mode.PersistMode.TheVariants.{SyncAll}
 use Rattle.fjall_journal.specs.Writer.{IsIo, Journal, PersistTook, counted, persist_steps, written_out}
-use Rattle.fjall_lsm.specs.Jobs.{IsFlushing, flush_of}
+use Rattle.fjall_tree.specs.Jobs.{IsFlushing, flush_of}
 use Rattle.fjall_journal.specs.Rotations.{RotationTook, empty_journal, rotating}
-use Rattle.fjall_parts.specs.Parts as part
+use Rattle.fjall_memtable.specs.Parts as part
 use Rattle.fjall_commit.specs.Journaling.{ForWriting, IsWriting, KeepsHomes, KeepsKeyspaces, LeavesRoot, after_persist}
 use Rattle.fjall_commit.specs.Rotations.{ForRotating, KeepsSyncedKeyspaces, LeavesRotation, rotated}
 use Rattle.fjall_commit.proofs.KeepingKeyspaces.{journal_apart}
 use Rattle.fjall_commit.proofs.KeptHomes.{persisted_homes, rotated_homes, unpersisted_homes, unrotated_homes}
-use Rattle.fjall_state.proofs.FlushFinishing.{begun_with}
+use Rattle.fjall_compaction.proofs.FlushFinishing.{begun_with}
 use Rattle.fjall_recovery.specs.Halves.{is_of_keyspaces}
 use Rattle.fjall_recovery.specs.Places.{Journaling}
-use Rattle.fjall_state.specs.Machine.{begins_flush, first_due, rotation_refusals}
-use Rattle.fjall_state.specs.Remembered.{KnowsTask, Remembered, facts_of, flush_out, journal_rotated, poisoned}
-use Rattle.fjall_state.specs.Shapes.{OfFlushBegin}
-use Rattle.fjall_state.proofs.Dues.{behind_true, below, neither}
-use Rattle.fjall_state.proofs.Sizes.{beginning_agrees}
+use Rattle.fjall_machine.specs.Machine.{begins_flush, first_due, rotation_refusals}
+use Rattle.fjall_machine.specs.Remembered.{KnowsTask, Remembered, facts_of, flush_out, journal_rotated, poisoned}
+use Rattle.fjall_machine.specs.Shapes.{OfFlushBegin}
+use Rattle.fjall_machine.proofs.Dues.{behind_true, below, neither}
+use Rattle.fjall_machine.proofs.Sizes.{beginning_agrees}
 use Rattle.fjall_table.specs.Blocks.{Entry}
 use Rattle.fjall_trees.specs.Tables.{shape_in}
 use Rattle.fjall_core.specs.Holding.{Held}
@@ -179,7 +179,7 @@ begun_known : (m : Remembered) (id : ℕ) (task : Task) → begins_flush m.trees
     → KnowsTask (flush_out id m) task
 begun_known m id task begins is out =
     let shape = shape_in id m.trees in
-    let some : shape.memory.sealed ≢ [] = λ none. true≢false (sym begins ∙ ap (λ (sealed : List part.Held). nat_lt 0 (length sealed) && is_none shape.flush) none) in
+    let some : shape.memory.sealed ≢ [] = λ none. true≢false (sym begins ∙ ap (λ (sealed : List part.HeldPart). nat_lt 0 (length sealed) && is_none shape.flush) none) in
     let at : task.id ≡ m.next_job = ap (λ (t : Task). t.id) is in (
       omega (arith, at),
       λ _. subst (λ (k : ℕ). IsFlushing (shape_in k (flush_out id m).trees) task) (sym (ap (λ (t : Task). t.keyspace) is)) out,

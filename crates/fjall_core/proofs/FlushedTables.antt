@@ -1,39 +1,38 @@
 -- A core's disk has the tables of its trees still, and that of a flush that was finished.
-use Rattle.std.proofs.Common.{◌≡◌, ◌⊎◌, inl, inr, ℕ, zero, suc, ◌+◌, ◌<◌, ◌≤◌, ◌^◌, ◌==◌, Bool, true, false, cond, List, []}
-use Rattle.std.proofs.Common.{◌∷◌, ◌++◌, All, Some, get_or, length, map, slice_get, refl, sym, ◌∙◌, ap, subst, arith}
+use Rattle.std.proofs.Common.{◌≡◌, ◌⊎◌, inl, inr, ℕ, zero, suc, ◌+◌, ◌<◌, ◌≤◌, ◌^◌, ◌==◌, Bool, true, false, cond, List, [], ◌∷◌, ◌++◌, All, Some, get_or, length, map, slice_get, refl, sym, ◌∙◌, ap, subst, arith}
 use Rattle.std.proofs.lemmas.Bool.{eq-eqb, true≢false}
 use Rattle.std.proofs.lemmas.List.Elements.{All-cons, All-map, All-nil, All-weaker}
 use Rattle.fjall_base.specs.Disk.{Meaning}
 use Rattle.fjall_base.proofs.Codecs.{some_is}
-use Rattle.fjall_blocks.specs.Readers.{AreRead, HoldsAWrongBlock, Reader, Reads, SomeTableIsWrong}
+use Rattle.fjall_table_reader.specs.Readers.{AreRead, HoldsAWrongBlock, Reader, Reads, SomeTableIsWrong}
 use Rattle.fjall_commit.proofs.KeptHomes.{within_others}
 use Rattle.fjall_files.specs.Names.{table_name}
-use Rattle.fjall_state.specs.Flushes.{infos_from}
+use Rattle.fjall_compaction.specs.Flushes.{infos_from}
 use Rattle.fjall_jobs.specs.declared.flush_made.FlushMade.{FlushMade}
 use Rattle.fjall_jobs.specs.declared.made_table.MadeTable.{MadeTable}
 use Rattle.fjall_jobs.specs.Flushes.{flush_task}
 use Rattle.fjall_jobs.specs.Sequences.{AreMadeTables, IsMadeTable}
-use Rattle.fjall_loading.specs.Known.{AreListed, IsGiven, last_known}
-use Rattle.fjall_loading.proofs.Listed.{AreNext, listed_behind, listed_later}
-use Rattle.fjall_lsm.specs.Jobs.{flush_finished}
-use Rattle.fjall_lsm.proofs.Several.{read_both}
-use Rattle.fjall_state.specs.FlushPlans.{HaveFiles}
+use Rattle.fjall_recovery.specs.Known.{AreListed, IsGiven, last_known}
+use Rattle.fjall_recovery.proofs.ListedTables.{AreNext, listed_behind, listed_later}
+use Rattle.fjall_tree.specs.Jobs.{flush_finished}
+use Rattle.fjall_tree.proofs.Several.{read_both}
+use Rattle.fjall_compaction.specs.FlushPlans.{HaveFiles}
 use Rattle.fjall_meta.specs.declared.living.LivingKeyspace.{LivingKeyspace}
-use Rattle.fjall_state.specs.Finishing.{IsFinished, keyspace_of}
-use Rattle.fjall_state.proofs.Flushing.{known_record}
-use Rattle.fjall_tree.specs.Records.{Fields}
-use Rattle.fjall_state.specs.Machine.{State, is_among}
-use Rattle.fjall_state.specs.Remembered.{IsLawful, Remembered}
+use Rattle.fjall_machine.specs.Finishing.{IsFlushFinished, keyspace_of}
+use Rattle.fjall_machine.proofs.Flushing.{known_record}
+use Rattle.fjall_manifest.specs.Records.{Fields}
+use Rattle.fjall_machine.specs.Machine.{State, is_among}
+use Rattle.fjall_machine.specs.Remembered.{IsLawful, Remembered}
 use Rattle.fjall_table.specs.declared.table_info.TableInfo.{TableInfo}
 use Rattle.fjall_table.specs.Blocks.{Entry}
-use Rattle.fjall_table.specs.Files.{bytes_in, entry_at}
+use Rattle.fjall_table_reader.specs.Files.{bytes_in, entry_at}
 use Rattle.fjall_table.specs.Tables.{Handle, IsTable, handles_of}
 use Rattle.fjall_table.proofs.TableBlocks.{damaged_at}
 use Rattle.fjall_trees.specs.Forests.{Planted, altered_at, tree_at}
 use Rattle.fjall_trees.specs.Tables.{shape_in}
 use Rattle.fjall_trees.proofs.Changing.{tree_under}
 use Rattle.fjall_trees.proofs.Outstanding.{flushing_tree}
-use Rattle.fjall_versions.proofs.Slots.{same_id}
+use Rattle.fjall_contents.proofs.Slots.{same_id}
 use Rattle.fjall_core.specs.Holding.{Held}
 use Rattle.fjall_core.specs.CallParts.{WroteFlush}
 use Rattle.fjall_core.specs.Standing.{Becomes, LieAtHome, Poisons, ReadsOn, StandsFor, AreRecorded}
@@ -180,7 +179,7 @@ module _ (old new : Held) (made : FlushMade) (may : MayPut old made) (done : Boo
 -- ---- with the new one
 
 module _ (old new : Held) (made : FlushMade) (may : MayPut old made) (s : State) (stands : StandsFor old s) (reads : ReadsOn old s) (wrote : WroteFlush old.memory made old.disk new.disk true)
-    (fin : IsFinished old.memory (keyspace_of made) (last_known old.memory.records (living_there old made may)) may.out.out made.tables.items new.memory) (becomes : Becomes old new.memory new) where
+    (fin : IsFlushFinished old.memory (keyspace_of made) (last_known old.memory.records (living_there old made may)) may.out.out made.tables.items new.memory) (becomes : Becomes old new.memory new) where
   abbrev own : ℕ
   own = keyspace_of made
 

@@ -8,49 +8,48 @@ use Rattle.fjall_base.proofs.Moments.{at_end}
 use Rattle.fjall_commit.specs.Journaling.{IsWriting}
 use Rattle.fjall_files.specs.Names.{Table, table_name}
 use Rattle.fjall_files.specs.Tidy.{IsTidy}
-use Rattle.fjall_state.specs.FlushFinishing.{CanFinish}
-use Rattle.fjall_state.specs.Flushes.{Flush, Follows, HasAt, infos_from, record_after, tree_after}
-use Rattle.fjall_state.specs.Covering.{MayCount}
-use Rattle.fjall_state.proofs.Composed.{is_home}
-use Rattle.fjall_state.proofs.FlushFinishing.{above, are_after, end_inside, end_is_small, follows_last, may_count}
-use Rattle.fjall_state.proofs.SameNumber.{between_numbers, run_stands}
-use Rattle.fjall_state.proofs.FlushSameStore.{same_pending, same_store}
-use Rattle.fjall_home.specs.Homes.{Home}
-use Rattle.fjall_home.proofs.Outside.{within_keyspaces}
-use Rattle.fjall_home.proofs.Resting.{last_record}
+use Rattle.fjall_compaction.specs.FlushFinishing.{CanFinish}
+use Rattle.fjall_compaction.specs.Flushes.{Flush, Follows, HasAt, infos_from, record_after, tree_after}
+use Rattle.fjall_compaction.specs.Covering.{MayCount}
+use Rattle.fjall_compaction.proofs.Composed.{is_home}
+use Rattle.fjall_compaction.proofs.FlushFinishing.{above, are_after, end_inside, end_is_small, follows_last, may_count}
+use Rattle.fjall_compaction.proofs.SameNumber.{between_numbers, run_stands}
+use Rattle.fjall_compaction.proofs.FlushSameStore.{same_pending, same_store}
+use Rattle.fjall_manifest.specs.Homes.{Home}
+use Rattle.fjall_manifest.proofs.Outside.{within_keyspaces}
+use Rattle.fjall_manifest.proofs.Resting.{last_record}
 use Rattle.fjall_jobs.specs.declared.flush_made.FlushMade.{FlushMade}
 use Rattle.fjall_jobs.specs.declared.made_table.MadeTable.{MadeTable}
 use Rattle.fjall_jobs.specs.Flushes.{flush_task}
 use Rattle.fjall_jobs.specs.Tasks.{IsFlushed, Task}
 use Rattle.fjall_journal.specs.Writer as writer
-use Rattle.fjall_loading.specs.Known.{IsKnown, last_known}
-use Rattle.fjall_lsm.specs.Ingestions.{is_flush_due}
-use Rattle.fjall_lsm.specs.Jobs.{IsFlushing, flush_end, flush_finished}
-use Rattle.fjall_lsm.specs.Trees.{Flushing, Shape}
-use Rattle.fjall_maps.specs.Tables.{store_with}
+use Rattle.fjall_recovery.specs.Known.{IsKnown, last_known}
+use Rattle.fjall_tree.specs.Jobs.{IsFlushing, flush_end, flush_finished}
+use Rattle.fjall_tree.specs.Trees.{Flushing, Shape}
+use Rattle.fjall_trees.specs.MapTables.{store_with}
 use Rattle.fjall_meta.specs.declared.living.LivingKeyspace.{LivingKeyspace}
 use Rattle.fjall_meta.specs.Keyspaces.{Keyspaces, keyspace_at}
-use Rattle.fjall_parts.specs.Parts.{clears_in}
-use Rattle.fjall_recovery.specs.Folders.{number_of}
+use Rattle.fjall_memtable.specs.Parts.{clears_in}
+use Rattle.fjall_recovery.specs.Folders.{number_of_contents}
 use Rattle.fjall_recovery.specs.Halves.{HasTree, Tree}
 use Rattle.fjall_recovery.specs.Places.{Journaling, contents_with}
-use Rattle.fjall_sorted.specs.Sorted.{flat}
-use Rattle.fjall_state.specs.Finishing.{IsFinished, keyspace_of}
-use Rattle.fjall_state.specs.Machine.{flush_with, is_living}
-use Rattle.fjall_state.specs.Remembered.{IsLawful, KnowsTask, Remembered, with_flush}
-use Rattle.fjall_state.proofs.Facts.{living_names, some_there}
+use Rattle.fjall_memtable.specs.Sorted.{flat}
+use Rattle.fjall_machine.specs.Finishing.{IsFlushFinished, keyspace_of}
+use Rattle.fjall_machine.specs.Machine.{flush_with, is_living}
+use Rattle.fjall_machine.specs.Remembered.{IsLawful, Remembered, with_flush}
+use Rattle.fjall_machine.proofs.Facts.{living_names, some_there}
 use Rattle.fjall_table.specs.Blocks.{Entry}
-use Rattle.fjall_tree.specs.Records.{Fields}
+use Rattle.fjall_manifest.specs.Records.{Fields}
 use Rattle.fjall_trees.specs.Forests.{IsTree, altered_at, tree_at}
 use Rattle.fjall_trees.specs.Tables.{entries_with, shape_in}
 use Rattle.fjall_trees.proofs.Changing.{tree_under}
 use Rattle.fjall_trees.proofs.Outstanding.{flushing_tree}
 use Rattle.fjall_trees.proofs.Places.{tree_has}
-use Rattle.fjall_versions.proofs.Found.{found_has, found_passes}
-use Rattle.fjall_versions.proofs.Slots.{same_id}
+use Rattle.fjall_contents.proofs.Found.{found_has, found_passes}
+use Rattle.fjall_contents.proofs.Slots.{same_id}
 use Rattle.fjall_core.specs.Holding.{Held}
 use Rattle.fjall_core.specs.CallParts.{WroteFlush}
-use Rattle.fjall_core.specs.Durables.{AreKnown, CoversSynced, Durable, Knows, Lies, Rests, StandsAmid, StaysFinished}
+use Rattle.fjall_core.specs.Durables.{AreKnown, CoversSynced, CrashLeavesPending, Durable, Knows, Lies, StandsAmid, StaysFinished}
 use Rattle.fjall_core.specs.Standing.{Becomes, Poisons, StandsOn, store_in, store_with_tables}
 use Rattle.fjall_core.proofs.JournalWrites.{Leads, held_on, leads_on, present_of, stands_ill, stands_well}
 use Rattle.fjall_core.proofs.KnownCores.{knows_memory}
@@ -65,16 +64,6 @@ pub record MayPut (old : Held) (made : FlushMade) : Type 0 where
   pub living : is_living (store_in old) (keyspace_of made) ≡ true
   pub out : IsFlushing (shape_in (keyspace_of made) old.memory.trees) (flush_task made.job)
   pub some : (flush_task made.job).runs ≢ []
-
--- so it is where all that was looked for in a core's memory
-pub may_put : (view core : Held) (made : FlushMade) → view ≡ core → KnowsTask core.memory (flush_task made.job) → (id : ℕ) → id ≡ keyspace_of made
-    → is_flush_due (flush_task made.job).id (shape_in (keyspace_of made) view.memory.trees).flush ≡ true → is_living (store_in view) id ≡ true → view.memory.poisoned ≡ false → MayPut core made
-may_put view core made same known id at due lives well = record {
-  well = ap (λ (h : Held). h.memory.poisoned) (sym same) ∙ well;
-  living = (λ i. is_living (store_in (sym same i)) (sym at i)) ∙ lives;
-  out = known.1 (ap (λ (h : Held). is_flush_due (flush_task made.job).id (shape_in (keyspace_of made) h.memory.trees).flush) (sym same) ∙ due);
-  some = known.2;
-}
 
 module _ (old : Held) (made : FlushMade) (may : MayPut old made) where
   abbrev id : ℕ
@@ -198,7 +187,7 @@ module _ (old : Held) (made : FlushMade) (may : MayPut old made) where
 
     -- ---- once it was done
 
-    module _ (new : Held) (wrote : WroteFlush old.memory made old.disk new.disk true) (fin : IsFinished old.memory (keyspace_of made) (last_known old.memory.records living_there) may.out.out made.tables.items new.memory)
+    module _ (new : Held) (wrote : WroteFlush old.memory made old.disk new.disk true) (fin : IsFlushFinished old.memory (keyspace_of made) (last_known old.memory.records living_there) may.out.out made.tables.items new.memory)
         (becomes : Becomes old new.memory new) where
       -- memory ends before the next number, and so does what the flush takes
       below : flush_end shape ≤ m.next
@@ -208,7 +197,7 @@ module _ (old : Held) (made : FlushMade) (may : MayPut old made) where
           let ends : shape.memory.active.until ≤ m.next = tree_under (λ k. k.shape.memory.active.until ≤ m.next) m.trees id shape lawful.below has in
           omega (arith, inside, ends)
 
-      number_below : number_of (contents_with j next j.later) ≤ m.next
+      number_below : number_of_contents (contents_with j next j.later) ≤ m.next
       number_below =
           let some : 0 < flush_end shape = above j t m.trees entries m.records living_there task can in
           let between = (between_numbers j t id f lists_there h (flat (entries id)) counts j.later).1 in
@@ -229,7 +218,7 @@ module _ (old : Held) (made : FlushMade) (may : MayPut old made) where
         keyspaces = lies.keyspaces ∙ ap (λ (x : Remembered). x.keyspaces) (sym fin.is);
         made = lies.made ∙ sym (same_store j t id f lists_there h (flat (entries id)) counts [] j.later refl);
         waits = lies.waits ∙ sym (same_pending j t id f lists_there h (flat (entries id)) counts);
-        next = subst (λ (n : ℕ). number_of (contents_with j next j.later) ≤ n) (sym (ap (λ (x : Remembered). x.next) fin.is)) number_below;
+        next = subst (λ (n : ℕ). number_of_contents (contents_with j next j.later) ≤ n) (sym (ap (λ (x : Remembered). x.next) fin.is)) number_below;
       }
 
       pub put_knows : Knows new (entries_after entries) put_lies.journals put_lies.tree
@@ -255,7 +244,7 @@ leads_over entries others old new d tried leads stands =
 
 -- the flush was finished: base and pending stay
 pub put_leads : (entries : ℕ → List (List Entry)) (old new : Held) (made : FlushMade) (may : MayPut old made) (d : Durable) → IsLawful old.memory → WroteFlush old.memory made old.disk new.disk true
-    → IsFinished old.memory (keyspace_of made) (last_known old.memory.records (living_there old made may)) may.out.out made.tables.items new.memory → Becomes old new.memory new
+    → IsFlushFinished old.memory (keyspace_of made) (last_known old.memory.records (living_there old made may)) may.out.out made.tables.items new.memory → Becomes old new.memory new
     → kept (store_with_tables entries old) ≡ kept (store_with_tables (entries_after old made may entries) new) → StandsOn old entries d → Leads (entries_after old made may entries) new d []
 put_leads entries old new made may d lawful wrote fin becomes same = leads_over entries (entries_after old made may entries) old new d [] (λ base pending on.
     let lies = on.lies may.well in
@@ -282,7 +271,7 @@ unput_leads entries old new made may d lawful wrote fault = leads_on entries old
     let lies = on.lies may.well in
     let knows = on.knows may.well in
     let leaves = put_leaves old made may lawful entries base pending lies knows new false wrote in
-    let rests : Rests (held_on new base pending) = at_end old.disk new.disk _ leaves in
+    let rests : CrashLeavesPending (held_on new base pending) = at_end old.disk new.disk _ leaves in
     let was = present_of entries old (held_on old base pending) false may.well on ∙ ap (λ (x : Remembered). kept (store_with entries x.keyspaces x.trees)) (sym fault.memory_is) in
     let still = stands_ill entries new base pending (ap (λ (x : Remembered). x.poisoned) fault.memory_is) rests (put_finished old made may lawful entries base pending lies knows new false wrote) (inl was) in (
       held_on new base pending,

@@ -3,37 +3,36 @@ use Rattle.std.proofs.Common.{◌≡◌, ◌≢◌, ℕ, ◌<◌, ◌≤◌, ◌
 use Rattle.std.proofs.lemmas.Bool.{true≢false}
 use Rattle.std.specs.Option.{option_map, option_or}
 use Rattle.fjall_base.specs.Pairs.{Bytes}
-use Rattle.fjall_blocks.specs.Readers.{Reader}
+use Rattle.fjall_table_reader.specs.Readers.{Reader}
 use Rattle.fjall_history.specs.declared.job.JobId.{JobId}
 use Rattle.fjall_history.specs.Tickets.{Tickets}
 use Rattle.fjall_jobs.specs.Tasks.{Task}
 use Rattle.fjall_journal.specs.Changes.{Change, Emptied, Items}
 use Rattle.fjall_journal.specs.Ops.{BatchItem}
-use Rattle.fjall_lsm.specs.Ingestions.{ingested, stale}
-use Rattle.fjall_lsm.specs.Jobs.{flush_begun, flush_dropped, flush_finished, is_flush_out, is_merge_out, merge_begun, merge_dropped, merge_finished}
-use Rattle.fjall_lsm.specs.Puts.{bare_tree, put_all}
-use Rattle.fjall_lsm.specs.Trees.{Flushing, IsSameShape, Merging, Shape, emptied, sealed_off, written}
+use Rattle.fjall_tree.specs.Ingestions.{ingested, stale}
+use Rattle.fjall_tree.specs.Jobs.{flush_begun, flush_dropped, flush_finished, is_flush_out, is_merge_out, merge_begun, merge_dropped, merge_finished}
+use Rattle.fjall_tree.specs.Puts.{bare_tree, put_all}
+use Rattle.fjall_tree.specs.Trees.{Flushing, IsSameShape, Merging, Shape, emptied, sealed_off, written}
 use Rattle.fjall_manager.specs.Journals.{Sealed}
-use Rattle.fjall_maps.proofs.Changed.{tree_with}
-use Rattle.fjall_state.specs.Ingesting.{with_ingestion}
-use Rattle.fjall_state.specs.Machine.{is_flushing, is_merging}
-use Rattle.fjall_state.specs.Remembered.{IsBegun, IsLawful, IsMergeBegun, KnowsTask, Remembered}
-use Rattle.fjall_state.specs.Remembered as memory
-use Rattle.fjall_state.proofs.BesideMerges.{beside_begun, beside_counted, beside_dropped, beside_finished}
-use Rattle.fjall_state.proofs.Knowing.{after_begun, after_change, after_creation, after_deletion, after_dropped, after_evicted, after_fault, after_finished, after_ingestion, after_journal, after_read, after_released, after_retained}
-use Rattle.fjall_state.proofs.Knowing.{after_rotation, after_tickets}
-use Rattle.fjall_state.proofs.Lawful.{after_release, itself}
-use Rattle.fjall_state.proofs.SameTrees.{same_in}
+use Rattle.fjall_trees.proofs.Changed.{tree_with}
+use Rattle.fjall_machine.specs.Ingesting.{with_ingestion}
+use Rattle.fjall_machine.specs.Machine.{is_flushing, is_merging}
+use Rattle.fjall_machine.specs.Remembered.{IsFlushBegun, IsLawful, IsMergeBegun, KnowsTask, Remembered}
+use Rattle.fjall_machine.specs.Remembered as memory
+use Rattle.fjall_machine.proofs.BesideMerges.{beside_begun, beside_counted, beside_dropped, beside_finished}
+use Rattle.fjall_machine.proofs.Knowing.{after_begun, after_change, after_creation, after_deletion, after_dropped, after_evicted, after_fault, after_finished, after_ingestion, after_journal, after_read, after_released, after_retained, after_rotation, after_tickets}
+use Rattle.fjall_machine.proofs.Lawful.{after_release, itself}
+use Rattle.fjall_machine.proofs.SameTrees.{same_in}
 use Rattle.fjall_table.specs.Blocks.{Entry}
-use Rattle.fjall_tree.specs.Records.{Fields}
+use Rattle.fjall_manifest.specs.Records.{Fields}
 use Rattle.fjall_trees.specs.Forests.{Forest, Planted, altered_at, tree_at, without}
 use Rattle.fjall_trees.specs.Tables.{AreSameTrees, shape_in}
-use Rattle.fjall_trees.specs.Writes.{entries_of, pushed, with_tree}
+use Rattle.fjall_trees.specs.Writes.{pushed, versions_of_items, with_tree}
 use Rattle.fjall_trees.proofs.Changing.{put_all_keeps, tree_under}
 use Rattle.fjall_trees.proofs.Others.{dropped_here}
 use Rattle.fjall_trees.proofs.Outstanding.{shape_left}
 use Rattle.fjall_trees.proofs.Places.{each_by, tree_each}
-use Rattle.fjall_versions.proofs.Slots.{same_id}
+use Rattle.fjall_contents.proofs.Slots.{same_id}
 
 -- Whatever is done to memory, this stays true of it.
 pub record StaysTrue (P : Remembered → Type 0) : Type 0 where
@@ -187,8 +186,8 @@ module _ (number : ℕ) (is_out : Shape → Bool) (tells : TellsOut number is_ou
   out_pushed : (n : ℕ) (items : List BatchItem) → is_out (shape_in id (pushed n items trees)) ≡ true → is_out (shape_in id trees) ≡ true
   unfolding pushed
   out_pushed n items =
-      out_each (λ k. put_all (entries_of k n items))
-      (λ shape is. sym (put_all_keeps (λ (s : Shape). is_out s ≡ is_out shape) (λ v s same. tells.written v s ∙ same) (entries_of id n items) shape refl) ∙ is)
+      out_each (λ k. put_all (versions_of_items k n items))
+      (λ shape is. sym (put_all_keeps (λ (s : Shape). is_out s ≡ is_out shape) (λ v s same. tells.written v s ∙ same) (versions_of_items id n items) shape refl) ∙ is)
 
   out_planted : (other from : ℕ) → is_out (shape_in id (with_tree other from trees)) ≡ true → is_out (shape_in id trees) ≡ true
   out_planted other from is =
@@ -304,13 +303,13 @@ flushes_before m id trees same job is =
 pub flush_given : (m : Remembered) (job : JobId) → IsLawful m → is_flushing m.trees job ≡ true → job.number < m.next_job
 flush_given m job lawful out = by (tree_at job.keyspace_id m.trees) refl out
   where
-    begun : (flush : Option Flushing) → IsBegun m.next_job m.tickets.watermark flush → is_flush_out job.number flush ≡ true → job.number < m.next_job
+    begun : (flush : Option Flushing) → IsFlushBegun m.next_job m.tickets.watermark flush → is_flush_out job.number flush ≡ true → job.number < m.next_job
     begun None low is = absurd (true≢false (sym is))
     begun (Some flush) low is = let same = same_id job.number flush.id is in let given = low.0 in omega (arith, same, given)
 
     by : (found : Option Shape) → tree_at job.keyspace_id m.trees ≡ found → is_flush_out job.number (unwrap_or found (bare_tree 0)).flush ≡ true → job.number < m.next_job
     by None at is = absurd (true≢false (sym is))
-    by (Some tree) at is = begun tree.flush (tree_under (λ (k : Planted). IsBegun m.next_job m.tickets.watermark k.shape.flush) m.trees job.keyspace_id tree lawful.begun at) is
+    by (Some tree) at is = begun tree.flush (tree_under (λ (k : Planted). IsFlushBegun m.next_job m.tickets.watermark k.shape.flush) m.trees job.keyspace_id tree lawful.begun at) is
 
 pub merge_given : (m : Remembered) (job : JobId) → IsLawful m → is_merging m.trees job ≡ true → job.number < m.next_job
 merge_given m job lawful out = by (tree_at job.keyspace_id m.trees) refl out

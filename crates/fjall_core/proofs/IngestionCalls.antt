@@ -11,33 +11,31 @@ use Rattle.fjall_files.specs.Regions.{Within}
 use Rattle.fjall_files.specs.Tidy.{IsTidy, StaysTidy}
 use Rattle.fjall_files.proofs.Tidying.{stays_both, tidy_on}
 use Rattle.fjall_history.specs.declared.reply.Reply.TheVariants.{Done, Refused}
-use Rattle.fjall_state.specs.PlannedIngestion.{PlannedIngestion}
-use Rattle.fjall_state.specs.Ingests.{ingestion}
+use Rattle.fjall_compaction.specs.declared.ingestion.whole.PlannedIngestion.{PlannedIngestion}
+use Rattle.fjall_compaction.specs.Ingests.{ingestion}
 use Rattle.fjall_journal.specs.Writer.{Journal}
-use Rattle.fjall_loading.specs.Known.{last_known}
+use Rattle.fjall_recovery.specs.Known.{last_known}
 use Rattle.fjall_manager.specs.Journals.{Sealed}
 use Rattle.fjall_meta.specs.declared.living.LivingKeyspace.{LivingKeyspace}
-use Rattle.fjall_state.specs.Ingesting.{with_ingestion, with_tables}
-use Rattle.fjall_state.specs.Machine.{IngestionFails, Refuses, State, StepOf}
-use Rattle.fjall_state.specs.Machine as machine
-use Rattle.fjall_state.specs.Remembered.{Remembered, poisoned, with_sealed}
-use Rattle.fjall_state.specs.Remembered as memory
-use Rattle.fjall_state.specs.Shapes.{OfIngestion, Shape}
-use Rattle.fjall_state.proofs.Flushing.{an_eviction_stands, some_evicted, with_sealed_stands}
-use Rattle.fjall_tree.specs.Records.{Fields, view}
+use Rattle.fjall_machine.specs.Ingesting.{with_ingestion, with_tables}
+use Rattle.fjall_machine.specs.Machine.{IngestionFails, Refuses, State, StepOf}
+use Rattle.fjall_machine.specs.Machine as machine
+use Rattle.fjall_machine.specs.Remembered.{Remembered, poisoned, with_sealed}
+use Rattle.fjall_machine.specs.Remembered as memory
+use Rattle.fjall_machine.specs.Shapes.{CallShape, OfIngestion}
+use Rattle.fjall_machine.proofs.Flushing.{an_eviction_stands, some_evicted, with_sealed_stands}
+use Rattle.fjall_manifest.specs.Records.{Fields, view}
 use Rattle.fjall_trees.specs.Tables.{shape_in}
 use Rattle.fjall_writes.specs.Ingestions.{KeyOp}
 use Rattle.fjall_core.specs.Holding.{Held}
 use Rattle.fjall_core.specs.CallParts.{Evicts, PutsIngestion, SettlesIngestion, SyncedAll, SyncsAll, WentAway, WentSynced, WritesIngestion, WroteIngestion}
 use Rattle.fjall_core.specs.Durables.{Durable, StandsAmid, StaysFinished}
-use Rattle.fjall_core.specs.Standing.{Becomes, EvictionTook, EvictsInMemory, IngestedInMemory, IngestionPoisons, Owes, OwesRefusal, Poisons, Serves, StandsFor, StandsOn, SyncFailed, SyncTook}
-use Rattle.fjall_core.specs.Standing.{evicted_in_memory, is_long, journal_synced, reply_of, store_with_tables}
+use Rattle.fjall_core.specs.Standing.{Becomes, EvictionTook, EvictsInMemory, IngestedInMemory, IngestionPoisons, Owes, OwesRefusal, Poisons, Serves, StandsFor, StandsOn, SyncFailed, SyncTook, evicted_in_memory, is_long, journal_synced, reply_of, store_with_tables}
 use Rattle.fjall_core.proofs.CrashesInRuns.{passes_on, safe_now}
 use Rattle.fjall_core.proofs.Evictions.{evicted_keeps, evicted_leads, evicted_served, unevicted_leads}
 use Rattle.fjall_core.proofs.FinishedFlushes.{rose_later}
 use Rattle.fjall_core.proofs.IngestionSettles.{away_too, evicted_too, evicts_too, ingested_on, recorded_on, settled, unsettled}
-use Rattle.fjall_core.proofs.IngestionSteps.{IsDue, ingests, leads_by, leads_synced, leads_taken, left_there, may_synced, next_left, none_after, reads_synced, reads_taken, stands_synced, stands_taken}
-use Rattle.fjall_core.proofs.IngestionSteps.{state_synced, state_taken}
+use Rattle.fjall_core.proofs.IngestionSteps.{IsDue, ingests, leads_by, leads_synced, leads_taken, left_there, may_synced, next_left, none_after, reads_synced, reads_taken, stands_synced, stands_taken, state_synced, state_taken}
 use Rattle.fjall_core.proofs.IngestionSyncs.{StandsSynced, unsynced_keeps, unsynced_leads, went_kinds, went_served}
 use Rattle.fjall_core.proofs.IngestionTables.{all_lie}
 use Rattle.fjall_core.proofs.IngestionWrites.{MayWrite, record_planned, unwritten_leads, write_finished, write_leaves, write_served}
@@ -59,7 +57,7 @@ module _ (honest : Type 0) (old new : Held) (k : LivingKeyspace) (item : KeyOp) 
   abbrev command : Command
   command = ingestion k.id (item ∷ rest)
 
-  abbrev call : Shape
+  abbrev call : CallShape
   call = OfIngestion k.id (item ∷ rest)
 
   -- a fault in it is a step of the machine
@@ -272,8 +270,8 @@ module _ (honest : Type 0) (old new : Held) (k : LivingKeyspace) (item : KeyOp) 
               let t = machine.evicted t1 in (
                 t,
                 record {
-                  remembered = subst (λ (x : Remembered). memory.StandsFor x new.catalog.next_table_id t) (sym becomes.memory_is)
-                      (subst (λ (n : ℕ). memory.StandsFor (evicted_in_memory m_taken) n t) (ap (λ c. c.next_table_id) (sym becomes.catalog))
+                  remembered = subst (λ (x : Remembered). memory.MemoryStandsFor x new.catalog.next_table_id t) (sym becomes.memory_is)
+                      (subst (λ (n : ℕ). memory.MemoryStandsFor (evicted_in_memory m_taken) n t) (ap (λ c. c.next_table_id) (sym becomes.catalog))
                       (an_eviction_stands m_taken synced.catalog.next_table_id t1 held.remembered));
                   journal = held.journal ∙ ap (λ (j : Journal). j.len) (sym becomes.journal);
                   buffer = held.buffer ∙ ap (λ (j : Journal). length j.buffer) (sym becomes.journal);

@@ -6,20 +6,20 @@ use Rattle.std.proofs.lemmas.Bool.{eqb-true, true≢false}
 use Rattle.fjall_base.specs.declared.error.Error.{Error}
 use Rattle.fjall_base.specs.declared.error.Error.TheVariants.{NumbersUsedUp, OutOfMemory, TooManyItems}
 use Rattle.fjall_history.specs.declared.reply.Reply.TheVariants.{Done, Refused}
-use Rattle.fjall_state.specs.PlannedIngestion.{PlannedIngestion}
-use Rattle.fjall_state.specs.Planned.{IsIngestionRefusal}
-use Rattle.fjall_loading.specs.Known.{last_known}
+use Rattle.fjall_compaction.specs.declared.ingestion.whole.PlannedIngestion.{PlannedIngestion}
+use Rattle.fjall_compaction.specs.Planned.{IsIngestionRefusal}
+use Rattle.fjall_recovery.specs.Known.{last_known}
 use Rattle.fjall_meta.specs.declared.living.LivingKeyspace.{LivingKeyspace}
 use Rattle.fjall_meta.specs.Keyspaces.{keyspace_at}
-use Rattle.fjall_state.specs.Ingesting.{IsPlanned, MayIngest, ingestion_refusals}
-use Rattle.fjall_state.specs.Machine.{first_due, is_living}
-use Rattle.fjall_state.specs.Remembered.{IsLawful, Remembered, facts_of}
-use Rattle.fjall_state.specs.Shapes.{OfIngestion}
-use Rattle.fjall_state.proofs.Ascending.{may_ingest}
-use Rattle.fjall_state.proofs.Facts.{living_names, some_there}
+use Rattle.fjall_machine.specs.Ingesting.{IsPlanned, MayIngest, ingestion_refusals}
+use Rattle.fjall_machine.specs.Machine.{first_due, is_living}
+use Rattle.fjall_machine.specs.Remembered.{IsLawful, Remembered, facts_of}
+use Rattle.fjall_machine.specs.Shapes.{OfIngestion}
+use Rattle.fjall_machine.proofs.Ascending.{may_ingest}
+use Rattle.fjall_machine.proofs.Facts.{living_names, some_there}
 use Rattle.fjall_trees.specs.Tables.{shape_in}
-use Rattle.fjall_versions.proofs.Found.{found_has, found_passes}
-use Rattle.fjall_versions.proofs.Slots.{same_id}
+use Rattle.fjall_contents.proofs.Found.{found_has, found_passes}
+use Rattle.fjall_contents.proofs.Slots.{same_id}
 use Rattle.fjall_writes.specs.Ingestions.{KeyOp}
 use Rattle.fjall_core.specs.Holding.{Held}
 use Rattle.fjall_core.specs.CallParts.{PutsIngestion}

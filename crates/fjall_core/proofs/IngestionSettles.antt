@@ -6,11 +6,11 @@ use Rattle.std.specs.Option.{is_some}
 use Rattle.fjall_base.specs.Disk.{Meaning}
 use Rattle.fjall_base.specs.declared.error.Error.{Error}
 use Rattle.fjall_base.specs.declared.error.Error.TheVariants.{Io}
-use Rattle.fjall_state.specs.PlannedIngestion.{PlannedIngestion}
-use Rattle.fjall_state.specs.Ingesting.{with_ingestion, with_record, with_tables}
-use Rattle.fjall_state.specs.Remembered.{Remembered, poisoned, with_sealed}
-use Rattle.fjall_tree.specs.Records.{Fields, view}
-use Rattle.fjall_versions.proofs.Slots.{get_put, same_id, same_maps}
+use Rattle.fjall_compaction.specs.declared.ingestion.whole.PlannedIngestion.{PlannedIngestion}
+use Rattle.fjall_machine.specs.Ingesting.{with_ingestion, with_record, with_tables}
+use Rattle.fjall_machine.specs.Remembered.{Remembered, poisoned, with_sealed}
+use Rattle.fjall_manifest.specs.Records.{Fields, view}
+use Rattle.fjall_contents.proofs.Slots.{get_put, same_id, same_maps}
 use Rattle.fjall_core.specs.Holding.{Held}
 use Rattle.fjall_core.specs.CallParts.{Evicts, SettlesIngestion, WentAway, recorded}
 use Rattle.fjall_core.specs.Standing.{Becomes, EvictsInMemory, evicted_in_memory}

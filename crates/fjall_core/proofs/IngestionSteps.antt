@@ -9,26 +9,26 @@ use Rattle.fjall_catalog.specs.Catalog.{fields, first_of}
 use Rattle.fjall_files.specs.Tidy.{IsTidy, StaysTidy}
 use Rattle.fjall_history.specs.Histories.{grown, number, plain}
 use Rattle.fjall_history.specs.declared.reply.Reply.{Reply}
-use Rattle.fjall_state.specs.PlannedIngestion.{PlannedIngestion}
-use Rattle.fjall_state.specs.Ingests.{batch_items, ingestion}
+use Rattle.fjall_compaction.specs.declared.ingestion.whole.PlannedIngestion.{PlannedIngestion}
+use Rattle.fjall_compaction.specs.Ingests.{batch_items, ingestion}
 use Rattle.fjall_journal.specs.Ops.{items_refusal}
-use Rattle.fjall_loading.specs.Known.{last_known}
+use Rattle.fjall_recovery.specs.Known.{last_known}
 use Rattle.fjall_meta.specs.declared.living.LivingKeyspace.{LivingKeyspace}
-use Rattle.fjall_state.specs.Ingesting.{Ingests, parts_ingested, last_ingested, with_ingestion}
-use Rattle.fjall_state.specs.Machine.{State, present}
-use Rattle.fjall_state.specs.Machine as machine
-use Rattle.fjall_state.specs.Remembered.{IsLawful, Remembered}
-use Rattle.fjall_state.specs.Remembered as memory
-use Rattle.fjall_state.specs.Shapes.{OfIngestion, Shape}
-use Rattle.fjall_state.proofs.Dues.{behind_true, below}
-use Rattle.fjall_state.proofs.Flushing.{known_record}
-use Rattle.fjall_state.proofs.Ingesting.{ingested_there}
-use Rattle.fjall_state.proofs.Viewing.{latest_grown}
+use Rattle.fjall_machine.specs.Ingesting.{Ingests, parts_ingested, last_ingested, with_ingestion}
+use Rattle.fjall_machine.specs.Machine.{State, present}
+use Rattle.fjall_machine.specs.Machine as machine
+use Rattle.fjall_machine.specs.Remembered.{IsLawful, Remembered}
+use Rattle.fjall_machine.specs.Remembered as memory
+use Rattle.fjall_machine.specs.Shapes.{CallShape, OfIngestion}
+use Rattle.fjall_machine.proofs.Dues.{behind_true, below}
+use Rattle.fjall_machine.proofs.Flushing.{known_record}
+use Rattle.fjall_machine.proofs.Ingesting.{ingested_there}
+use Rattle.fjall_machine.proofs.Viewing.{latest_grown}
 use Rattle.fjall_table.specs.Blocks.{Entry}
-use Rattle.fjall_tree.specs.Records.{Fields, view}
+use Rattle.fjall_manifest.specs.Records.{Fields, view}
 use Rattle.fjall_trees.specs.Tables.{shape_in}
-use Rattle.fjall_versions.proofs.Kept.{kept_along}
-use Rattle.fjall_versions.proofs.Slots.{get_put}
+use Rattle.fjall_contents.proofs.Kept.{kept_along}
+use Rattle.fjall_contents.proofs.Slots.{get_put}
 use Rattle.fjall_writes.specs.Ingestions.{KeyOp}
 use Rattle.fjall_core.specs.Holding.{Held}
 use Rattle.fjall_core.specs.CallParts.{SyncedAll, WentSynced, WroteIngestion}
@@ -62,7 +62,7 @@ may_synced old synced k items p at may =
     (record { well = may.well; living = may.living; numbered = may.numbered; planned = may.planned }))
 
 -- what leads from a core's own disk, by commands that the call tried
-pub leads_by : (old new : Held) (s t : State) (shape : Shape) (reply : Reply) (tried : List Command) → attempt s shape reply ≡ tried → StaysTidy old.disk new.disk
+pub leads_by : (old new : Held) (s t : State) (shape : CallShape) (reply : Reply) (tried : List Command) → attempt s shape reply ≡ tried → StaysTidy old.disk new.disk
     → ((d : Durable) → StandsOn old s.parts.entries d → IsTidy (state_in old.disk) → BlamesDevice reply old.disk new.disk)
     → ((d : Durable) → StandsOn old s.parts.entries d → (e : Durable) × StandsOn new t.parts.entries e × Passes d tried e × (IsSync s shape reply → e.pending ≡ []))
     → LeadsOn old s shape reply new t
@@ -124,7 +124,7 @@ module _ (old synced : Held) (k : LivingKeyspace) (item : KeyOp) (rest : List Ke
   abbrev last : Fields
   last = last_ingested synced.memory.next (shape_in k.id synced.memory.trees) p.memory.tables.items p.own.tables.items (last_known synced.memory.records k)
 
-  both : Ingests state_synced k.id items state_taken × memory.StandsFor (with_ingestion k.id p.readers.items last synced.memory) synced.catalog.next_table_id state_taken
+  both : Ingests state_synced k.id items state_taken × memory.MemoryStandsFor (with_ingestion k.id p.readers.items last synced.memory) synced.catalog.next_table_id state_taken
   both =
       ingested_there synced.memory synced.catalog.next_table_id state_synced stands_synced.remembered k.id k may.living item rest may.numbered due.fits p.memory.tables.items p.own.tables.items
       p.readers.items may.planned.makes
@@ -138,7 +138,7 @@ module _ (old synced : Held) (k : LivingKeyspace) (item : KeyOp) (rest : List Ke
 
     pub stands_taken : StandsFor taken state_taken
     stands_taken = record {
-      remembered = subst (λ (l : Fields). memory.StandsFor (with_ingestion k.id p.readers.items l synced.memory) synced.catalog.next_table_id state_taken) (sym (record_planned synced k items p may))
+      remembered = subst (λ (l : Fields). memory.MemoryStandsFor (with_ingestion k.id p.readers.items l synced.memory) synced.catalog.next_table_id state_taken) (sym (record_planned synced k items p may))
           both.1;
       journal = stands_synced.journal;
       buffer = stands_synced.buffer;

@@ -12,14 +12,14 @@ use Rattle.fjall_journal.specs.Writer.{Journal, persist_steps, written_out}
 use Rattle.fjall_journal.specs.declared.persist_mode.PersistMode.TheVariants.{SyncAll}
 use Rattle.fjall_journal.specs.Rotations.{RotationTook, empty_journal, rotating}
 use Rattle.fjall_recovery.specs.Halves.{is_of_keyspaces}
-use Rattle.fjall_state.specs.Machine.{State}
-use Rattle.fjall_state.specs.Machine as machine
-use Rattle.fjall_state.specs.Remembered.{Remembered, journal_rotated}
-use Rattle.fjall_state.specs.Remembered as memory
+use Rattle.fjall_machine.specs.Machine.{State}
+use Rattle.fjall_machine.specs.Machine as machine
+use Rattle.fjall_machine.specs.Remembered.{Remembered, journal_rotated}
+use Rattle.fjall_machine.specs.Remembered as memory
 use Rattle.fjall_table.specs.Blocks.{Entry}
 use Rattle.fjall_core.specs.Holding.{Held}
 use Rattle.fjall_core.specs.CallParts.{SyncedAll, WentSynced}
-use Rattle.fjall_core.specs.Durables.{Durable, Knows, Lies, Passes, Rests, StandsAmid, StaysFinished}
+use Rattle.fjall_core.specs.Durables.{CrashLeavesPending, Durable, Knows, Lies, Passes, StandsAmid, StaysFinished}
 use Rattle.fjall_core.specs.Standing.{HandsOver, Poisons, ReadsOn, RotatesJournal, StandsFor, StandsOn, SyncFailed, SyncTook, is_long, journal_synced, next_name, store_with_tables}
 use Rattle.fjall_core.proofs.CrashImages.{leaves_finished, lies_rest}
 use Rattle.fjall_core.proofs.CrashesInRuns.{amid_more}
@@ -44,7 +44,7 @@ pub pends : (entries : ℕ → List (List Entry)) (new : Held) (d : Durable) (co
     → Leads entries new d (command ∷ [])
 pends entries new d command ill finished leaves was =
     let all = d.pending ++ command ∷ [] in
-    let rests : Rests (held_on new d.base all) = at_end d.meaning new.disk _ leaves in (
+    let rests : CrashLeavesPending (held_on new d.base all) = at_end d.meaning new.disk _ leaves in (
       held_on new d.base all,
       stands_ill entries new d.base all ill rests finished (inr (d.pending, command, refl, was)),
       record { leaves = leaves; safe = []; base = refl; rest = refl; rests = rests },
@@ -227,8 +227,8 @@ sync_stands old new s stands at =
     let long = is_long old.journal in
     let t = if long then machine.journal_rotated s else record s { parts = machine.written_out s.parts 0 } in
     subst (λ (b : Bool). StandsFor new (if b then machine.journal_rotated s else record s { parts = machine.written_out s.parts 0 })) (sym (long_agrees old new s stands)) (record {
-      remembered = subst (λ (m : Remembered). memory.StandsFor m new.catalog.next_table_id t) (sym at.memory_is)
-          (subst (λ (n : ℕ). memory.StandsFor (journal_synced old) n t) (ap (λ c. c.next_table_id) (sym at.catalog)) (synced_stands old new s stands long));
+      remembered = subst (λ (m : Remembered). memory.MemoryStandsFor m new.catalog.next_table_id t) (sym at.memory_is)
+          (subst (λ (n : ℕ). memory.MemoryStandsFor (journal_synced old) n t) (ap (λ c. c.next_table_id) (sym at.catalog)) (synced_stands old new s stands long));
       journal = synced_len old new s stands long ∙ ap (λ (j : Journal). j.len) (sym at.journal);
       buffer = synced_buffer old new s stands long ∙ ap (λ (j : Journal). length j.buffer) (sym at.journal);
     })

@@ -3,29 +3,29 @@ use Rattle.std.proofs.Common.{◌≡◌, inl, inr, ℕ, ◌+◌, ◌<◌, ◌≤
 use Rattle.std.proofs.lemmas.Bool.{eq-eqb, true≢false}
 use Rattle.std.proofs.lemmas.List.Elements.{All-map, All-weaker}
 use Rattle.fjall_base.specs.Disk.{Meaning}
-use Rattle.fjall_blocks.specs.Readers.{AreRead, Reader}
+use Rattle.fjall_table_reader.specs.Readers.{AreRead, Reader}
 use Rattle.fjall_commit.proofs.KeptHomes.{within_others}
 use Rattle.fjall_files.specs.Names.{table_name}
-use Rattle.fjall_state.specs.Flushes.{record_after}
-use Rattle.fjall_state.specs.FlushPlans.{HaveFiles}
-use Rattle.fjall_state.specs.PlannedIngestion.{PlannedIngestion}
-use Rattle.fjall_state.specs.Whole.{last_flushed, last_ingested, memory_flush}
+use Rattle.fjall_compaction.specs.Flushes.{record_after}
+use Rattle.fjall_compaction.specs.FlushPlans.{HaveFiles}
+use Rattle.fjall_compaction.specs.declared.ingestion.whole.PlannedIngestion.{PlannedIngestion}
+use Rattle.fjall_compaction.specs.Whole.{last_flushed, last_ingested, memory_flush}
 use Rattle.fjall_jobs.specs.declared.made_table.MadeTable.{MadeTable}
 use Rattle.fjall_jobs.specs.Sequences.{AreMadeTables}
-use Rattle.fjall_loading.specs.Known.{AreListed, IsGiven, last_known}
-use Rattle.fjall_lsm.specs.Ingestions.{has_memory, ingested}
-use Rattle.fjall_lsm.specs.Trees.{Shape}
-use Rattle.fjall_lsm.proofs.Several.{read_both}
+use Rattle.fjall_recovery.specs.Known.{AreListed, IsGiven, last_known}
+use Rattle.fjall_tree.specs.Ingestions.{has_memory, ingested}
+use Rattle.fjall_tree.specs.Trees.{Shape}
+use Rattle.fjall_tree.proofs.Several.{read_both}
 use Rattle.fjall_meta.specs.declared.living.LivingKeyspace.{LivingKeyspace}
-use Rattle.fjall_state.proofs.Flushing.{id_given, known_record}
-use Rattle.fjall_state.specs.Machine.{State, is_among}
-use Rattle.fjall_state.specs.Remembered.{IsLawful, Remembered}
+use Rattle.fjall_machine.proofs.Flushing.{id_given, known_record}
+use Rattle.fjall_machine.specs.Machine.{State, is_among}
+use Rattle.fjall_machine.specs.Remembered.{IsLawful, Remembered}
 use Rattle.fjall_table.specs.Blocks.{Entry}
-use Rattle.fjall_table.specs.Files.{entry_at}
-use Rattle.fjall_tree.specs.Records.{Fields, view}
+use Rattle.fjall_table_reader.specs.Files.{entry_at}
+use Rattle.fjall_manifest.specs.Records.{Fields, view}
 use Rattle.fjall_trees.specs.Forests.{Planted, altered_at}
 use Rattle.fjall_trees.specs.Tables.{shape_in}
-use Rattle.fjall_versions.proofs.Slots.{same_id}
+use Rattle.fjall_contents.proofs.Slots.{same_id}
 use Rattle.fjall_writes.specs.Ingestions.{KeyOp}
 use Rattle.fjall_core.specs.Holding.{Held}
 use Rattle.fjall_core.specs.CallParts.{WroteIngestion}

@@ -6,39 +6,39 @@ use Rattle.fjall_base.specs.Store.{Store, apply, kept}
 use Rattle.fjall_base.specs.Disk.{LeavesOnly, Meaning, OnlyFaults, state_in}
 use Rattle.fjall_base.specs.declared.error.Error.{Error}
 use Rattle.fjall_base.specs.declared.error.Error.TheVariants.{Io}
-use Rattle.fjall_blocks.specs.Readers.{Reader}
+use Rattle.fjall_table_reader.specs.Readers.{Reader}
 use Rattle.fjall_contents.specs.Contents.{is_beyond, journal_beyond}
 use Rattle.fjall_files.specs.Names.{Table, keyspace_folder, table_name}
 use Rattle.fjall_files.specs.Regions.{Within}
 use Rattle.fjall_files.specs.Tidy.{IsTidy}
-use Rattle.fjall_state.specs.Flushes.{Flush, Follows, HasAt, infos_from}
-use Rattle.fjall_home.specs.Homes.{Home}
-use Rattle.fjall_home.proofs.Outside.{within_keyspaces}
-use Rattle.fjall_state.specs.PlannedIngestion.{PlannedIngestion}
-use Rattle.fjall_state.specs.Ingests.{ingestion}
-use Rattle.fjall_state.specs.Whole.{CanIngest, last_flushed, last_ingested, memory_flush, tree_behind, tree_between, tree_flushed}
-use Rattle.fjall_state.proofs.WholeLaws.{whole_base, whole_beyond, whole_follows, whole_known, whole_last, whole_number, whole_run}
+use Rattle.fjall_compaction.specs.Flushes.{Flush, Follows, HasAt, infos_from}
+use Rattle.fjall_manifest.specs.Homes.{Home}
+use Rattle.fjall_manifest.proofs.Outside.{within_keyspaces}
+use Rattle.fjall_compaction.specs.declared.ingestion.whole.PlannedIngestion.{PlannedIngestion}
+use Rattle.fjall_compaction.specs.Ingests.{ingestion}
+use Rattle.fjall_compaction.specs.Whole.{CanIngest, last_flushed, last_ingested, memory_flush, tree_behind, tree_between, tree_flushed}
+use Rattle.fjall_compaction.proofs.WholeLaws.{whole_base, whole_beyond, whole_follows, whole_known, whole_last, whole_number, whole_run}
 use Rattle.fjall_jobs.specs.declared.made_table.MadeTable.{MadeTable}
 use Rattle.fjall_journal.specs.Batches.{Written, shown}
-use Rattle.fjall_loading.specs.Known.{IsKnown, last_known}
-use Rattle.fjall_lsm.specs.Ingestions.{has_memory, ingested, stale}
-use Rattle.fjall_lsm.specs.Jobs.{flush_end}
-use Rattle.fjall_lsm.specs.Trees.{Flushing, Shape}
+use Rattle.fjall_recovery.specs.Known.{IsKnown, last_known}
+use Rattle.fjall_tree.specs.Ingestions.{has_memory, ingested, stale}
+use Rattle.fjall_tree.specs.Jobs.{flush_end}
+use Rattle.fjall_tree.specs.Trees.{Flushing, Shape}
 use Rattle.fjall_meta.specs.declared.living.LivingKeyspace.{LivingKeyspace}
 use Rattle.fjall_meta.specs.Keyspaces.{Keyspaces, keyspace_at}
-use Rattle.fjall_recovery.specs.Folders.{number_of}
+use Rattle.fjall_recovery.specs.Folders.{number_of_contents}
 use Rattle.fjall_recovery.specs.Halves.{HasTree, Tree}
 use Rattle.fjall_recovery.specs.Homes.{stored_in}
 use Rattle.fjall_recovery.specs.Places.{Journaling, contents_with}
-use Rattle.fjall_sorted.specs.Sorted.{flat}
-use Rattle.fjall_state.specs.Ingesting.{IsPlanned, with_ingestion}
-use Rattle.fjall_state.specs.Remembered.{IsLawful, Remembered, poisoned}
-use Rattle.fjall_state.proofs.Flushing.{id_given}
+use Rattle.fjall_memtable.specs.Sorted.{flat}
+use Rattle.fjall_machine.specs.Ingesting.{IsPlanned, with_ingestion}
+use Rattle.fjall_machine.specs.Remembered.{IsLawful, Remembered, poisoned}
+use Rattle.fjall_machine.proofs.Flushing.{id_given}
 use Rattle.fjall_table.specs.Blocks.{Entry}
-use Rattle.fjall_tree.specs.Records.{Fields, view}
+use Rattle.fjall_manifest.specs.Records.{Fields, view}
 use Rattle.fjall_trees.specs.Forests.{Forest, altered_at}
 use Rattle.fjall_trees.specs.Tables.{entries_with, shape_in}
-use Rattle.fjall_versions.proofs.Found.{found_has}
+use Rattle.fjall_contents.proofs.Found.{found_has}
 use Rattle.fjall_writes.specs.Ingestions.{KeyOp}
 use Rattle.fjall_core.specs.Holding.{Held}
 use Rattle.fjall_core.specs.CallParts.{WritesIngestion, WroteIngestion}
@@ -199,7 +199,7 @@ module _ (core : Held) (k : LivingKeyspace) (items : List KeyOp) (p : PlannedIng
     -- ---- once it was done
 
     module _ (disk : Meaning) (wrote : WroteIngestion p core.disk disk true) where
-      number_below : number_of (contents_with j next j.later) ≤ n + 1
+      number_below : number_of_contents (contents_with j next j.later) ≤ n + 1
       number_below =
           let is = whole_number j t m.trees entries m.records k n can m.tickets.watermark items flushes made may.planned.makes.flushed may.planned.makes.are h known.home in
           omega (arith, is)

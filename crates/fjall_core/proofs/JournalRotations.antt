@@ -13,7 +13,7 @@ use Rattle.fjall_journal.specs.Writer.{Journal, written_out}
 use Rattle.fjall_manager.specs.Journals.{Journals, next_journal}
 use Rattle.fjall_journal.specs.Rotations.{RotationTook}
 use Rattle.fjall_manager.specs.Rotations.{sealed_of}
-use Rattle.fjall_recovery.specs.Folders.{number_of}
+use Rattle.fjall_recovery.specs.Folders.{number_of_contents}
 use Rattle.fjall_recovery.specs.Places.{Journaling, contents_with}
 use Rattle.fjall_commit.specs.Journaling.{IsWriting}
 use Rattle.fjall_commit.specs.Rotations.{LeavesRotation, rotated}
@@ -21,19 +21,19 @@ use Rattle.fjall_commit.proofs.CrashedJournals.{rotated_base, rotation_stands}
 use Rattle.fjall_commit.proofs.MarkedJournals.{marked_more}
 use Rattle.fjall_commit.proofs.StoredJournals.{rotated_number}
 use Rattle.fjall_history.specs.declared.reply.Reply.TheVariants.{Done, Refused}
-use Rattle.fjall_state.specs.Machine.{first_due, journal_refusals}
-use Rattle.fjall_state.specs.Remembered.{Remembered, facts_of, poisoned}
-use Rattle.fjall_state.specs.Shapes.{OfJournalRotation}
-use Rattle.fjall_state.proofs.Dues.{may_rotate}
+use Rattle.fjall_machine.specs.Machine.{first_due, journal_refusals}
+use Rattle.fjall_machine.specs.Remembered.{Remembered, facts_of, poisoned}
+use Rattle.fjall_machine.specs.Shapes.{OfJournalRotation}
+use Rattle.fjall_machine.proofs.Dues.{may_rotate}
 use Rattle.fjall_table.specs.Blocks.{Entry}
-use Rattle.fjall_maps.specs.Tables.{store_with}
+use Rattle.fjall_trees.specs.MapTables.{store_with}
 use Rattle.fjall_recovery.specs.Halves.{is_of_keyspaces}
 use Rattle.fjall_commit.proofs.KeepingKeyspaces.{journal_apart}
 use Rattle.fjall_commit.proofs.KeptHomes.{rotated_homes, unrotated_homes}
 use Rattle.fjall_core.specs.Holding.{Held}
 use Rattle.fjall_core.specs.CallParts.{Turns, WentOver}
 use Rattle.fjall_core.specs.Crashes.{is_io}
-use Rattle.fjall_core.specs.Durables.{AreKnown, Durable, Knows, Lies, Rests, StandsAmid, StaysFinished}
+use Rattle.fjall_core.specs.Durables.{AreKnown, CrashLeavesPending, Durable, Knows, Lies, StandsAmid, StaysFinished}
 use Rattle.fjall_core.specs.Standing.{Owes, OwesRefusal, Poisons, RotatesJournal, Serves, StandsOn, held_due, next_name, reply_of}
 use Rattle.fjall_core.proofs.CrashImages.{has_finished}
 use Rattle.fjall_core.proofs.JournalWrites.{Leads, Settles, held_on, leads_on, present_of, settles_on, stands_ill, stands_well}
@@ -101,7 +101,7 @@ module _ (old new : Held) (base : Store) (pending : List Command) (lies : Lies o
         keyspaces = lies.keyspaces ∙ ap (λ (m : Remembered). m.keyspaces) (sym turns.memory_is);
         made = ap (λ (l : List Command). kept (fold base l)) lies.waits ∙ rotated_base t lies.in_tree.rests.versions base j lies.made lies.writing.root.sound;
         waits = refl;
-        next = subst (λ (n : ℕ). number_of (contents_with (rotated j) t []) ≤ n) (sym (ap (λ (m : Remembered). m.next) turns.memory_is)) (subst (λ (n : ℕ). n ≤ old.memory.next) (sym (rotated_number j t)) lies.next);
+        next = subst (λ (n : ℕ). number_of_contents (contents_with (rotated j) t []) ≤ n) (sym (ap (λ (m : Remembered). m.next) turns.memory_is)) (subst (λ (n : ℕ). n ≤ old.memory.next) (sym (rotated_number j t)) lies.next);
       }
 
   pub turn_empty : (turns : RotatesJournal old new) (over : WentOver old.disk new.disk old.journal new.journal old.memory.journals.active true) → (turn_lies turns over).journals.later ≡ []
@@ -135,7 +135,7 @@ pub turn_fails : (entries : ℕ → List (List Entry)) (old new : Held) (d : Dur
 turn_fails entries old new d well fault over = leads_on entries old new d [] (λ base pending on.
     let lies = on.lies well in
     let leaves = turn_leaves old new base pending lies false over in
-    let rests : Rests (held_on new base (pending ++ [])) = at_end old.disk new.disk _ leaves in
+    let rests : CrashLeavesPending (held_on new base (pending ++ [])) = at_end old.disk new.disk _ leaves in
     let was = present_of entries old (held_on old base pending) false well on ∙ ap (λ (m : Remembered). kept (store_with entries m.keyspaces m.trees)) (sym fault.memory_is) in
     let still = stands_ill entries new base (pending ++ []) (ap (λ (m : Remembered). m.poisoned) fault.memory_is) rests (turn_finished old new base pending lies false over) (inl (ap (λ (l : List Command). kept (fold base l)) (append-nil pending) ∙ was)) in
     (held_on new base (pending ++ []), still, record { leaves = leaves; safe = []; base = refl; rest = refl; rests = rests }))

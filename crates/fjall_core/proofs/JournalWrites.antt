@@ -18,34 +18,34 @@ use Rattle.fjall_journal.specs.declared.persist_mode.PersistMode.{PersistMode}
 use Rattle.fjall_journal.specs.declared.persist_mode.PersistMode.TheVariants.{Buffer, SyncAll, SyncData}
 use Rattle.fjall_meta.specs.declared.living.LivingKeyspace.{LivingKeyspace}
 use Rattle.fjall_meta.specs.Keyspaces.{Keyspaces, keyspace_at}
-use Rattle.fjall_versions.specs.Replays.{counts, first_fault, journal_commands}
+use Rattle.fjall_contents.specs.Replays.{counts, first_fault, journal_commands}
 use Rattle.fjall_table.specs.Blocks.{Entry}
-use Rattle.fjall_maps.specs.Tables.{AreOlder, pairs_with, store_with}
-use Rattle.fjall_versions.proofs.Found.{found_has}
-use Rattle.fjall_versions.proofs.Kept.{kept_along}
-use Rattle.fjall_versions.proofs.Naming.{living_names}
-use Rattle.fjall_versions.proofs.Slots.{fold-append}
-use Rattle.fjall_versions.proofs.Writes.{batch_command, clear_command}
-use Rattle.fjall_maps.proofs.Emptied.{clear_with}
-use Rattle.fjall_maps.proofs.Pushed.{write_with}
-use Rattle.fjall_maps.proofs.Stores.{kept_by}
+use Rattle.fjall_trees.specs.MapTables.{AreOlder, pairs_with, store_with}
+use Rattle.fjall_contents.proofs.Found.{found_has}
+use Rattle.fjall_contents.proofs.Kept.{kept_along}
+use Rattle.fjall_contents.proofs.Naming.{living_names}
+use Rattle.fjall_contents.proofs.Slots.{fold-append}
+use Rattle.fjall_contents.proofs.Writes.{batch_command, clear_command}
+use Rattle.fjall_trees.proofs.Emptied.{clear_with}
+use Rattle.fjall_trees.proofs.Pushed.{write_with}
+use Rattle.fjall_trees.proofs.Stores.{kept_by}
 use Rattle.fjall_catalog.specs.Catalog.{fields}
 use Rattle.fjall_contents.proofs.Following.{before_least, beyond_all}
 use Rattle.fjall_recovery.specs.Homes.{lasts, stored_in}
 use Rattle.fjall_recovery.specs.Folders.{past_records}
-use Rattle.fjall_recovery.specs.Journals.{Journal, batches_in}
+use Rattle.fjall_recovery.specs.Journals.{WholeJournal, batches_in}
 use Rattle.fjall_recovery.specs.Folders as folders
 use Rattle.fjall_recovery.specs.Places.{Journaling, LiesInTree, contents_with, journals_with}
 use Rattle.fjall_recovery.proofs.Storing.{are_within, beyond_lasts}
-use Rattle.fjall_replay.specs.Beside.{MayComeNext}
+use Rattle.fjall_recovery.specs.Beside.{MayComeNext}
 use Rattle.fjall_contents.specs.Contents.{store_held}
 use Rattle.fjall_commit.specs.Journaling.{CanFollow, IsWriting, after_mode, is_out, next_number, synced, with_batch, handed}
 use Rattle.fjall_commit.proofs.Batches.{kept-mode, next-mode}
-use Rattle.fjall_state.specs.Allowed.{FitsBatch, IsOfLiving}
-use Rattle.fjall_state.specs.Machine.{is_living, with_marks}
-use Rattle.fjall_state.specs.Remembered.{IsLawful, Remembered, with_change}
+use Rattle.fjall_machine.specs.Allowed.{FitsBatch, IsOfLiving}
+use Rattle.fjall_machine.specs.Machine.{is_living, with_marks}
+use Rattle.fjall_machine.specs.Remembered.{IsLawful, Remembered, with_change}
 use Rattle.fjall_core.specs.Holding.{Held}
-use Rattle.fjall_core.specs.Durables.{Durable, Knows, Lies, MakesPresent, Passes, Rests, StandsAmid, StaysFinished, AreKnown}
+use Rattle.fjall_core.specs.Durables.{Durable, Knows, Lies, MakesPresent, Passes, CrashLeavesPending, StandsAmid, StaysFinished, AreKnown}
 use Rattle.fjall_core.specs.CallParts.{WentOut}
 use Rattle.fjall_core.specs.Crashes.{IsSyncOf}
 use Rattle.fjall_core.specs.Standing.{Poisons, StandsOn, store_in, store_with_tables}
@@ -95,7 +95,7 @@ stands_well entries core base pending well lies knows present = record {
 }
 
 -- and one that a fault has poisoned where it rests
-pub stands_ill : (entries : ℕ → List (List Entry)) (core : Held) (base : Store) (pending : List Command) → core.memory.poisoned ≡ true → Rests (held_on core base pending) → StaysFinished (state_in core.disk) → MakesPresent true (held_on core base pending) (store_with_tables entries core) → StandsOn core entries (held_on core base pending)
+pub stands_ill : (entries : ℕ → List (List Entry)) (core : Held) (base : Store) (pending : List Command) → core.memory.poisoned ≡ true → CrashLeavesPending (held_on core base pending) → StaysFinished (state_in core.disk) → MakesPresent true (held_on core base pending) (store_with_tables entries core) → StandsOn core entries (held_on core base pending)
 stands_ill entries core base pending ill rests finished present = record {
   same = refl;
   rests = rests;
@@ -252,7 +252,7 @@ module _ (old new : Held) (base : Store) (pending : List Command) (change : Chan
       (known_more goes_out lies.journals change old.memory.next old.memory.journals lies.told))
 
   -- where base and pending lie after it, while it may wait and isn't synced
-  pub pending_lies : kept base ≡ folders.store_of (contents_with after lies.tree []) → all ≡ commanded lies.tree after.later → Lies new (held_on new base all)
+  pub pending_lies : kept base ≡ folders.store_of_contents (contents_with after lies.tree []) → all ≡ commanded lies.tree after.later → Lies new (held_on new base all)
   pending_lies made waits = record {
     journals = after;
     records = lies.records;
@@ -268,7 +268,7 @@ module _ (old new : Held) (base : Store) (pending : List Command) (change : Chan
   }
 
   -- and once it is synced: all is in the base
-  pub settled_lies : kept (fold base all) ≡ folders.store_of (contents_with after lies.tree []) → [] ≡ commanded lies.tree after.later → Lies new (held_on new (fold base all) [])
+  pub settled_lies : kept (fold base all) ≡ folders.store_of_contents (contents_with after lies.tree []) → [] ≡ commanded lies.tree after.later → Lies new (held_on new (fold base all) [])
   settled_lies made waits = record {
     journals = after;
     records = lies.records;
@@ -285,18 +285,18 @@ module _ (old new : Held) (base : Store) (pending : List Command) (change : Chan
 
   -- the journals with a batch more are sound, since what was written is
   sound_more : first_fault 0 (map shown (batches_in (journals_with lies.journals (lies.journals.later ++ batch_of old change ∷ [])))) ≡ None
-  sound_more = ap (λ (l : List Journal). first_fault 0 (map shown (batches_in l))) (sym (kept-mode mode (with_batch goes_out lies.journals (batch_of old change)))) ∙ writes.root.sound
+  sound_more = ap (λ (l : List WholeJournal). first_fault 0 (map shown (batches_in l))) (sym (kept-mode mode (with_batch goes_out lies.journals (batch_of old change)))) ∙ writes.root.sound
 
   -- the synced journals hold what they held
   synced_too : journals_with (synced (with_batch goes_out lies.journals (batch_of old change))) [] ≡ journals_with lies.journals (lies.journals.later ++ batch_of old change ∷ [])
   synced_too = ap (λ (l : List Written). lies.journals.sealed ++ record { id = lies.journals.active; batches = l } ∷ []) (append-nil (lies.journals.whole ++ (lies.journals.later ++ batch_of old change ∷ [])))
 
-  pub settled_made : kept (fold base all) ≡ folders.store_of (contents_with (synced (with_batch goes_out lies.journals (batch_of old change))) lies.tree [])
+  pub settled_made : kept (fold base all) ≡ folders.store_of_contents (contents_with (synced (with_batch goes_out lies.journals (batch_of old change))) lies.tree [])
   settled_made =
       let t = lies.tree in
       ap (λ (l : List Command). kept (fold base l)) waits_too
       ∙ kept_with t lies.in_tree.rests.versions base lies.journals (lies.journals.later ++ batch_of old change ∷ []) lies.made sound_more
-      ∙ ap (λ (l : List Journal). store_held t.keyspaces (stored_in t.homes t.versions) (map shown (batches_in l))) (sym synced_too)
+      ∙ ap (λ (l : List WholeJournal). store_held t.keyspaces (stored_in t.homes t.versions) (map shown (batches_in l))) (sym synced_too)
 
   -- ---- what is known of homes
 
@@ -323,12 +323,12 @@ module _ (old new : Held) (base : Store) (pending : List Command) (change : Chan
       knows_changed entries old new change lies.journals after lies.tree goes.memory_is (written_more mode goes_out lies.journals (batch_of old change))
       (written_later mode goes_out lies.journals (batch_of old change)) comes_next admitted.fits knows
 
-  pub pending_knows : (made : kept base ≡ folders.store_of (contents_with after lies.tree [])) (waits : all ≡ commanded lies.tree after.later) (entries : ℕ → List (List Entry)) → Knows old entries lies.journals lies.tree
+  pub pending_knows : (made : kept base ≡ folders.store_of_contents (contents_with after lies.tree [])) (waits : all ≡ commanded lies.tree after.later) (entries : ℕ → List (List Entry)) → Knows old entries lies.journals lies.tree
       → Knows new entries (pending_lies made waits).journals (pending_lies made waits).tree
   unfolding pending_lies
   pending_knows made waits entries knows = knows_too entries knows
 
-  pub settled_knows : (made : kept (fold base all) ≡ folders.store_of (contents_with after lies.tree [])) (waits : [] ≡ commanded lies.tree after.later) (entries : ℕ → List (List Entry))
+  pub settled_knows : (made : kept (fold base all) ≡ folders.store_of_contents (contents_with after lies.tree [])) (waits : [] ≡ commanded lies.tree after.later) (entries : ℕ → List (List Entry))
       → Knows old entries lies.journals lies.tree
       → Knows new entries (settled_lies made waits).journals (settled_lies made waits).tree
   unfolding settled_lies
@@ -421,7 +421,7 @@ torn_leads entries old new change mode d admitted fault out = leads_on entries o
     let lies = stands.lies admitted.well in
     let leaves = change_leaves old new base pending change mode false admitted lies out in
     let finished = leaves_finished old.disk new.disk (state_in old.disk) lies.journals _ (out.leaves lies.journals lies.writing (it_follows old base pending admitted.room lies)) in
-    let rests : Rests (held_on new base (pending ++ command ∷ [])) = at_end old.disk new.disk _ leaves in
+    let rests : CrashLeavesPending (held_on new base (pending ++ command ∷ [])) = at_end old.disk new.disk _ leaves in
     let was = present_of entries old (held_on old base pending) false admitted.well stands ∙ ap (λ (m : Remembered). kept (store_with entries m.keyspaces m.trees)) (sym fault.memory_is) in
     let on = stands_ill entries new base (pending ++ command ∷ []) (ap (λ (m : Remembered). m.poisoned) fault.memory_is) rests finished (inr (pending, command, refl, was)) in
     (held_on new base (pending ++ command ∷ []), on, record { leaves = leaves; safe = []; base = refl; rest = refl; rests = rests }))

@@ -6,13 +6,13 @@ use Rattle.fjall_base.specs.declared.error.Error.{Error}
 use Rattle.fjall_base.specs.declared.error.Error.TheVariants.{Io, NumbersUsedUp, OutOfMemory, Poisoned, Storage, TooManyItems, ValueTooLong}
 use Rattle.fjall_catalog.specs.Catalog.{fields, first_of}
 use Rattle.fjall_journal.specs.Changes.{Emptied, Items}
-use Rattle.fjall_tree.specs.Records.{Fields}
+use Rattle.fjall_manifest.specs.Records.{Fields}
 use Rattle.fjall_history.specs.declared.reply.Reply.{Reply}
 use Rattle.fjall_history.specs.declared.reply.Reply.TheVariants.{Refused}
-use Rattle.fjall_state.specs.Shapes.{OfChange, OfCount, OfCreation, OfDeletion, OfFlushBegin, OfFlushFinish, OfHandle, OfIngestion, OfJournalRotation, OfMaintenance, OfMergeBegin, OfMergeFinish, OfPersist, OfRead, OfRotation, OfTickets, OneLess, OneMore, Shape}
+use Rattle.fjall_machine.specs.Shapes.{CallShape, OfChange, OfCount, OfCreation, OfDeletion, OfFlushBegin, OfFlushFinish, OfHandle, OfIngestion, OfJournalRotation, OfMaintenance, OfMergeBegin, OfMergeFinish, OfPersist, OfRead, OfRotation, OfTickets, OneLess, OneMore}
 use Rattle.fjall_history.specs.Histories.{number}
 use Rattle.fjall_core.specs.Crashes.{is_io}
-use Rattle.fjall_state.specs.Machine.{Answers, BeginsFlush, BeginsMerge, CreatesOrFinds, State, StepOf, Refuses, MayFail, IsPoisoned, WorkFails, at_fault, begins_flush, begins_merge, created, deleted, due, is_living, is_long, journal_rotated, journal_synced, present, records_with, rotated, rotates, written_out}
+use Rattle.fjall_machine.specs.Machine.{Answers, BeginsFlush, BeginsMerge, CreatesOrFinds, State, StepOf, Refuses, MayFail, IsPoisoned, WorkFails, at_fault, begins_flush, begins_merge, created, deleted, due, is_living, is_long, journal_rotated, journal_synced, present, records_with, rotated, rotates, written_out}
 
 -- Of each keyspace but one that is made the number below which the ids of its tables are is no less.
 abbrev pub HasGiven : State → State → Type 0
@@ -41,7 +41,7 @@ alike s t entries damaged records = record { entries = entries; damaged = damage
 as_before : (s t : State) → t ≡ s → KeepsTables s t
 as_before s t same = alike s t (ap (λ (x : State). x.parts.entries) same) (ap (λ (x : State). x.damaged) same) (ap (λ (x : State). x.parts.records) same)
 
-fault_keeps : (s : State) (shape : Shape) → KeepsTables s (at_fault s shape)
+fault_keeps : (s : State) (shape : CallShape) → KeepsTables s (at_fault s shape)
 fault_keeps s (OfHandle OneLess id) = alike s (at_fault s (OfHandle OneLess id)) refl refl refl
 fault_keeps s (OfHandle OneMore id) = alike s (at_fault s (OfHandle OneMore id)) refl refl refl
 fault_keeps s (OfChange change how) = alike s (at_fault s (OfChange change how)) refl refl refl
@@ -61,7 +61,7 @@ fault_keeps s (OfPersist mode) = alike s (at_fault s (OfPersist mode)) refl refl
 fault_keeps s (OfCount count) = alike s (at_fault s (OfCount count)) refl refl refl
 
 -- a call that finishes a flush or a merge, or ingests some items
-abbrev pub Finishes : Shape → Type 0
+abbrev pub Finishes : CallShape → Type 0
 Finishes (OfFlushFinish job) = Unit {0}
 Finishes (OfMergeFinish job) = Unit {0}
 Finishes (OfIngestion id (item ∷ items)) = Unit {0}
@@ -71,7 +71,7 @@ Finishes shape = ⊥
 poison_keeps : (s left t : State) → KeepsTables s left → IsPoisoned left t → KeepsTables s t
 poison_keeps s left t kept fault = record { entries = fault.entries ∙ kept.entries; damaged = ap (λ (x : State). x.damaged) fault.is ∙ kept.damaged; given = given_both s left t kept.given fault.records }
 
-work_keeps : (s t : State) (shape : Shape) → (Finishes shape → ⊥) → WorkFails shape s t → KeepsTables s t
+work_keeps : (s t : State) (shape : CallShape) → (Finishes shape → ⊥) → WorkFails shape s t → KeepsTables s t
 work_keeps s t (OfFlushBegin id) other (begins, numbered, fault) = poison_keeps s s t (as_before s s refl) fault
 work_keeps s t (OfFlushFinish job) other fails = absurd (other tt)
 work_keeps s t (OfMergeBegin kind id) other (begins, left, same) = as_before s t same
@@ -91,7 +91,7 @@ work_keeps s t (OfTickets call) other fails = absurd fails
 work_keeps s t (OfPersist mode) other fails = absurd fails
 work_keeps s t (OfCount count) other fails = absurd fails
 
-failure_keeps : (s t : State) (shape : Shape) (error : Error) → (is_io error ≡ true → Finishes shape → ⊥) → MayFail shape error s t → KeepsTables s t
+failure_keeps : (s t : State) (shape : CallShape) (error : Error) → (is_io error ≡ true → Finishes shape → ⊥) → MayFail shape error s t → KeepsTables s t
 failure_keeps s t shape (Io kind) other (inl (changes, fault)) = poison_keeps s (at_fault s shape) t (fault_keeps s shape) fault
 failure_keeps s t shape (Io kind) other (inr (inl (reads, same))) = as_before s t same
 failure_keeps s t shape (Io kind) other (inr (inr fails)) = work_keeps s t shape (other refl) fails
@@ -103,12 +103,12 @@ failure_keeps s t shape NumbersUsedUp other (used, same) = as_before s t same
 failure_keeps s t shape TooManyItems other (room, same) = as_before s t same
 failure_keeps s t shape error other fails = absurd fails
 
-refusal_keeps : (s t : State) (shape : Shape) (error : Error) (first : Option Error) → (is_io error ≡ true → Finishes shape → ⊥) → Refuses first shape error s t → KeepsTables s t
+refusal_keeps : (s t : State) (shape : CallShape) (error : Error) (first : Option Error) → (is_io error ≡ true → Finishes shape → ⊥) → Refuses first shape error s t → KeepsTables s t
 refusal_keeps s t shape error (Some first) other (is, same) = as_before s t same
 refusal_keeps s t shape error None other fails = failure_keeps s t shape error other fails
 
 -- a refusal that is no fault
-pub no_fault_keeps : (s t : State) (shape : Shape) (error : Error) → is_io error ≡ false → StepOf s shape (Refused error) t → KeepsTables s t
+pub no_fault_keeps : (s t : State) (shape : CallShape) (error : Error) → is_io error ≡ false → StepOf s shape (Refused error) t → KeepsTables s t
 no_fault_keeps s t shape error none refuses = refusal_keeps s t shape error (due s shape) (λ io. absurd (true≢false (sym io ∙ none))) refuses
 
 created_keeps : (s t : State) (name : Bytes) (options : List Bytes) (id : ℕ) → CreatesOrFinds s name options id t → KeepsTables s t
@@ -160,7 +160,7 @@ merge_begun_keeps : (s t : State) (id : ℕ) (reply : Reply) (begins : Bool) →
 merge_begun_keeps s t id reply true (told, numbered, is) = alike s t (ap (λ (x : State). x.parts.entries) is) (ap (λ (x : State). x.damaged) is) (ap (λ (x : State). x.parts.records) is)
 merge_begun_keeps s t id reply false (told, same) = as_before s t same
 
-answer_keeps : (s t : State) (shape : Shape) (reply : Reply) → (Finishes shape → ⊥) → Answers s shape reply t → KeepsTables s t
+answer_keeps : (s t : State) (shape : CallShape) (reply : Reply) → (Finishes shape → ⊥) → Answers s shape reply t → KeepsTables s t
 answer_keeps s t (OfChange (Items []) how) reply other (told, is) = as_before s t is
 answer_keeps s t (OfChange (Items (item ∷ items)) how) reply other (told, is) = alike s t (ap (λ (x : State). x.parts.entries) is) (ap (λ (x : State). x.damaged) is) (ap (λ (x : State). x.parts.records) is)
 answer_keeps s t (OfChange (Emptied id) how) reply other (told, is) = alike s t (ap (λ (x : State). x.parts.entries) is) (ap (λ (x : State). x.damaged) is) (ap (λ (x : State). x.parts.records) is)
@@ -182,6 +182,6 @@ answer_keeps s t (OfTickets call) reply other (turns, is) = alike s t (ap (λ (x
 answer_keeps s t (OfPersist mode) reply other (told, is) = alike s t (ap (λ (x : State). x.parts.entries) is) (ap (λ (x : State). x.damaged) is) (ap (λ (x : State). x.parts.records) is)
 answer_keeps s t (OfCount count) reply other (told, same) = as_before s t same
 
-pub step_keeps : (s t : State) (shape : Shape) (reply : Reply) → (Finishes shape → ⊥) → StepOf s shape reply t → KeepsTables s t
+pub step_keeps : (s t : State) (shape : CallShape) (reply : Reply) → (Finishes shape → ⊥) → StepOf s shape reply t → KeepsTables s t
 step_keeps s t shape (Refused error) other refuses = refusal_keeps s t shape error (due s shape) (λ io. other) refuses
 step_keeps s t shape reply other (none, answers) = answer_keeps s t shape reply other answers

@@ -7,7 +7,7 @@ use Rattle.std.proofs.lemmas.List.Elements.{All-nil, All-push}
 use Rattle.fjall_base.proofs.Codecs.{some_is}
 use Rattle.fjall_base.specs.declared.error.Error.{Error}
 use Rattle.fjall_base.specs.declared.error.Error.TheVariants.{Io, NumbersUsedUp, OutOfMemory, Poisoned, Storage, TooManyItems, ValueTooLong}
-use Rattle.fjall_blocks.specs.Readers.{Reader}
+use Rattle.fjall_table_reader.specs.Readers.{Reader}
 use Rattle.fjall_history.specs.declared.job.JobId.{JobId}
 use Rattle.fjall_history.specs.declared.reply.Reply.{Reply}
 use Rattle.fjall_history.specs.declared.reply.Reply.TheVariants.{Began, Flag, Refused}
@@ -17,39 +17,36 @@ use Rattle.fjall_jobs.specs.declared.merge_job.MergeJob.{MergeJob}
 use Rattle.fjall_jobs.specs.Flushes.{flush_task}
 use Rattle.fjall_jobs.specs.Merges.{merge_task}
 use Rattle.fjall_jobs.specs.Tasks.{Task}
-use Rattle.fjall_state.specs.Flushes.{record_after}
+use Rattle.fjall_compaction.specs.Flushes.{record_after}
 use Rattle.fjall_journal.specs.Changes.{Change, Emptied, Items}
 use Rattle.fjall_journal.specs.Writer.{written_out}
-use Rattle.fjall_state.specs.Whole.{last_ingested}
-use Rattle.fjall_loading.specs.Known.{last_known}
+use Rattle.fjall_compaction.specs.Whole.{last_ingested}
+use Rattle.fjall_recovery.specs.Known.{last_known}
 use Rattle.fjall_writes.specs.Ingestions.{KeyOp}
 use Rattle.fjall_manager.specs.Journals.{staying}
-use Rattle.fjall_state.specs.MergeFinishing.{merge_out}
-use Rattle.fjall_state.specs.Merges as merges
-use Rattle.fjall_lsm.specs.Jobs.{flush_dropped, flush_finished, is_flush_out, is_merge_out, merge_dropped, merge_finished}
-use Rattle.fjall_lsm.specs.Puts.{bare_tree}
-use Rattle.fjall_lsm.specs.Trees.{Shape as Tree}
-use Rattle.fjall_state.specs.Machine.{begins_flush, flush_with, is_flushing, is_living, is_merging, rotates}
-use Rattle.fjall_state.specs.declared.call.Call.{Call}
-use Rattle.fjall_state.specs.declared.call.Call.TheVariants.{FlushBegin, FlushFinish, MajorBegin, MergeBegin, MergeFinish}
-use Rattle.fjall_state.specs.declared.merges.MergeKind.{MergeKind}
-use Rattle.fjall_state.specs.Places.{job_begun, resolved}
-use Rattle.fjall_state.specs.Remembered.{IsLawful, KnowsTask, Remembered}
-use Rattle.fjall_state.specs.Remembered as memory
-use Rattle.fjall_state.specs.Shapes.{Clone, Close, Collect, Count, DiskSpace, Entries, Exists, Flushes, JournalSpace, Keyspaces, MergesDone, MergesOut, Next, OfChange, OfCount, OfCreation, OfDeletion, OfFlushBegin, OfFlushFinish, OfHandle}
-use Rattle.fjall_state.specs.Shapes.{OfIngestion, OfMergeBegin, OfMergeFinish}
-use Rattle.fjall_state.specs.Shapes.{OfJournalRotation, OfMaintenance, OfPersist, OfRead, OfRotation, OfTickets, OneLess, OneMore, Open, OpenTickets, Persistence, SealedMemtables, Shape, Tables, TablesL0, ToFlush, Visible, WriteBuffer, shape_of}
-use Rattle.fjall_state.specs.Shapes as shapes
+use Rattle.fjall_compaction.specs.MergeFinishing.{merge_out}
+use Rattle.fjall_compaction.specs.Merges as merges
+use Rattle.fjall_tree.specs.Jobs.{flush_dropped, flush_finished, is_flush_out, is_merge_out, merge_dropped, merge_finished}
+use Rattle.fjall_tree.specs.Puts.{bare_tree}
+use Rattle.fjall_tree.specs.Trees.{Shape as Tree}
+use Rattle.fjall_machine.specs.Machine.{begins_flush, flush_with, is_flushing, is_living, is_merging, rotates}
+use Rattle.fjall_machine.specs.declared.call.Call.{Call}
+use Rattle.fjall_machine.specs.declared.call.Call.TheVariants.{FlushBegin, FlushFinish, MajorBegin, MergeBegin, MergeFinish}
+use Rattle.fjall_machine.specs.declared.merge_kind.MergeKind.{MergeKind}
+use Rattle.fjall_machine.specs.Places.{job_begun, resolved}
+use Rattle.fjall_machine.specs.Remembered.{IsLawful, KnowsTask, Remembered}
+use Rattle.fjall_machine.specs.Remembered as memory
+use Rattle.fjall_machine.specs.Shapes.{Clone, Close, Collect, Count, DiskSpace, Entries, Exists, Flushes, JournalSpace, Keyspaces, MergesDone, MergesOut, Next, OfChange, OfCount, OfCreation, OfDeletion, OfFlushBegin, OfFlushFinish, OfHandle, OfIngestion, OfMergeBegin, OfMergeFinish, OfJournalRotation, OfMaintenance, OfPersist, OfRead, OfRotation, OfTickets, OneLess, OneMore, Open, OpenTickets, Persistence, SealedMemtables, CallShape, Tables, TablesL0, ToFlush, Visible, WriteBuffer, shape_of}
+use Rattle.fjall_machine.specs.Shapes as shapes
 use Rattle.fjall_trees.specs.Forests.{Forest, altered_at, tree_at}
 use Rattle.fjall_trees.specs.Tables.{shape_in}
 use Rattle.fjall_trees.proofs.Others.{altered_here}
 use Rattle.fjall_core.specs.declared.jobs.Jobs.{Jobs}
 use Rattle.fjall_core.specs.Holding.{Held}
-use Rattle.fjall_core.specs.Jobs.{IsGivenBack, IsKnown, IsMergeGivenBack, IsPlain, Keeps, KeepsJobs, KeepsMerge, KeepsOtherMerges, KeepsOthers, has_name, is_kept, is_merge_kept, is_merge_named, is_named}
+use Rattle.fjall_core.specs.Jobs.{IsGivenBack, IsJobKnown, IsMergeGivenBack, IsPlain, Keeps, KeepsJobs, KeepsMerge, KeepsOtherMerges, KeepsOthers, has_name, is_kept, is_merge_kept, is_merge_named, is_named}
 use Rattle.fjall_core.proofs.FoundJobs.{any_last, any_more, any_without, at_place, same_name, without_one}
 use Rattle.fjall_core.proofs.GoneFlushes.{IsGone, IsMergeGone, StaysTrue, flush_given, flushes_before, given_stays, gone_stays, merge_given, merge_gone_stays, merges_before, task_stays}
-use Rattle.fjall_core.specs.Standing.{EvictsInMemory, FindsDisorder, FlushedInMemory, Gives, GivesRead, HeldCount, IngestedInMemory, IngestionPoisons, Looks, LooksAt, MergedInMemory, Owes, OwesBegin, OwesChange, OwesFailure, OwesFinish, OwesIngestion, OwesMerge, OwesMergeBegin}
-use Rattle.fjall_core.specs.Standing.{OwesRefusal, RanOut, WorkPoisons, at_fault, begins_merge_in, evicted_in_memory, held_due, is_long, journal_synced, store_in, tables_of, takes_effect}
+use Rattle.fjall_core.specs.Standing.{EvictsInMemory, FindsDisorder, FlushedInMemory, Gives, GivesRead, HeldCount, IngestedInMemory, IngestionPoisons, Looks, LooksAt, MergedInMemory, Owes, OwesBegin, OwesChange, OwesFailure, OwesFinish, OwesIngestion, OwesMerge, OwesMergeBegin, OwesRefusal, RanOut, WorkPoisons, at_fault, begins_merge_in, evicted_in_memory, held_due, is_long, journal_synced, store_in, tables_of, takes_effect}
 
 -- ---- what stays true of memory
 
@@ -60,7 +57,7 @@ module _ (Knows : Remembered → Type 0) (stays : StaysTrue Knows) (old new : He
   same_core : new ≡ old → Knows old.memory → Knows new.memory
   same_core same = becomes old.memory (ap (λ (h : Held). h.memory) same)
 
-  fault_knows : (shape : Shape) → Knows old.memory → Knows (at_fault shape old.memory)
+  fault_knows : (shape : CallShape) → Knows old.memory → Knows (at_fault shape old.memory)
   fault_knows (OfHandle OneLess id) knows = stays.released old.memory id knows
   fault_knows (OfHandle OneMore id) knows = knows
   fault_knows (OfChange change how) knows = knows
@@ -115,7 +112,7 @@ module _ (Knows : Remembered → Type 0) (stays : StaysTrue Knows) (old new : He
       let m = memory.with_sealed left.journals.sealed (journal_synced old) in
       becomes (memory.poisoned m) fault.memory_is (stays.fault m (stays.evicted (journal_synced old) left.journals.sealed (synced_knows knows)))
 
-  work_knows : (shape : Shape) → WorkPoisons old shape new → Knows old.memory → Knows new.memory
+  work_knows : (shape : CallShape) → WorkPoisons old shape new → Knows old.memory → Knows new.memory
   work_knows (OfFlushBegin id) (begins, free, fault) knows = becomes (memory.poisoned old.memory) fault.memory_is (stays.fault old.memory knows)
   work_knows (OfFlushFinish job) (due, well, inl fault) knows = becomes (memory.poisoned old.memory) fault.memory_is (stays.fault old.memory knows)
   work_knows (OfFlushFinish job) (due, well, inr (mid, left, f, evicts, fault)) knows =
@@ -137,7 +134,7 @@ module _ (Knows : Remembered → Type 0) (stays : StaysTrue Knows) (old new : He
   work_knows (OfPersist mode) fails knows = absurd fails
   work_knows (OfCount count) fails knows = absurd fails
 
-  out_knows : (shape : Shape) → RanOut old shape new → Knows old.memory → Knows new.memory
+  out_knows : (shape : CallShape) → RanOut old shape new → Knows old.memory → Knows new.memory
   out_knows (OfHandle OneLess id) (same, later) knows = becomes old.memory (ap (λ (h : Held). h.memory) same) knows
   out_knows (OfHandle OneMore id) same knows = same_core same knows
   out_knows (OfChange change how) same knows = same_core same knows
@@ -156,12 +153,12 @@ module _ (Knows : Remembered → Type 0) (stays : StaysTrue Knows) (old new : He
   out_knows (OfPersist mode) same knows = same_core same knows
   out_knows (OfCount count) same knows = same_core same knows
 
-  disorder_knows : (shape : Shape) → FindsDisorder old shape new → Knows old.memory → Knows new.memory
+  disorder_knows : (shape : CallShape) → FindsDisorder old shape new → Knows old.memory → Knows new.memory
   disorder_knows (OfMergeBegin kind id) (begins, numbered, looks) knows = looks_knows looks knows
   disorder_knows (OfMergeFinish job) (out, same) knows = same_core same knows
   disorder_knows shape none knows = absurd none
 
-  failure_knows : (shape : Shape) (error : Error) → OwesFailure old shape error new → Knows old.memory → Knows new.memory
+  failure_knows : (shape : CallShape) (error : Error) → OwesFailure old shape error new → Knows old.memory → Knows new.memory
   failure_knows shape (Io kind) (inl (changes, fault)) knows =
       becomes (memory.poisoned (at_fault shape old.memory)) fault.memory_is (stays.fault (at_fault shape old.memory) (fault_knows shape knows))
   failure_knows shape (Io kind) (inr (inl (reads, looks, rose))) knows = looks_knows looks knows
@@ -175,7 +172,7 @@ module _ (Knows : Remembered → Type 0) (stays : StaysTrue Knows) (old new : He
   failure_knows shape TooManyItems (room, same) knows = same_core same knows
   failure_knows shape error bad knows = absurd bad
 
-  refusal_knows : (shape : Shape) (error : Error) (first : Option Error) → OwesRefusal first old shape error new → Knows old.memory → Knows new.memory
+  refusal_knows : (shape : CallShape) (error : Error) (first : Option Error) → OwesRefusal first old shape error new → Knows old.memory → Knows new.memory
   refusal_knows shape error (Some first) (is, same) knows = same_core same knows
   refusal_knows shape error None failure knows = failure_knows shape error failure knows
 
@@ -216,7 +213,7 @@ module _ (Knows : Remembered → Type 0) (stays : StaysTrue Knows) (old new : He
       becomes (evicted_in_memory mid) at.memory_is
       (stays.evicted mid (staying (memory.flushed_by mid.keyspaces mid.records) mid.journals.sealed) (ingested_knows id (item ∷ items) mid at.ingested knows))
 
-  gives_knows : (shape : Shape) (reply : Reply) → Gives old shape reply new → Knows old.memory → Knows new.memory
+  gives_knows : (shape : CallShape) (reply : Reply) → Gives old shape reply new → Knows old.memory → Knows new.memory
   gives_knows (OfChange change how) reply (told, owes) knows = change_knows change how owes knows
   gives_knows (OfIngestion id items) reply owes knows = ingest_knows id items reply owes knows
   gives_knows (OfCreation name options) reply (id, told, inl (found, same)) knows = same_core same knows
@@ -240,13 +237,13 @@ module _ (Knows : Remembered → Type 0) (stays : StaysTrue Knows) (old new : He
   gives_knows (OfCount count) reply (told, same) knows = same_core same knows
 
   -- whatever call is served
-  pub owed_stays : (shape : Shape) (reply : Reply) → Owes old shape reply new → Knows old.memory → Knows new.memory
+  pub owed_stays : (shape : CallShape) (reply : Reply) → Owes old shape reply new → Knows old.memory → Knows new.memory
   owed_stays shape (Refused error) owes knows = refusal_knows shape error (held_due old shape) owes knows
   owed_stays shape reply (none, gives) knows = gives_knows shape reply gives knows
 
 -- ---- a job that is known
 
-module _ (old new : Held) (shape : Shape) (reply : Reply) (owes : Owes old shape reply new) where
+module _ (old new : Held) (shape : CallShape) (reply : Reply) (owes : Owes old shape reply new) where
   -- what is known of tasks stays known
   pub all_known : (jobs : List FlushJob) → All (λ kept. KnowsTask old.memory (flush_task kept)) jobs → All (λ kept. KnowsTask new.memory (flush_task kept)) jobs
   all_known jobs known i d lt = owed_stays (λ m. KnowsTask m (flush_task (get_or jobs i d))) (task_stays (flush_task (get_or jobs i d))) old new shape reply owes (known i d lt)
@@ -260,7 +257,7 @@ module _ (old new : Held) (shape : Shape) (reply : Reply) (owes : Owes old shape
 
   -- it stays known where those stay kept that are out
   pub still_known : (jobs others : Jobs) (job : JobId) → (is_flushing new.memory.trees job ≡ true → is_kept job jobs.flushes.items ≡ true → is_kept job others.flushes.items ≡ true)
-      → (is_merging new.memory.trees job ≡ true → is_merge_kept job jobs.merges.items ≡ true → is_merge_kept job others.merges.items ≡ true) → IsKnown old.memory jobs job → IsKnown new.memory others job
+      → (is_merging new.memory.trees job ≡ true → is_merge_kept job jobs.merges.items ≡ true → is_merge_kept job others.merges.items ≡ true) → IsJobKnown old.memory jobs job → IsJobKnown new.memory others job
   still_known jobs others job carry carry_merge known = record {
     given = owed_stays (λ m. job.number < m.next_job) (given_stays job.number) old new shape reply owes known.given;
     flush = by_flush (is_flushing old.memory.trees job) refl;
@@ -323,13 +320,13 @@ merge_begins old new named job true false (told, is) = let bad : ⊥ = cc in bad
 merge_begins old new named job false lives (told, same) = let bad : ⊥ = cc in bad
 
 -- a call that begins no job
-abbrev pub BeginsNone : Shape → Type 0
+abbrev pub BeginsNone : CallShape → Type 0
 BeginsNone (OfFlushBegin id) = ⊥
 BeginsNone (OfMergeBegin kind id) = ⊥
 BeginsNone shape = Unit {0}
 
 -- no such call is answered with a job
-pub none_begun : (old new : Held) (shape : Shape) (job : JobId) → BeginsNone shape → Gives old shape (Began (Some job)) new → ⊥
+pub none_begun : (old new : Held) (shape : CallShape) (job : JobId) → BeginsNone shape → Gives old shape (Began (Some job)) new → ⊥
 none_begun old new (OfChange change how) job other (told, owes) = let bad : ⊥ = cc in bad
 none_begun old new (OfIngestion id []) job other (told, same) = let bad : ⊥ = cc in bad
 none_begun old new (OfIngestion id (item ∷ items)) job other (told, left, at) = let bad : ⊥ = cc in bad
@@ -354,20 +351,20 @@ none_begun old new (OfCount count) job other (told, same) = count_begins old cou
 
 -- ---- what is kept behind a call
 
-module _ (old new : Held) (jobs : Jobs) (replies : List Reply) (keeps : KeepsJobs old.memory jobs replies) (shape : Shape) (reply : Reply) (owes : Owes old shape reply new) where
+module _ (old new : Held) (jobs : Jobs) (replies : List Reply) (keeps : KeepsJobs old.memory jobs replies) (shape : CallShape) (reply : Reply) (owes : Owes old shape reply new) where
   -- other lists of jobs, of which the flushes are known, which have those that are out, and the one that began
   pub keeps_with : (others : Jobs) → All (λ kept. KnowsTask new.memory (flush_task kept)) others.flushes.items
       → ((job : JobId) → is_flushing new.memory.trees job ≡ true → is_kept job jobs.flushes.items ≡ true → is_kept job others.flushes.items ≡ true)
       → ((job : JobId) → is_merging new.memory.trees job ≡ true → is_merge_kept job jobs.merges.items ≡ true → is_merge_kept job others.merges.items ≡ true)
-      → ((job : JobId) → reply ≡ Began (Some job) → IsKnown new.memory others job) → KeepsJobs new.memory others (replies ++ reply ∷ [])
+      → ((job : JobId) → reply ≡ Began (Some job) → IsJobKnown new.memory others job) → KeepsJobs new.memory others (replies ++ reply ∷ [])
   keeps_with others known carry carry_merge began = record { known = known; named = λ place job told. by place job (at_reply replies reply place (Began (Some job)) told) }
     where
-      by : (place : ℕ) (job : JobId) → (slice_get replies place ≡ Some (Began (Some job))) ⊎ (reply ≡ Began (Some job)) → IsKnown new.memory others job
+      by : (place : ℕ) (job : JobId) → (slice_get replies place ≡ Some (Began (Some job))) ⊎ (reply ≡ Began (Some job)) → IsJobKnown new.memory others job
       by place job (inl told) = still_known old new shape reply owes jobs others job (carry job) (carry_merge job) (keeps.named place job told)
       by place job (inr is) = began job is
 
   -- a call that begins no job is answered with none
-  unbegun : (others : Jobs) → BeginsNone shape → (job : JobId) → reply ≡ Began (Some job) → IsKnown new.memory others job
+  unbegun : (others : Jobs) → BeginsNone shape → (job : JobId) → reply ≡ Began (Some job) → IsJobKnown new.memory others job
   unbegun others none job is = absurd (none_begun old new shape job none (subst (λ (r : Reply). Owes old shape r new) is owes).1)
 
   -- a call that begins no job, and leaves the lists as they are
@@ -426,11 +423,11 @@ module _ (old new : Held) (id : ℕ) (jobs others : Jobs) (replies : List Reply)
       keeps_with old new jobs replies keeps shape reply owes others (subst (λ (l : List FlushJob). All (λ k. KnowsTask new.memory (flush_task k)) l) (sym is) all)
       (λ q out was. ap (is_kept q) is ∙ any_more (is_named q) jobs.flushes.items kept was) (same_merges old new jobs replies keeps shape reply owes others same) (λ q told. by q told)
     where
-      by : (q : JobId) → Began (Some began) ≡ Began (Some q) → IsKnown new.memory others q
+      by : (q : JobId) → Began (Some began) ≡ Began (Some q) → IsJobKnown new.memory others q
       by q told =
           let same : began ≡ q = cc in
           let fresh = begun_flush old new id began lawful owes in
-          subst (IsKnown new.memory others) same
+          subst (IsJobKnown new.memory others) same
           (record { given = fresh.0; flush = λ out. ap (is_kept began) is ∙ any_last (is_named began) jobs.flushes.items kept name; merge = λ out. absurd (fresh.1 out) })
 
   pub keeps_begun : (reply : Reply) → Owes old (OfFlushBegin id) reply new → Keeps new.memory reply jobs.flushes.items others.flushes.items → KeepsJobs new.memory others (replies ++ reply ∷ [])
@@ -468,11 +465,11 @@ module _ (old new : Held) (kind : MergeKind) (id : ℕ) (jobs others : Jobs) (re
       keeps_with old new jobs replies keeps shape reply owes others (same_flushes old new jobs replies keeps shape reply owes others same) (same_kept old new jobs replies keeps shape reply owes others same)
       (λ q out was. ap (is_merge_kept q) is ∙ any_more (is_merge_named q) jobs.merges.items kept was) (λ q told. by q told)
     where
-      by : (q : JobId) → Began (Some began) ≡ Began (Some q) → IsKnown new.memory others q
+      by : (q : JobId) → Began (Some began) ≡ Began (Some q) → IsJobKnown new.memory others q
       by q told =
           let same : began ≡ q = cc in
           let fresh = begun_merge old new kind id began lawful owes in
-          subst (IsKnown new.memory others) same
+          subst (IsJobKnown new.memory others) same
           (record { given = fresh.0; flush = λ out. absurd (fresh.1 out); merge = λ out. ap (is_merge_kept began) is ∙ any_last (is_merge_named began) jobs.merges.items kept name })
 
   pub keeps_merging : (reply : Reply) → Owes old (OfMergeBegin kind id) reply new → KeepsMerge reply jobs.merges.items others.merges.items → KeepsJobs new.memory others (replies ++ reply ∷ [])
@@ -616,10 +613,10 @@ pub merge_out_given : (m : Remembered) (job : JobId) → IsLawful m → is_mergi
 merge_out_given m job lawful out = let given = merge_given m job lawful out in let last = lawful.jobs in omega (arith, given, last)
 
 -- a name that the replies told
-names_known : (m : Remembered) (jobs : Jobs) (replies : List Reply) → KeepsJobs m jobs replies → (place : ℕ) → (job_begun (slice_get replies place)).number < 2 ^ 64 - 1 → IsKnown m jobs (job_begun (slice_get replies place))
+names_known : (m : Remembered) (jobs : Jobs) (replies : List Reply) → KeepsJobs m jobs replies → (place : ℕ) → (job_begun (slice_get replies place)).number < 2 ^ 64 - 1 → IsJobKnown m jobs (job_begun (slice_get replies place))
 names_known m jobs replies keeps place = by (slice_get replies place) refl
   where
-    by : (o : Option Reply) → slice_get replies place ≡ o → (job_begun o).number < 2 ^ 64 - 1 → IsKnown m jobs (job_begun o)
+    by : (o : Option Reply) → slice_get replies place ≡ o → (job_begun o).number < 2 ^ 64 - 1 → IsJobKnown m jobs (job_begun o)
     by (Some (Began (Some job))) told given = keeps.named place job told
     by (Some (Began None)) told given = let bad : ⊥ = omega (arith, given) in absurd bad
     by (Some reply) told given = let bad : ⊥ = omega (arith, given) in absurd bad
@@ -638,13 +635,13 @@ pub finish_kept : (m : Remembered) (jobs : Jobs) (replies : List Reply) → Keep
     → is_kept job jobs.flushes.items ≡ true
 finish_kept m jobs replies keeps call job is given =
     let at = finish_named replies call job is in
-    (subst (λ (j : JobId). j.number < 2 ^ 64 - 1 → IsKnown m jobs j) (sym at.1) (names_known m jobs replies keeps at.0) given).flush
+    (subst (λ (j : JobId). j.number < 2 ^ 64 - 1 → IsJobKnown m jobs j) (sym at.1) (names_known m jobs replies keeps at.0) given).flush
 
 pub merge_kept : (m : Remembered) (jobs : Jobs) (replies : List Reply) → KeepsJobs m jobs replies → (call : Call) (job : JobId) → MergeFinish job ≡ resolved replies call → job.number < 2 ^ 64 - 1 → is_merging m.trees job ≡ true
     → is_merge_kept job jobs.merges.items ≡ true
 merge_kept m jobs replies keeps call job is given =
     let at = merge_named replies call job is in
-    (subst (λ (j : JobId). j.number < 2 ^ 64 - 1 → IsKnown m jobs j) (sym at.1) (names_known m jobs replies keeps at.0) given).merge
+    (subst (λ (j : JobId). j.number < 2 ^ 64 - 1 → IsJobKnown m jobs j) (sym at.1) (names_known m jobs replies keeps at.0) given).merge
 
 -- ---- calls
 
@@ -658,7 +655,7 @@ plain_call (MajorBegin id) begins finishes merges majors ends = absurd (majors i
 plain_call (MergeFinish job) begins finishes merges majors ends = absurd (ends job refl)
 plain_call call begins finishes merges majors ends = tt
 
-pub plain_begins : (shape : Shape) → IsPlain shape → BeginsNone shape
+pub plain_begins : (shape : CallShape) → IsPlain shape → BeginsNone shape
 plain_begins (OfFlushBegin id) plain = plain
 plain_begins (OfMergeBegin kind id) plain = plain
 plain_begins shape plain = tt

@@ -13,15 +13,15 @@ use Rattle.fjall_jobs.specs.declared.merge_job.MergeJob.{MergeJob}
 use Rattle.fjall_jobs.specs.Keeping.{AreSorted}
 use Rattle.fjall_jobs.specs.Merges.{merge_task}
 use Rattle.fjall_jobs.specs.Tasks.{Task}
-use Rattle.fjall_lsm.specs.Jobs.{is_merge_out}
-use Rattle.fjall_lsm.specs.Trees.{ReadsAll}
-use Rattle.fjall_lsm.proofs.Staying.{input_sorted}
-use Rattle.fjall_state.specs.Machine.{BeginsMerge, FinishesMerge, State, StepOf, begins_merge, is_living, is_merging, merge_out, present}
-use Rattle.fjall_state.specs.Merging.{KnowsMerge}
-use Rattle.fjall_state.specs.Shapes.{OfMergeBegin, OfMergeFinish, Shape}
-use Rattle.fjall_state.specs.declared.merges.MergeKind.{MergeKind}
-use Rattle.fjall_state.proofs.KnownMerges.{a_known_merge_stays}
-use Rattle.fjall_state.proofs.SameTrees.{same_in}
+use Rattle.fjall_tree.specs.Jobs.{is_merge_out}
+use Rattle.fjall_tree.specs.Trees.{ReadsAll}
+use Rattle.fjall_tree.proofs.Staying.{input_sorted}
+use Rattle.fjall_machine.specs.Machine.{BeginsMerge, FinishesMerge, State, StepOf, begins_merge, is_living, is_merging, merge_out, present}
+use Rattle.fjall_machine.specs.Merging.{KnowsMerge}
+use Rattle.fjall_machine.specs.Shapes.{CallShape, OfMergeBegin, OfMergeFinish}
+use Rattle.fjall_machine.specs.declared.merge_kind.MergeKind.{MergeKind}
+use Rattle.fjall_machine.proofs.KnownMerges.{a_known_merge_stays}
+use Rattle.fjall_machine.proofs.SameTrees.{same_in}
 use Rattle.fjall_trees.specs.Forests.{Planted}
 use Rattle.fjall_trees.specs.Tables.{shape_in}
 use Rattle.fjall_trees.proofs.Changing.{tree_under}
@@ -40,15 +40,15 @@ use Rattle.fjall_core.proofs.TablesAtHome.{trees_read}
 -- ---- calls that are served from some states
 
 -- what is served from any state is served from these
-pub serves_where : (Meets : State → Type 0) (old new : Held) (shape : Shape) (reply : Reply) → Serves old shape reply new → ServesWhere Meets old shape reply new
+pub serves_where : (Meets : State → Type 0) (old new : Held) (shape : CallShape) (reply : Reply) → Serves old shape reply new → ServesWhere Meets old shape reply new
 serves_where Meets old new shape reply serves = record { disk = serves.disk; goes_on = λ s stands reads meets. serves.goes_on s stands reads }
 
 -- and from fewer
-pub serves_fewer : (Meets Fewer : State → Type 0) (old new : Held) (shape : Shape) (reply : Reply) → ((s : State) → Fewer s → Meets s) → ServesWhere Meets old shape reply new → ServesWhere Fewer old shape reply new
+pub serves_fewer : (Meets Fewer : State → Type 0) (old new : Held) (shape : CallShape) (reply : Reply) → ((s : State) → Fewer s → Meets s) → ServesWhere Meets old shape reply new → ServesWhere Fewer old shape reply new
 serves_fewer Meets Fewer old new shape reply among serves = record { disk = serves.disk; goes_on = λ s stands reads meets. serves.goes_on s stands reads (among s meets) }
 
 -- A call that changes nothing and tries nothing, and is a step of the machine that changes nothing.
-pub still_serves : (Meets : State → Type 0) (core : Held) (shape : Shape) (reply : Reply) → OnDisk core shape reply core → BlamesDevice reply core.disk core.disk → ((s : State) → attempt s shape reply ≡ []) → ((s : State) → IsSync s shape reply → ⊥)
+pub still_serves : (Meets : State → Type 0) (core : Held) (shape : CallShape) (reply : Reply) → OnDisk core shape reply core → BlamesDevice reply core.disk core.disk → ((s : State) → attempt s shape reply ≡ []) → ((s : State) → IsSync s shape reply → ⊥)
     → ((s : State) → StandsFor core s → ReadsOn core s → Meets s → StepOf s shape reply s) → ServesWhere Meets core shape reply core
 still_serves Meets core shape reply disk blames none unsynced steps = record {
   disk = disk;
@@ -73,13 +73,13 @@ still_serves Meets core shape reply disk blames none unsynced steps = record {
 -- ---- merges that are kept
 
 -- what the state knows of merges stays known
-pub merges_stay : (old : Held) (jobs : List MergeJob) (shape : Shape) (reply : Reply) → KeepsMerges old jobs shape reply jobs
+pub merges_stay : (old : Held) (jobs : List MergeJob) (shape : CallShape) (reply : Reply) → KeepsMerges old jobs shape reply jobs
 merges_stay old jobs shape reply s stands reads known t step = λ i d lt.
     let job = get_or jobs i d in
     a_known_merge_stays old.memory old.catalog.next_table_id s stands.remembered shape reply t step job.target (merge_task job) (known i d lt)
 
 -- the same of another list of the same jobs
-pub merges_same : (old : Held) (jobs others : List MergeJob) (shape : Shape) (reply : Reply) → others ≡ jobs → KeepsMerges old jobs shape reply others
+pub merges_same : (old : Held) (jobs others : List MergeJob) (shape : CallShape) (reply : Reply) → others ≡ jobs → KeepsMerges old jobs shape reply others
 merges_same old jobs others shape reply same = subst (λ (l : List MergeJob). KeepsMerges old jobs shape reply l) (sym same) (merges_stay old jobs shape reply)
 
 -- none are known of any state

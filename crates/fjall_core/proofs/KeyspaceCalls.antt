@@ -6,18 +6,18 @@ use Rattle.fjall_base.specs.Disk.{LeavesOnly, state_in}
 use Rattle.fjall_base.proofs.Moments.{at_end, runs_on, weaken}
 use Rattle.fjall_files.specs.Regions.{Within}
 use Rattle.fjall_journal.specs.declared.persist_mode.PersistMode.TheVariants.{SyncAll}
-use Rattle.fjall_maps.specs.Tables.{store_with}
+use Rattle.fjall_trees.specs.MapTables.{store_with}
 use Rattle.fjall_meta.specs.Keyspaces.{Keyspaces}
-use Rattle.fjall_versions.proofs.Kept.{kept_along}
+use Rattle.fjall_contents.proofs.Kept.{kept_along}
 use Rattle.fjall_recovery.specs.Halves.{HasTree, Tree}
-use Rattle.fjall_recovery.specs.Folders.{number_of}
+use Rattle.fjall_recovery.specs.Folders.{number_of_contents}
 use Rattle.fjall_recovery.specs.Places.{Journaling, LiesInTree, contents_with}
 use Rattle.fjall_commit.specs.Journaling.{IsWriting}
-use Rattle.fjall_state.specs.Remembered.{Remembered}
+use Rattle.fjall_machine.specs.Remembered.{Remembered}
 use Rattle.fjall_table.specs.Blocks.{Entry}
 use Rattle.fjall_core.specs.Holding.{Held}
 use Rattle.fjall_core.specs.Crashes.{SafeSince}
-use Rattle.fjall_core.specs.Durables.{Durable, Knows, Lies, MakesPresent, Rests, StandsAmid, AreKnown}
+use Rattle.fjall_core.specs.Durables.{Durable, Knows, Lies, MakesPresent, CrashLeavesPending, StandsAmid, AreKnown}
 use Rattle.fjall_core.specs.Standing.{Poisons, StandsOn, store_with_tables}
 use Rattle.fjall_core.proofs.CatalogChanges.{AreUnused, Changed, change_leaves, changed_settles, ill_leads}
 use Rattle.fjall_core.proofs.CrashesInRuns.{amid_least, amid_more, amid_shift, passes_on, passes_still, safe_now}
@@ -119,7 +119,7 @@ recounted_lies entries old new base pending c lies run in_tree = record {
   keyspaces = lies.keyspaces ∙ sym c.keyspaces;
   made = lies.made;
   waits = lies.waits;
-  next = subst (λ (n : ℕ). number_of (contents_with lies.journals lies.tree lies.journals.later) ≤ n) (sym c.next) lies.next;
+  next = subst (λ (n : ℕ). number_of_contents (contents_with lies.journals lies.tree lies.journals.later) ≤ n) (sym c.next) lies.next;
 }
 
 -- what is known of homes
@@ -151,7 +151,7 @@ recount_leads entries old new d same c stands = (
           keyspaces = lies.keyspaces ∙ sym c.keyspaces;
           made = lies.made;
           waits = lies.waits;
-          next = subst (λ (n : ℕ). number_of (contents_with lies.journals lies.tree lies.journals.later) ≤ n) (sym c.next) lies.next;
+          next = subst (λ (n : ℕ). number_of_contents (contents_with lies.journals lies.tree lies.journals.later) ≤ n) (sym c.next) lies.next;
         };
     knows = λ well. let lies = stands.lies (sym c.poisoned ∙ well) in c.known lies.journals lies.tree lies.keyspaces (stands.knows (sym c.poisoned ∙ well));
     present = present_along new.memory.poisoned d (store_with_tables entries old) (store_with_tables entries new) c.store (subst (λ b. MakesPresent b d (store_with_tables entries old)) (sym c.poisoned) stands.present);
@@ -184,7 +184,7 @@ pub unremoved_leads : (entries : ℕ → List (List Entry)) (left : Remembered) 
 unremoved_leads entries left old new d well fault same gone = leads_on entries old new d [] (λ base pending on.
     let lies = on.lies well in
     let leaves = removal_leaves old new base pending lies gone.within (gone.leaves base pending lies) in
-    let rests : Rests (held_on new base pending) = at_end old.disk new.disk _ leaves in
+    let rests : CrashLeavesPending (held_on new base pending) = at_end old.disk new.disk _ leaves in
     let was = present_of entries old (held_on old base pending) false well on ∙ same ∙ ap (λ (m : Remembered). kept (store_with entries m.keyspaces m.trees)) (sym fault.memory_is) in
     let still = stands_ill entries new base pending (ap (λ (m : Remembered). m.poisoned) fault.memory_is) rests (within_finished old.disk new.disk lies.journals lies.writing.root gone.within) (inl was) in
     (held_on new base pending, still, record { leaves = weaken old.disk new.disk _ _ leaves (λ image s. amid_more base [] pending [] image s); safe = []; base = refl; rest = sym (append-nil pending); rests = rests }))

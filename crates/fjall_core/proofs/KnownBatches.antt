@@ -1,5 +1,5 @@
 -- What trees show stays what all batches make beyond what files hold, while journals are written and keyspaces come and go.
-use Rattle.std.proofs.Common.{◌≡◌, ◌⊎◌, inl, inr, None, Some, ℕ, ◌<◌, ◌==◌, not, Bool, false, cond, List, [], ◌∷◌, ◌++◌, map, get_or, All, refl, ◌∙◌, ap, arith}
+use Rattle.std.proofs.Common.{◌≡◌, ◌⊎◌, inl, inr, None, Some, ℕ, ◌<◌, ◌==◌, not, Bool, false, cond, List, [], ◌∷◌, ◌++◌, map, get_or, All, refl, ◌∙◌, ap, arith, Option}
 use Rattle.std.specs.FinMap.{insert, remove}
 use Rattle.std.proofs.lemmas.Bool.{eq-eqb}
 use Rattle.std.proofs.lemmas.Bool.Decides.{nat_tests}
@@ -20,15 +20,14 @@ use Rattle.fjall_meta.specs.declared.living.LivingKeyspace.{LivingKeyspace}
 use Rattle.fjall_meta.specs.Keyspaces.{AreKeyspaces, without_keyspace}
 use Rattle.fjall_recovery.specs.Halves.{Tree}
 use Rattle.fjall_recovery.specs.Homes.{stored_in, stored_of}
-use Rattle.fjall_recovery.specs.Journals.{Journal, batches_in}
+use Rattle.fjall_recovery.specs.Journals.{WholeJournal, batches_in}
 use Rattle.fjall_recovery.specs.Places.{Journaling, journals_with}
 use Rattle.fjall_recovery.proofs.Storing.{stored_inserted, stored_removed}
-use Rattle.fjall_replay.specs.Beside.{AreReplayedWith}
-use Rattle.fjall_replay.proofs.Staying.{created_stay, deleted_stay, stored_stay}
+use Rattle.fjall_recovery.specs.Beside.{AreReplayedWith}
+use Rattle.fjall_recovery.proofs.Staying.{created_stay, deleted_stay, stored_stay}
 use Rattle.fjall_table.specs.Blocks.{Entry}
 use Rattle.fjall_trees.specs.Forests.{Forest}
 use Rattle.fjall_trees.specs.Writes.{with_tree}
-use Rattle.std.proofs.Common.{Option}
 
 -- ---- all batches
 
@@ -36,8 +35,8 @@ use Rattle.std.proofs.Common.{Option}
 abbrev pub all_shown : Journaling → List Shown
 all_shown j = map shown (batches_in (journals_with j j.later))
 
-of_journals : (a b : List Journal) → a ≡ b → map shown (batches_in a) ≡ map shown (batches_in b)
-of_journals a b same = ap (λ (l : List Journal). map shown (batches_in l)) same
+of_journals : (a b : List WholeJournal) → a ≡ b → map shown (batches_in a) ≡ map shown (batches_in b)
+of_journals a b same = ap (λ (l : List WholeJournal). map shown (batches_in l)) same
 
 -- a persist and a rotation leave them
 pub persisted_same : (mode : PersistMode) (j : Journaling) → all_shown (after_persist mode j) ≡ all_shown j

@@ -8,19 +8,19 @@ use Rattle.fjall_catalog.specs.Catalog.{fields, first_of}
 use Rattle.fjall_commit.specs.Changes.{with_home, without_home}
 use Rattle.fjall_journal.specs.Batches.{Shown, Written, shown}
 use Rattle.fjall_journal.specs.Changes.{Change, Emptied, Items, of_change}
-use Rattle.fjall_lsm.specs.Trees.{Shape, sealed_off}
+use Rattle.fjall_tree.specs.Trees.{Shape, sealed_off}
 use Rattle.fjall_meta.specs.Keyspaces.{AreKeyspaces, Keyspaces, keyspace_at}
-use Rattle.fjall_parts.specs.Parts.{holds_nothing}
+use Rattle.fjall_memtable.specs.Parts.{holds_nothing}
 use Rattle.fjall_recovery.specs.Halves.{Tree}
 use Rattle.fjall_recovery.specs.Homes.{stored_in}
 use Rattle.fjall_recovery.specs.Places.{Journaling}
-use Rattle.fjall_replay.specs.Beside.{AreReplayedWith, MayComeNext}
-use Rattle.fjall_replay.proofs.Following.{clear_more, items_more}
-use Rattle.fjall_replay.proofs.Staying.{dropped_stay, same_stay, sealed_stay}
-use Rattle.fjall_state.specs.Allowed.{FitsBatch}
-use Rattle.fjall_state.specs.Machine.{changed, holds_some, rotates}
-use Rattle.fjall_state.specs.Remembered.{Remembered, with_change, with_creation}
-use Rattle.fjall_loading.specs.Known.{LastFields}
+use Rattle.fjall_recovery.specs.Beside.{AreReplayedWith, MayComeNext}
+use Rattle.fjall_recovery.proofs.Following.{clear_more, items_more}
+use Rattle.fjall_recovery.proofs.Staying.{dropped_stay, same_stay, sealed_stay}
+use Rattle.fjall_machine.specs.Allowed.{FitsBatch}
+use Rattle.fjall_machine.specs.Machine.{changed, holds_some, rotates}
+use Rattle.fjall_machine.specs.Remembered.{Remembered, with_change, with_creation}
+use Rattle.fjall_recovery.specs.Known.{LastFields}
 use Rattle.fjall_table.specs.Blocks.{Entry}
 use Rattle.fjall_trees.specs.Forests.{Forest, altered_at, tree_at, without}
 use Rattle.fjall_trees.specs.Tables.{AreSameTrees}

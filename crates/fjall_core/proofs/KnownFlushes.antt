@@ -2,19 +2,19 @@
 use Rattle.std.proofs.Common.{◌≡◌, ℕ, ◌≤◌, ◌==◌, not, Bool, true, false, cond, List, [], ◌∷◌, ◌++◌, length, drop, get_or, All, Option, None, Some, refl, sym, ◌∙◌, ap, subst, arith}
 use Rattle.std.proofs.lemmas.List.{drop-append-le, length-append}
 use Rattle.std.proofs.lemmas.List.Elements.{All-cons, All-filter, All-head, All-map, All-nil, All-push, All-tail}
-use Rattle.fjall_blocks.specs.Readers.{Reader}
+use Rattle.fjall_table_reader.specs.Readers.{Reader}
 use Rattle.fjall_journal.specs.Batches.{Written}
 use Rattle.fjall_journal.specs.Ops.{BatchItem}
-use Rattle.fjall_lsm.specs.Jobs.{count_out, flush_begun, flush_dropped, flush_end, flush_finished}
-use Rattle.fjall_lsm.specs.Puts.{bare_tree, put_all}
-use Rattle.fjall_lsm.specs.Trees.{Flushing, IsSameShape, Shape, emptied, first_from, sealed_off}
-use Rattle.fjall_lsm.proofs.Changes.{first_same, first_sealed}
-use Rattle.fjall_maps.proofs.Pushed.{put_all_from, put_all_sealed}
-use Rattle.fjall_parts.specs.Parts.{Held, Memory, empty_from, with_clear}
-use Rattle.fjall_state.proofs.FlushFinishing.{end_inside}
+use Rattle.fjall_tree.specs.Jobs.{count_out, flush_begun, flush_dropped, flush_end, flush_finished}
+use Rattle.fjall_tree.specs.Puts.{bare_tree, put_all}
+use Rattle.fjall_tree.specs.Trees.{Flushing, IsSameShape, Shape, emptied, first_from, sealed_off}
+use Rattle.fjall_tree.proofs.Changes.{first_same, first_sealed}
+use Rattle.fjall_trees.proofs.Pushed.{put_all_from, put_all_sealed}
+use Rattle.fjall_memtable.specs.Parts.{HeldPart, Memory, empty_from, with_clear}
+use Rattle.fjall_compaction.proofs.FlushFinishing.{end_inside}
 use Rattle.fjall_trees.specs.Forests.{AreBefore, Forest, IsForest, Planted, altered_at, without}
 use Rattle.fjall_trees.specs.Tables.{AreSameTrees}
-use Rattle.fjall_trees.specs.Writes.{entries_of, pushed, with_tree}
+use Rattle.fjall_trees.specs.Writes.{pushed, versions_of_items, with_tree}
 use Rattle.fjall_trees.proofs.Changing.{put_all_keeps}
 use Rattle.fjall_core.specs.Durables.{CoversSynced}
 
@@ -39,7 +39,7 @@ put_keeps vs shape =
     let sealed = put_all_sealed vs shape in (
       flush,
       λ out is within. (
-        subst (λ (parts : List Held). out.count ≤ length parts) (sym sealed) within,
+        subst (λ (parts : List HeldPart). out.count ≤ length parts) (sym sealed) within,
         (λ i. first_from (drop (count_out (flush i)) (sealed i)) (put_all vs shape).memory.active)
             ∙ first_same (drop (count_out shape.flush) shape.memory.sealed) shape.memory.active (put_all vs shape).memory.active (put_all_from vs shape),
       ),
@@ -59,7 +59,7 @@ sealed_keeps shape =
       λ out is within. (
         omega (arith, within, long),
         ap (λ (o : Option Flushing). first_from (drop (count_out o) (sealed ++ active ∷ [])) last) is
-            ∙ ap (λ (parts : List Held). first_from parts last) (drop-append-le out.count sealed (active ∷ []) within)
+            ∙ ap (λ (parts : List HeldPart). first_from parts last) (drop-append-le out.count sealed (active ∷ []) within)
             ∙ first_sealed (drop out.count sealed) active last
             ∙ ap (λ (o : Option Flushing). first_from (drop (count_out o) sealed) active) (sym is),
       ),
@@ -83,8 +83,8 @@ AreCovered later trees = All (CoversSynced later) trees
 pub covered_pushed : (later : List Written) (n : ℕ) (items : List BatchItem) (trees : Forest) → AreCovered later trees → AreCovered later (pushed n items trees)
 unfolding pushed
 covered_pushed later n items trees covered =
-    All-map (CoversSynced later) (λ (k : Planted). record { id = k.id; shape = put_all (entries_of k.id n items) k.shape }) trees (λ i d lt.
-    let k = get_or trees i d in covers_on later k.id k.shape (put_all (entries_of k.id n items) k.shape) (put_keeps (entries_of k.id n items) k.shape) (covered i d lt))
+    All-map (CoversSynced later) (λ (k : Planted). record { id = k.id; shape = put_all (versions_of_items k.id n items) k.shape }) trees (λ i d lt.
+    let k = get_or trees i d in covers_on later k.id k.shape (put_all (versions_of_items k.id n items) k.shape) (put_keeps (versions_of_items k.id n items) k.shape) (covered i d lt))
 
 pub covered_altered : (later : List Written) (id : ℕ) (change : Shape → Shape) → ((i : ℕ) (shape : Shape) → CoversSynced later (record { id = i; shape = shape }) → CoversSynced later (record { id = i; shape = change shape }))
     → (trees : Forest) → AreCovered later trees → AreCovered later (altered_at id change trees)

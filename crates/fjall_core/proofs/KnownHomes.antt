@@ -6,34 +6,34 @@ use Rattle.std.proofs.lemmas.Bool.{cond-true, eq-eqb, eqb-false, eqb-true}
 use Rattle.std.proofs.lemmas.Bool.Decides.{nat_tests}
 use Rattle.std.proofs.lemmas.List.Elements.{All-filter, All-nil, All-push, filter_passes}
 use Rattle.fjall_base.specs.Pairs.{Bytes}
-use Rattle.fjall_blocks.specs.Readers.{Reader}
+use Rattle.fjall_table_reader.specs.Readers.{Reader}
 use Rattle.fjall_catalog.specs.Catalog.{fields, first_of}
 use Rattle.fjall_commit.specs.Changes.{first_home}
-use Rattle.fjall_home.specs.Reading.{AreRight}
+use Rattle.fjall_manifest.specs.Reading.{AreRight}
 use Rattle.fjall_journal.specs.Ops.{BatchItem}
-use Rattle.fjall_loading.specs.Known.{GoesOnFrom, IsKnown, LastFields}
-use Rattle.fjall_lsm.specs.Puts.{bare_tree, put_all}
-use Rattle.fjall_lsm.specs.Trees.{IsSameShape, Shape, emptied, first_from, floor_of, sealed_off}
-use Rattle.fjall_lsm.proofs.Changes.{first_same, first_sealed}
-use Rattle.fjall_maps.proofs.Changed.{tree_with}
-use Rattle.fjall_maps.proofs.Planted.{no_tree}
-use Rattle.fjall_maps.proofs.Pushed.{put_all_clears, put_all_from, put_all_sealed, put_all_tables, pushed_at}
+use Rattle.fjall_recovery.specs.Known.{GoesOnFrom, IsKnown, LastFields}
+use Rattle.fjall_tree.specs.Puts.{bare_tree, put_all}
+use Rattle.fjall_tree.specs.Trees.{IsSameShape, Shape, emptied, first_from, floor_of, sealed_off}
+use Rattle.fjall_tree.proofs.Changes.{first_same, first_sealed}
+use Rattle.fjall_trees.proofs.Changed.{tree_with}
+use Rattle.fjall_trees.proofs.Planted.{no_tree}
+use Rattle.fjall_trees.proofs.Pushed.{put_all_clears, put_all_from, put_all_sealed, put_all_tables, pushed_at}
 use Rattle.fjall_meta.specs.declared.living.LivingKeyspace.{LivingKeyspace}
 use Rattle.fjall_meta.specs.Keyspaces.{AreKeyspaces, Keyspaces, with_keyspace, without_keyspace}
-use Rattle.fjall_parts.specs.Parts.{Held, Memory, empty_from, holds_nothing, with_clear}
+use Rattle.fjall_memtable.specs.Parts.{HeldPart, Memory, empty_from, holds_nothing, with_clear}
 use Rattle.fjall_recovery.specs.Homes.{Homes, Versions}
 use Rattle.fjall_recovery.proofs.Storing.{get_removed}
-use Rattle.fjall_replay.specs.Replayed.{past}
-use Rattle.fjall_replay.proofs.Staying.{same_at}
-use Rattle.fjall_sorted.specs.Sorted.{flat}
-use Rattle.fjall_state.proofs.SameTrees.{infos_same}
+use Rattle.fjall_recovery.specs.Replayed.{past}
+use Rattle.fjall_recovery.proofs.Staying.{same_at}
+use Rattle.fjall_memtable.specs.Sorted.{flat}
+use Rattle.fjall_machine.proofs.SameTrees.{infos_same}
 use Rattle.fjall_table.specs.Blocks.{Entry}
-use Rattle.fjall_tree.specs.Records.{Fields}
+use Rattle.fjall_manifest.specs.Records.{Fields}
 use Rattle.fjall_trees.specs.Forests.{Forest, altered_at, tree_at, without}
 use Rattle.fjall_trees.specs.Tables.{AreSameTrees}
-use Rattle.fjall_trees.specs.Writes.{entries_of, pushed, with_tree}
+use Rattle.fjall_trees.specs.Writes.{pushed, versions_of_items, with_tree}
 use Rattle.fjall_trees.proofs.Others.{altered_here, altered_other, kept_others}
-use Rattle.fjall_versions.proofs.Slots.{get_put}
+use Rattle.fjall_contents.proofs.Slots.{get_put}
 
 -- ---- one tree
 
@@ -44,13 +44,13 @@ GoesOnToo old new = (last : Fields) → GoesOnFrom last old → GoesOnFrom last 
 put_goes_on : (vs : List Entry) (shape : Shape) → GoesOnToo shape (put_all vs shape)
 put_goes_on vs shape last on =
     let floor : floor_of (put_all vs shape).memory ≡ floor_of shape.memory =
-    ap (λ (parts : List Held). first_from parts (put_all vs shape).memory.active) (put_all_sealed vs shape)
+    ap (λ (parts : List HeldPart). first_from parts (put_all vs shape).memory.active) (put_all_sealed vs shape)
     ∙ first_same shape.memory.sealed shape.memory.active (put_all vs shape).memory.active (put_all_from vs shape) in
     record {
       tables = ap (map (λ (r : Reader). r.info)) (put_all_tables vs shape) ∙ on.tables;
       clears = put_all_clears vs shape ∙ on.clears;
       beyond = subst (λ (n : ℕ). past last.persisted ≤ n) (sym floor) on.beyond;
-      some = subst (λ (parts : List Held). All (λ h. holds_nothing h ≡ false) parts) (sym (put_all_sealed vs shape)) on.some;
+      some = subst (λ (parts : List HeldPart). All (λ h. holds_nothing h ≡ false) parts) (sym (put_all_sealed vs shape)) on.some;
     }
 
 emptied_goes_on : (n : ℕ) (shape : Shape) → GoesOnToo shape (emptied n shape)
@@ -67,7 +67,7 @@ sealed_goes_on shape holds last on = record {
   tables = on.tables;
   clears = on.clears;
   beyond = subst (λ (n : ℕ). past last.persisted ≤ n) (sym (first_sealed shape.memory.sealed shape.memory.active (empty_from shape.memory.active.until))) on.beyond;
-  some = All-push (λ (h : Held). holds_nothing h ≡ false) shape.memory.sealed shape.memory.active on.some holds;
+  some = All-push (λ (h : HeldPart). holds_nothing h ≡ false) shape.memory.sealed shape.memory.active on.some holds;
 }
 
 same_goes_on : (old new : Shape) → IsSameShape old new → GoesOnToo old new
@@ -89,7 +89,7 @@ still_on id trees shape at = (shape, at, λ last on. on)
 
 pub pushed_on : (n : ℕ) (items : List BatchItem) (trees : Forest) (id : ℕ) → GoesOnAt id trees (pushed n items trees)
 pushed_on n items trees id shape at =
-    (put_all (entries_of id n items) shape, pushed_at n items trees id ∙ ap (option_map (put_all (entries_of id n items))) at, put_goes_on (entries_of id n items) shape)
+    (put_all (versions_of_items id n items) shape, pushed_at n items trees id ∙ ap (option_map (put_all (versions_of_items id n items))) at, put_goes_on (versions_of_items id n items) shape)
 
 altered_on : (id : ℕ) (change : Shape → Shape) (trees : Forest) → ((shape : Shape) → tree_at id trees ≡ Some shape → GoesOnToo shape (change shape)) → (other : ℕ)
     → GoesOnAt other trees (altered_at id change trees)
@@ -219,7 +219,7 @@ module _ (name : Bytes) (options : List Bytes) (number : ℕ) (s : Keyspaces) (a
     tree = tree_with s.next trees (record { id = s.next; shape = bare_tree number })
         ∙ ap (λ (o : Option Shape). option_or o (cond (s.next == s.next) (Some (bare_tree number)) None)) (no_tree s.next trees given)
         ∙ cond-true (s.next == s.next) (Some (bare_tree number)) None itself;
-    goes_on = record { tables = refl; clears = refl; beyond = omega arith; some = All-nil (λ (h : Held). holds_nothing h ≡ false) };
+    goes_on = record { tables = refl; clears = refl; beyond = omega arith; some = All-nil (λ (h : HeldPart). holds_nothing h ≡ false) };
   }
 
   pub known_created : All (λ k. k.id < s.next) trees → entries s.next ≡ [] → AreAllKnown records trees entries homes versions s.living

@@ -4,12 +4,12 @@ use Rattle.std.proofs.lemmas.Bool.{true≢false}
 use Rattle.fjall_base.specs.Store.{Command, Store}
 use Rattle.fjall_journal.specs.declared.persist_mode.PersistMode.{PersistMode}
 use Rattle.fjall_journal.specs.declared.persist_mode.PersistMode.TheVariants.{Buffer, SyncAll, SyncData}
-use Rattle.fjall_state.specs.declared.call.Call.{Call}
+use Rattle.fjall_machine.specs.declared.call.Call.{Call}
 use Rattle.fjall_journal.specs.Changes.{Emptied, Items}
-use Rattle.fjall_state.specs.Shapes.{OfChange, OfCount, OfCreation, OfDeletion, OfFlushBegin, OfFlushFinish, OfHandle, OfIngestion, OfJournalRotation, OfMaintenance, OfMergeBegin, OfMergeFinish, OfPersist, OfRead, OfRotation, OfTickets, Shape, shape_of}
+use Rattle.fjall_machine.specs.Shapes.{CallShape, OfChange, OfCount, OfCreation, OfDeletion, OfFlushBegin, OfFlushFinish, OfHandle, OfIngestion, OfJournalRotation, OfMaintenance, OfMergeBegin, OfMergeFinish, OfPersist, OfRead, OfRotation, OfTickets, shape_of}
 use Rattle.fjall_history.specs.declared.reply.Reply.{Reply}
 use Rattle.fjall_history.specs.declared.reply.Reply.TheVariants.{Refused}
-use Rattle.fjall_state.specs.Machine.{State, begins_flush, has_name, is_living, mode_in, present}
+use Rattle.fjall_machine.specs.Machine.{State, begins_flush, has_name, is_living, mode_in, present}
 use Rattle.fjall_core.specs.Holding.{Held}
 use Rattle.fjall_core.specs.Durables.{Durable}
 use Rattle.fjall_core.specs.Crashes.{IsSync, IsSyncAt, IsSyncMode, IsSyncOf, RunOn, Syncs}
@@ -35,7 +35,7 @@ given_or_not None = inr (λ sync. sync)
 given_or_not (Some mode) = mode_or_not mode
 
 -- a call is one that syncs, or it isn't
-syncs_or_not : (s : State) (shape : Shape) → Syncs s shape ⊎ (Syncs s shape → ⊥)
+syncs_or_not : (s : State) (shape : CallShape) → Syncs s shape ⊎ (Syncs s shape → ⊥)
 syncs_or_not s (OfChange (Items []) how) = inr (λ sync. sync)
 syncs_or_not s (OfChange (Items (item ∷ items)) how) = given_or_not (mode_in (present s) how)
 syncs_or_not s (OfChange (Emptied id) how) = given_or_not (mode_in (present s) how)
@@ -57,7 +57,7 @@ syncs_or_not s (OfPersist mode) = mode_or_not mode
 syncs_or_not s (OfCount count) = inr (λ sync. sync)
 
 -- a call with its reply was a sync, or it wasn't
-sync_or_not : (s : State) (shape : Shape) (reply : Reply) → IsSync s shape reply ⊎ (IsSync s shape reply → ⊥)
+sync_or_not : (s : State) (shape : CallShape) (reply : Reply) → IsSync s shape reply ⊎ (IsSync s shape reply → ⊥)
 sync_or_not s shape (Refused error) = inr (λ sync. sync)
 sync_or_not s shape reply = syncs_or_not s shape
 

@@ -49,7 +49,7 @@ pub mod CrashedDisks
 pub mod LastSyncs
 pub mod Lives
 pub mod Reopening
-pub mod JournalRotations
+mod JournalRotations
 mod PutFlushes
 mod MadeFlushes
 mod FlushesOnDisk
@@ -74,8 +74,3 @@ mod MergesOnDisk
 mod MergedTables
 mod FinishedMerges
 mod RecordedTables
--- lemmas of crates below, passed on to those above
-pub use Rattle.fjall_state.proofs.Moving
-pub use Rattle.fjall_state.proofs.Refusing
-pub use Rattle.fjall_state.proofs.SameTrees
-pub use Rattle.fjall_state.proofs.Standing

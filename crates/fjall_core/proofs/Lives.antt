@@ -5,27 +5,27 @@ use Rattle.std.proofs.lemmas.Bool.{true≢false}
 use Rattle.std.specs.List.{AllByRecursion}
 use Rattle.fjall_base.specs.Store.{Command, Store, fold, kept}
 use Rattle.fjall_base.specs.Crash.{IsHoused}
-use Rattle.fjall_base.specs.Disk.{Image, IsImage, Leaves, Meaning, State, Step, Took, disk_of, state_in}
+use Rattle.fjall_base.specs.Disk.{DiskState, DiskStep, Image, IsImage, Leaves, Meaning, Took, disk_of, state_in}
 use Rattle.fjall_base.specs.declared.error.Error.{Error}
-use Rattle.fjall_versions.proofs.Kept.{kept_along, kept_twice}
-use Rattle.fjall_versions.proofs.Slots.{fold-append}
+use Rattle.fjall_contents.proofs.Kept.{kept_along, kept_twice}
+use Rattle.fjall_contents.proofs.Slots.{fold-append}
 use Rattle.fjall_files.proofs.Made.{took_both}
 use Rattle.fjall_files.specs.Tidy.{IsTidy, IsTidyStep, StaysTidy}
 use Rattle.fjall_files.proofs.Tidying.{each_tidy, image_tidy, left_tidy, stays_by, tidy_on}
-use Rattle.fjall_recovery.specs.Folders.{StandsFor}
+use Rattle.fjall_recovery.specs.Folders.{ImageStandsFor}
 use Rattle.fjall_recovery.proofs.Alone.{one_store}
 use Rattle.fjall_recovery.specs.Amid.{HoldsAmid}
-use Rattle.fjall_state.specs.declared.call.Call.{Call}
+use Rattle.fjall_machine.specs.declared.call.Call.{Call}
 use Rattle.fjall_history.specs.declared.reply.Reply.{Reply}
-use Rattle.fjall_state.specs.Machine as machine
-use Rattle.fjall_state.specs.Machine.{present}
+use Rattle.fjall_machine.specs.Machine as machine
+use Rattle.fjall_machine.specs.Machine.{present}
 use Rattle.fjall_history.specs.Histories.{commands_of, latest}
 use Rattle.fjall_core.specs.Holding.{Held}
 use Rattle.fjall_core.specs.Durables.{Durable, IsBeginning, Passes, StandsAmid}
 use Rattle.fjall_core.specs.Crashes.{BlamesEach, Settled, Tried, at_most_one}
 use Rattle.fjall_core.specs.Openings.{OpensAmid, OpensAs}
-use Rattle.fjall_core.specs.Standing.{Closes, StandsOn}
-use Rattle.fjall_core.specs.Lives.{AreLeftOf, Closed, CutBehind, CutBehindSync, CutInCalls, CutInClosing, CutInOpening, Dropped, Ended, GoesOn, HoldsFold, IsLeftOf, Life, LastSync, Lived, Lives, NoLife, NoSync, OneMore, Opened, Served, Unclosed, Unopened, UpTo, all_left, begun, start_of}
+use Rattle.fjall_core.specs.Standing.{Closes, ClosesSafely, ReadsOn, StandsFor as StandsAs, StandsOn}
+use Rattle.fjall_core.specs.Lives.{AreLeftOf, Closed, CutBehind, CutBehindSync, CutInCalls, CutInClosing, CutInOpening, Dropped, Ended, LifeGoesOn, HoldsFold, IsLeftOf, Life, LastSync, Lived, Lives, NoLife, NoSync, OneMore, Opened, Served, Unclosed, Unopened, UpTo, all_left, begun, start_of}
 use Rattle.fjall_core.proofs.CrashesInRuns.{no_more, run_blames, run_passes}
 use Rattle.fjall_core.proofs.CrashedDisks.{crash_holds}
 use Rattle.fjall_core.proofs.Reopening.{a_core_holds_amid, holds_store_amid}
@@ -37,7 +37,7 @@ abbrev pub LeftOf : Store → List Command → List Command → Store → Type 0
 LeftOf store tried synced s = (front : List Command) × IsBeginning synced front × IsBeginning front tried × (s ≡ kept (fold store front))
 
 -- what an image stands for that stands amid these commands
-of_amid : (image : Image) (store : Store) (synced tried : List Command) (left : Store) → StandsAmid store synced tried image → StandsFor image left → LeftOf store tried synced left
+of_amid : (image : Image) (store : Store) (synced tried : List Command) (left : Store) → StandsAmid store synced tried image → ImageStandsFor image left → LeftOf store tried synced left
 of_amid image store synced tried left amid stands = (amid.front, amid.holds, amid.within, one_store image left (kept (fold store amid.front)) stands amid.stands)
 
 -- what is pending behind commands that are in the base
@@ -50,12 +50,12 @@ settled_left core store synced tried d s front begins = (
 )
 
 -- what a disk holds, each of which is left of these commands
-record EndsAt (store : Store) (tried synced : List Command) (state : State) (next : Store) (waits : List Command) : Type 0 where
+record EndsAt (store : Store) (tried synced : List Command) (state : DiskState) (next : Store) (waits : List Command) : Type 0 where
   pub amid : HoldsAmid state next waits
   pub each : (front : List Command) → IsBeginning front waits → LeftOf store tried synced (kept (fold next front))
 
 -- a crash left one store
-cut_ends : (state : State) (steps : List Step) (image : Image) (store : Store) (tried synced : List Command) (left : Store) → Leaves state steps image → StandsFor image left → LeftOf store tried synced left → EndsAt store tried synced (disk_of image) left []
+cut_ends : (state : DiskState) (steps : List DiskStep) (image : Image) (store : Store) (tried synced : List Command) (left : Store) → Leaves state steps image → ImageStandsFor image left → LeftOf store tried synced left → EndsAt store tried synced (disk_of image) left []
 cut_ends state steps image store tried synced left leaves stands of = record {
   amid = holds_store_amid (disk_of image) left (crash_holds state steps image left leaves stands);
   each = λ front begins. (of.0, of.1, of.2, ap (λ (l : List Command). kept (fold left l)) (no_more front begins.0 begins.1) ∙ ap kept of.3 ∙ kept_twice (fold store of.0));
@@ -64,18 +64,18 @@ cut_ends state steps image store tried synced left leaves stands of = record {
 -- ---- one life
 
 -- the steps between two disks are one list
-same_steps : (old new : Meaning) (one other : List Step) → Took old new one → Took old new other → one ≡ other
+same_steps : (old new : Meaning) (one other : List DiskStep) → Took old new one → Took old new other → one ≡ other
 same_steps old new one other took also = append_cancel_left old.steps one other (sym took.steps ∙ also.steps)
 
-leaves_as : (old new : Meaning) (one other : List Step) (image : Image) → Took old new one → Took old new other → Leaves (state_in old) one image → Leaves (state_in old) other image
-leaves_as old new one other image took also left = subst (λ (l : List Step). Leaves (state_in old) l image) (same_steps old new one other took also) left
+leaves_as : (old new : Meaning) (one other : List DiskStep) (image : Image) → Took old new one → Took old new other → Leaves (state_in old) one image → Leaves (state_in old) other image
+leaves_as old new one other image took also left = subst (λ (l : List DiskStep). Leaves (state_in old) l image) (same_steps old new one other took also) left
 
-first_of_both : (first more : List Step) → AllByRecursion IsTidyStep (first ++ more) → AllByRecursion IsTidyStep first × AllByRecursion IsTidyStep more
+first_of_both : (first more : List DiskStep) → AllByRecursion IsTidyStep (first ++ more) → AllByRecursion IsTidyStep first × AllByRecursion IsTidyStep more
 first_of_both [] more all = (tt, all)
 first_of_both (step ∷ first) more all = let rest = first_of_both first more all.1 in ((all.0, rest.0), rest.1)
 
 -- a moment between is tidy, and so are the steps behind it
-tidy_between : (old mid new : Meaning) (first late : List Step) → IsTidy (state_in old) → StaysTidy old new → Took old mid first → Took mid new late → IsTidy (state_in mid) × AllByRecursion IsTidyStep late
+tidy_between : (old mid new : Meaning) (first late : List DiskStep) → IsTidy (state_in old) → StaysTidy old new → Took old mid first → Took mid new late → IsTidy (state_in mid) × AllByRecursion IsTidyStep late
 tidy_between old mid new first late tidy kinds took then =
     let both = first_of_both first late (each_tidy old new (first ++ late) kinds (took_both old mid new first late took then)) in
     (tidy_on old mid (stays_by old mid first took both.0) tidy, both.1)
@@ -97,7 +97,7 @@ settled_of core new store calls replies opens run synced (NoSync none) =
 settled_of core new store calls replies opens run synced (UpTo i sync last) = (run.synced i sync).settled
 
 -- the images of a closing
-closing_amid : (new : Held) (s : machine.State) (d : Durable) (result : Result Unit Error) (disk : Meaning) (added : List Step) (image : Image)
+closing_amid : (new : Held) (s : machine.State) (d : Durable) (result : Result Unit Error) (disk : Meaning) (added : List DiskStep) (image : Image)
     → StandsOn new s.parts.entries d → Closes s d result disk → Took new.disk disk added → Leaves (state_in new.disk) added image → StandsAmid d.base [] (d.pending ++ []) image
 closing_amid new s d result disk added image on closes took left =
     let moments = closes.passes.leaves in
@@ -117,7 +117,7 @@ unclosed_left core store synced tried d e s passes front begins =
     let left = settled_left core store synced tried d s (passes.safe ++ front) (begins.0, all) in
     (left.0, left.1, left.2, kept_along e.base (fold d.base passes.safe) front passes.base ∙ ap kept (sym (fold-append d.base passes.safe front)) ∙ left.3)
 
-ended : (core new : Held) (store : Store) (calls : List Call) (replies : List Reply) (opens : OpensAs core store) (run : Served core store opens calls replies new) (synced : List Command) (end : State) (next : Store) (waits : List Command)
+ended : (core new : Held) (store : Store) (calls : List Call) (replies : List Reply) (opens : OpensAs core store) (run : Served core store opens calls replies new) (synced : List Command) (end : DiskState) (next : Store) (waits : List Command)
     → Ended core new store calls replies opens run synced end next waits → EndsAt store run.tried synced end next waits
 ended core new store calls replies opens run synced end next waits (CutInCalls added image left took leaves stands) =
     let moments = run.any_moment in
@@ -163,7 +163,7 @@ ended core new store calls replies opens run synced end next waits (Closed disk 
       );
     }
 
-pub lived : (old : Meaning) (base : Store) (pending : List Command) (life : Life) (new : State) (next : Store) (waits : List Command) → HoldsAmid (state_in old) base pending → Lived old base pending life new next waits → GoesOn base pending life new next waits
+pub lived : (old : Meaning) (base : Store) (pending : List Command) (life : Life) (new : DiskState) (next : Store) (waits : List Command) → HoldsAmid (state_in old) base pending → Lived old base pending life new next waits → LifeGoesOn base pending life new next waits
 lived old base pending life new next waits holds (Unopened after stays) = record {
   amid = stays.holds;
   each = λ front begins. (front, [], begins, record { safe = ([], refl); within = ([], refl) }, ap (λ (l : List Command). kept (fold base l)) (sym (append-nil front)));
@@ -204,7 +204,7 @@ all_more : (fronts : List (List Command)) (front : List Command) → all_left (f
 all_more [] front = append-nil front
 all_more (f ∷ fronts) front = ap (λ (l : List Command). f ++ l) (all_more fronts front) ∙ sym (append_assoc f (all_left fronts) front)
 
-pub lives_hold : (first : State) (start : Store) (lives : List Life) (new : State) (base : Store) (pending : List Command) → HoldsAmid first start [] → Lives first start lives new base pending → HoldsFold start lives new base pending
+pub lives_hold : (first : DiskState) (start : Store) (lives : List Life) (new : DiskState) (base : Store) (pending : List Command) → HoldsAmid first start [] → Lives first start lives new base pending → HoldsFold start lives new base pending
 lives_hold first start lives new base pending holds NoLife = record {
   amid = holds;
   each = λ front begins. ([], tt, ap (λ (l : List Command). kept (fold start l)) (no_more front begins.0 begins.1));
@@ -225,15 +225,26 @@ lives_hold first start lives new base pending holds (OneMore before life old mid
     }
 
 -- what opens behind them
-pub lives_open : (first : State) (start : Store) (lives : List Life) (old : Meaning) (base : Store) (pending : List Command) (core : Held) → HoldsAmid first start [] → Lives first start lives (state_in old) base pending → OpensAmid old core base pending
+pub lives_open : (first : DiskState) (start : Store) (lives : List Life) (old : Meaning) (base : Store) (pending : List Command) (core : Held) → HoldsAmid first start [] → Lives first start lives (state_in old) base pending → OpensAmid old core base pending
     → (fronts : List (List Command)) × AreLeftOf lives fronts × OpensAs core (kept (fold start (all_left fronts)))
 lives_open first start lives old base pending core holds lived_before opened =
     let left = (lives_hold first start lives (state_in old) base pending holds lived_before).each opened.front opened.within in
     (left.0, left.1, subst (λ (s : Store). OpensAs core s) left.2 opened.opens)
 
+-- ---- closed and opened again
+
+-- a core that closed left its store, and nothing is pending
+pub closed_holds : (core : Held) (s : machine.State) (d : Durable) (disk : Meaning) → StandsAs core s → ReadsOn core s → StandsOn core s.parts.entries d → ClosesSafely core (Ok tt) disk → HoldsAmid (state_in disk) (kept (present s)) []
+closed_holds core s d disk stands reads on safely = holds_store_amid (state_in disk) (kept (present s)) (safely s d stands reads on).closed
+
+-- and opens as it
+pub closed_opens : (disk : Meaning) (core : Held) (s : machine.State) → OpensAmid disk core (kept (present s)) [] → OpensAs core (kept (present s))
+closed_opens disk core s opened =
+    subst (λ (store : Store). OpensAs core store) (ap (λ (l : List Command). kept (fold (kept (present s)) l)) (no_more opened.front opened.within.0 opened.within.1) ∙ kept_twice (present s)) opened.opens
+
 -- ---- nothing stands in the way
 
-ended_tidy : (core new : Held) (store : Store) (calls : List Call) (replies : List Reply) (opens : OpensAs core store) (run : Served core store opens calls replies new) (synced : List Command) (end : State) (next : Store) (waits : List Command)
+ended_tidy : (core new : Held) (store : Store) (calls : List Call) (replies : List Reply) (opens : OpensAs core store) (run : Served core store opens calls replies new) (synced : List Command) (end : DiskState) (next : Store) (waits : List Command)
     → IsTidy (state_in core.disk) → Ended core new store calls replies opens run synced end next waits → IsTidy end
 ended_tidy core new store calls replies opens run synced end next waits tidy (CutInCalls added image left took leaves stands) = left_tidy added (state_in core.disk) image (each_tidy core.disk new.disk added run.kinds took) tidy leaves
 ended_tidy core new store calls replies opens run synced end next waits tidy (CutBehindSync i sync late image left took leaves stands) =
@@ -250,18 +261,18 @@ ended_tidy core new store calls replies opens run synced end next waits tidy (Un
 ended_tidy core new store calls replies opens run synced end next waits tidy (Closed disk owes safely) =
     tidy_on new.disk disk (closing_kinds new run.state run.durable (Ok tt) disk run.on (safely run.state run.durable run.stands run.reads run.on)) (tidy_on core.disk new.disk run.kinds tidy)
 
-lived_tidy : (old : Meaning) (base : Store) (pending : List Command) (life : Life) (new : State) (next : Store) (waits : List Command) → IsTidy (state_in old) → Lived old base pending life new next waits → IsTidy new
+lived_tidy : (old : Meaning) (base : Store) (pending : List Command) (life : Life) (new : DiskState) (next : Store) (waits : List Command) → IsTidy (state_in old) → Lived old base pending life new next waits → IsTidy new
 lived_tidy old base pending life new next waits tidy (Unopened after stays) = tidy_on old after stays.kinds tidy
 lived_tidy old base pending life new next waits tidy (CutInOpening after added image left moments kinds took leaves stands) = left_tidy added (state_in old) image (each_tidy old after added kinds took) tidy leaves
 lived_tidy old base pending life new next waits tidy (Opened core after calls replies synced end then more opened run ends) =
     ended_tidy core after (kept (fold base opened.front)) calls replies opened.opens run synced end then more (tidy_on old core.disk opened.kinds tidy) ends
 
-pub lives_stay_tidy : (first : State) (start : Store) (lives : List Life) (new : State) (base : Store) (pending : List Command) → IsTidy first → Lives first start lives new base pending → IsTidy new
+pub lives_stay_tidy : (first : DiskState) (start : Store) (lives : List Life) (new : DiskState) (base : Store) (pending : List Command) → IsTidy first → Lives first start lives new base pending → IsTidy new
 lives_stay_tidy first start lives new base pending tidy NoLife = tidy
 lives_stay_tidy first start lives new base pending tidy (OneMore before life old mid waits to next more lived_before one) = lived_tidy old mid waits life to next more (lives_stay_tidy first start before (state_in old) mid waits tidy lived_before) one
 
 -- so each fault of a run behind them was the device's
-pub lives_blame : (first : State) (start : Store) (lives : List Life) (old : Meaning) (base : Store) (pending : List Command) (core new : Held) (calls : List Call) (replies : List Reply) → IsTidy first → Lives first start lives (state_in old) base pending
+pub lives_blame : (first : DiskState) (start : Store) (lives : List Life) (old : Meaning) (base : Store) (pending : List Command) (core new : Held) (calls : List Call) (replies : List Reply) → IsTidy first → Lives first start lives (state_in old) base pending
     → (opened : OpensAmid old core base pending) (run : Served core (kept (fold base opened.front)) opened.opens calls replies new)
     → BlamesEach (start_of core (kept (fold base opened.front)) opened.opens) (begun core (kept (fold base opened.front))) calls replies run.tried run.state run.durable run.run
 lives_blame first start lives old base pending core new calls replies tidy lived_before opened run =

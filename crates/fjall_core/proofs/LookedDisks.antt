@@ -7,18 +7,18 @@ use Rattle.fjall_base.specs.Disk as disk
 use Rattle.fjall_base.specs.Disk.{IsImage, Meaning, Took, state_in}
 use Rattle.fjall_base.specs.Store.{Command, Store, kept}
 use Rattle.fjall_base.proofs.Moments as Moments
-use Rattle.fjall_blocks.specs.Readers.{Reader, SomeTableIsWrong}
+use Rattle.fjall_table_reader.specs.Readers.{Reader, SomeTableIsWrong}
 use Rattle.fjall_commit.specs.Journaling.{IsWriting}
-use Rattle.fjall_lsm.specs.Puts.{bare_tree}
-use Rattle.fjall_maps.specs.Tables.{store_with}
-use Rattle.fjall_maps.proofs.Alike.{same_store_with}
-use Rattle.fjall_recovery.specs.Folders.{number_of}
+use Rattle.fjall_tree.specs.Puts.{bare_tree}
+use Rattle.fjall_trees.specs.MapTables.{store_with}
+use Rattle.fjall_trees.proofs.Alike.{same_store_with}
+use Rattle.fjall_recovery.specs.Folders.{number_of_contents}
 use Rattle.fjall_recovery.specs.Places.{LiesInTree, contents_with}
 use Rattle.fjall_table.specs.Blocks.{Entry}
 use Rattle.fjall_trees.specs.Forests.{Forest, Planted, tree_at}
 use Rattle.fjall_trees.specs.Tables.{AreSameTrees, shape_in}
-use Rattle.fjall_state.specs.Machine.{State, is_among}
-use Rattle.fjall_state.specs.Remembered.{with_trees}
+use Rattle.fjall_machine.specs.Machine.{State, is_among}
+use Rattle.fjall_machine.specs.Remembered.{with_trees}
 use Rattle.fjall_core.specs.Holding.{Held}
 use Rattle.fjall_core.specs.Durables.{AreKnown, Durable, MakesPresent, StaysFinished}
 use Rattle.fjall_core.specs.Standing.{ReadsOn, StandsOn, store_with_tables, tables_of}
@@ -45,7 +45,7 @@ looked_on entries old new d held trees took = leads_on entries old new d [] (λ 
     ∙ ap (λ k. kept (store_with entries k new.memory.trees)) (sym (ap (λ (c : Held). c.memory.keyspaces) held)) in
     let still : StandsOn new entries there = record {
       same = refl;
-      rests = λ image is. on.rests image (subst (λ (st : disk.State). IsImage st image) took.state is);
+      rests = λ image is. on.rests image (subst (λ (st : disk.DiskState). IsImage st image) took.state is);
       finished = subst StaysFinished (sym took.state) on.finished;
       lies = λ well.
           let lies = on.lies (sym flag ∙ well) in
@@ -53,14 +53,14 @@ looked_on entries old new d held trees took = leads_on entries old new d [] (λ 
             journals = lies.journals;
             records = lies.records;
             tree = lies.tree;
-            writing = subst (λ (w : _). IsWriting (state_in new.disk) w lies.journals) (sym (ap (λ (c : Held). c.journal) held)) (subst (λ (st : disk.State). IsWriting st old.journal lies.journals) (sym took.state) lies.writing);
-            in_tree = subst (λ (st : disk.State). LiesInTree st lies.records lies.tree) (sym took.state) lies.in_tree;
+            writing = subst (λ (w : _). IsWriting (state_in new.disk) w lies.journals) (sym (ap (λ (c : Held). c.journal) held)) (subst (λ (st : disk.DiskState). IsWriting st old.journal lies.journals) (sym took.state) lies.writing);
+            in_tree = subst (λ (st : disk.DiskState). LiesInTree st lies.records lies.tree) (sym took.state) lies.in_tree;
             told = subst (AreKnown lies.journals) (sym (ap (λ (c : Held). c.memory.journals) held)) lies.told;
             last = lies.last ∙ sym (ap (λ (c : Held). c.catalog) held);
             keyspaces = lies.keyspaces ∙ sym (ap (λ (c : Held). c.memory.keyspaces) held);
             made = lies.made;
             waits = lies.waits;
-            next = subst (λ (n : ℕ). number_of (contents_with lies.journals lies.tree lies.journals.later) ≤ n) (sym (ap (λ (c : Held). c.memory.next) held)) lies.next;
+            next = subst (λ (n : ℕ). number_of_contents (contents_with lies.journals lies.tree lies.journals.later) ≤ n) (sym (ap (λ (c : Held). c.memory.next) held)) lies.next;
           };
       knows = λ well.
           let lies = on.lies (sym flag ∙ well) in

@@ -12,7 +12,7 @@ use Rattle.fjall_jobs.specs.declared.made_table.MadeTable.{MadeTable}
 use Rattle.fjall_jobs.specs.Flushes.{flush_task}
 use Rattle.fjall_jobs.specs.Sequences.{AreMadeTables, AreParted, IsMadeTable}
 use Rattle.fjall_jobs.specs.Tasks.{IsFlushed, Task}
-use Rattle.fjall_sorted.specs.Sorted.{flat}
+use Rattle.fjall_memtable.specs.Sorted.{flat}
 use Rattle.fjall_table.specs.Blocks.{Entry, IsBlock, IsEntry, IsOrdered, StandsBefore}
 use Rattle.fjall_table.specs.Tables.{AreBlocks, AreFull, IsTable, entries_of, table_text}
 use Rattle.fjall_table.proofs.TableLaws.{one_list_of_entries, one_parting}

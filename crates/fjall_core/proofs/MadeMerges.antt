@@ -11,8 +11,8 @@ use Rattle.fjall_jobs.specs.Keeping.{AreSorted}
 use Rattle.fjall_jobs.specs.Merges.{IsMerged, merge_task}
 use Rattle.fjall_jobs.specs.Sequences.{AreMadeTables, AreParted}
 use Rattle.fjall_jobs.specs.Tasks.{Task}
-use Rattle.fjall_sorted.specs.Kept.{AreClosedAt, IsClosedInTime}
-use Rattle.fjall_sorted.specs.Sorted.{flat}
+use Rattle.fjall_memtable.specs.Kept.{AreClosedAt, IsClosedInTime}
+use Rattle.fjall_memtable.specs.Sorted.{flat}
 use Rattle.fjall_table.specs.Blocks.{Entry, IsOrdered}
 use Rattle.fjall_table.specs.Tables.{first_key}
 use Rattle.fjall_views.specs.Jobs.{Same, merged, merged_clears}

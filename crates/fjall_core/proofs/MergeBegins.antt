@@ -4,24 +4,24 @@ use Rattle.std.proofs.lemmas.Bool.{true≢false}
 use Rattle.fjall_base.specs.Disk.{Took}
 use Rattle.fjall_base.specs.declared.error.Error.{Error}
 use Rattle.fjall_base.specs.declared.error.Error.TheVariants.{Io, NumbersUsedUp, OutOfMemory, Storage}
-use Rattle.fjall_blocks.specs.Readers.{LooksOn, SomeTableIsWrong}
+use Rattle.fjall_table_reader.specs.Readers.{LooksOn, SomeTableIsWrong}
 use Rattle.fjall_commit.proofs.KeptHomes.{homes_none}
 use Rattle.fjall_files.proofs.Tidying.{stays_none}
 use Rattle.fjall_history.specs.declared.reply.Reply.{Reply}
 use Rattle.fjall_history.specs.declared.reply.Reply.TheVariants.{Began, Refused}
 use Rattle.fjall_jobs.specs.declared.merge_job.MergeJob.{MergeJob}
 use Rattle.fjall_jobs.specs.Merges.{merge_task}
-use Rattle.fjall_lsm.specs.Jobs.{IsMerging, merge_begun}
+use Rattle.fjall_tree.specs.Jobs.{IsMerging, merge_begun}
 use Rattle.fjall_recovery.specs.Refusals.{HasRisen}
-use Rattle.fjall_state.specs.declared.merges.MergeKind.{MergeKind}
-use Rattle.fjall_state.specs.Machine.{Refuses, State, StepOf, is_among, options_in, target_size}
-use Rattle.fjall_state.specs.Machine as machine
-use Rattle.fjall_state.specs.Merging.{KnowsMerge}
-use Rattle.fjall_state.specs.Remembered.{merge_out, with_trees}
-use Rattle.fjall_state.specs.Shapes.{OfMergeBegin}
-use Rattle.fjall_state.proofs.KnownMerges.{a_begun_merge_is_known}
+use Rattle.fjall_machine.specs.declared.merge_kind.MergeKind.{MergeKind}
+use Rattle.fjall_machine.specs.Machine.{Refuses, State, StepOf, is_among, options_in, target_size}
+use Rattle.fjall_machine.specs.Machine as machine
+use Rattle.fjall_machine.specs.Merging.{KnowsMerge}
+use Rattle.fjall_machine.specs.Remembered.{merge_out, with_trees}
+use Rattle.fjall_machine.specs.Shapes.{OfMergeBegin}
+use Rattle.fjall_machine.proofs.KnownMerges.{a_begun_merge_is_known}
 use Rattle.fjall_table.specs.Blocks.{Entry}
-use Rattle.fjall_table.specs.Files.{IsRefused}
+use Rattle.fjall_table_reader.specs.Files.{IsRefused}
 use Rattle.fjall_trees.specs.Tables.{AreReadOn, AreSameTrees, shape_in}
 use Rattle.fjall_core.specs.Holding.{Held}
 use Rattle.fjall_core.specs.Crashes.{is_io}

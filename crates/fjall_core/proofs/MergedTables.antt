@@ -6,39 +6,39 @@ use Rattle.std.proofs.lemmas.Bool.{eq-eqb, true≢false}
 use Rattle.std.proofs.lemmas.List.{take-map}
 use Rattle.std.proofs.lemmas.List.Elements.{All-append, All-cons, All-drop, All-head, All-map, All-nil, All-tail, All-take, All-weaker}
 use Rattle.fjall_base.specs.Disk.{Meaning}
-use Rattle.fjall_blocks.specs.Readers.{AreRead, Reader, SomeTableIsWrong}
+use Rattle.fjall_table_reader.specs.Readers.{AreRead, Reader, SomeTableIsWrong}
 use Rattle.fjall_commit.proofs.KeptHomes.{within_others}
 use Rattle.fjall_files.specs.Names.{keyspace_folder, table_name}
 use Rattle.fjall_files.specs.Regions.{Within}
-use Rattle.fjall_state.specs.Flushes as flushes
-use Rattle.fjall_state.specs.FlushPlans.{HaveFiles}
+use Rattle.fjall_compaction.specs.Flushes as flushes
+use Rattle.fjall_compaction.specs.FlushPlans.{HaveFiles}
 use Rattle.fjall_jobs.specs.declared.made_table.MadeTable.{MadeTable}
 use Rattle.fjall_jobs.specs.declared.merge_made.MergeMade.{MergeMade}
 use Rattle.fjall_jobs.specs.Merges.{merge_task}
-use Rattle.fjall_loading.specs.Known.{AreListed, IsGiven}
-use Rattle.fjall_loading.proofs.Listed.{AreNext, given_apart, listed_in_place}
-use Rattle.fjall_lsm.specs.Jobs.{merge_finished}
-use Rattle.fjall_lsm.specs.Trees.{Shape}
-use Rattle.fjall_lsm.proofs.Flushed.{front_of}
-use Rattle.fjall_lsm.proofs.Several.{read_both, read_dropped}
-use Rattle.fjall_state.specs.Merges.{infos_from}
-use Rattle.fjall_state.proofs.AfterRecords.{infos_count, new_from}
-use Rattle.fjall_state.proofs.MergeTaking.{named_ids, other_names}
-use Rattle.fjall_state.specs.Machine.{State, is_among}
-use Rattle.fjall_state.specs.Merging.{AreTaken, keyspace_of}
-use Rattle.fjall_state.specs.Remembered.{IsLawful, Remembered}
-use Rattle.fjall_state.proofs.Flushing.{known_record}
+use Rattle.fjall_recovery.specs.Known.{AreListed, IsGiven}
+use Rattle.fjall_recovery.proofs.ListedTables.{AreNext, given_apart, listed_in_place}
+use Rattle.fjall_tree.specs.Jobs.{merge_finished}
+use Rattle.fjall_tree.specs.Trees.{Shape}
+use Rattle.fjall_tree.proofs.Flushed.{front_of}
+use Rattle.fjall_tree.proofs.Several.{read_both, read_dropped}
+use Rattle.fjall_compaction.specs.Merges.{infos_from}
+use Rattle.fjall_compaction.proofs.MergeAfterRecords.{infos_count, new_from}
+use Rattle.fjall_compaction.proofs.Taking.{named_ids, other_names}
+use Rattle.fjall_machine.specs.Machine.{State, is_among}
+use Rattle.fjall_machine.specs.Merging.{AreTaken, keyspace_of}
+use Rattle.fjall_machine.specs.Remembered.{IsLawful, Remembered}
+use Rattle.fjall_machine.proofs.Flushing.{known_record}
 use Rattle.fjall_table.specs.Blocks.{Entry}
-use Rattle.fjall_table.specs.Files.{entry_at}
+use Rattle.fjall_table_reader.specs.Files.{entry_at}
 use Rattle.fjall_table.specs.declared.table_info.TableInfo.{TableInfo}
-use Rattle.fjall_tree.specs.Records.{Fields}
+use Rattle.fjall_manifest.specs.Records.{Fields}
 use Rattle.fjall_trees.specs.Forests.{Planted, altered_at, tree_at}
 use Rattle.fjall_trees.specs.Tables.{shape_in}
 use Rattle.fjall_trees.proofs.Changing.{tree_under}
 use Rattle.fjall_trees.proofs.Others.{altered_here}
 use Rattle.fjall_trees.proofs.Outstanding.{merging_tree}
 use Rattle.fjall_trees.proofs.Same.{only_tree}
-use Rattle.fjall_versions.proofs.Slots.{same_id}
+use Rattle.fjall_contents.proofs.Slots.{same_id}
 use Rattle.fjall_core.specs.Holding.{Held}
 use Rattle.fjall_core.specs.CallParts.{TookAway, WroteMerge}
 use Rattle.fjall_core.specs.Standing.{Becomes, LieAtHome, Poisons, ReadsOn, StandsFor, AreRecorded}

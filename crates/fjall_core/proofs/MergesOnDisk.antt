@@ -12,50 +12,50 @@ use Rattle.fjall_files.specs.Names.{Table, keyspace_folder, table_name}
 use Rattle.fjall_files.specs.Regions.{Within}
 use Rattle.fjall_files.specs.Tidy.{IsTidy}
 use Rattle.fjall_files.proofs.Tidying.{tidy_on}
-use Rattle.fjall_state.specs.Flushes.{HasAt}
-use Rattle.fjall_state.proofs.Composed.{is_home}
-use Rattle.fjall_home.specs.Homes.{Home}
-use Rattle.fjall_home.proofs.Outside.{within_keyspaces}
-use Rattle.fjall_home.proofs.Resting.{last_record}
+use Rattle.fjall_compaction.specs.Flushes.{HasAt}
+use Rattle.fjall_compaction.proofs.Composed.{is_home}
+use Rattle.fjall_manifest.specs.Homes.{Home}
+use Rattle.fjall_manifest.proofs.Outside.{within_keyspaces}
+use Rattle.fjall_manifest.proofs.Resting.{last_record}
 use Rattle.fjall_jobs.specs.declared.made_table.MadeTable.{MadeTable}
 use Rattle.fjall_jobs.specs.declared.merge_made.MergeMade.{MergeMade}
 use Rattle.fjall_jobs.specs.Merges.{IsMerged, merge_task}
 use Rattle.fjall_jobs.specs.Tasks.{Task}
 use Rattle.fjall_journal.specs.Batches.{shown}
 use Rattle.fjall_journal.specs.Writer as writer
-use Rattle.fjall_loading.specs.Known.{IsKnown, last_known}
-use Rattle.fjall_lsm.specs.Jobs.{IsMerging, is_merge_out, merge_finished}
-use Rattle.fjall_lsm.specs.Trees.{Merging, Shape}
-use Rattle.fjall_maps.specs.Tables.{store_with}
-use Rattle.fjall_state.specs.MergeFinishing.{CanMerge}
-use Rattle.fjall_state.specs.Merges.{Merge, Merges, home_after, infos_from, record_after, tree_after}
-use Rattle.fjall_state.specs.Merges as merges
-use Rattle.fjall_state.specs.Plans as merging
-use Rattle.fjall_state.proofs.FinishingOfMerge as Finishing
-use Rattle.fjall_state.proofs.SameStore as SameStore
-use Rattle.fjall_state.proofs.MergeTaking.{named_ids}
+use Rattle.fjall_recovery.specs.Known.{IsKnown, last_known}
+use Rattle.fjall_tree.specs.Jobs.{IsMerging, is_merge_out, merge_finished}
+use Rattle.fjall_tree.specs.Trees.{Merging, Shape}
+use Rattle.fjall_trees.specs.MapTables.{store_with}
+use Rattle.fjall_compaction.specs.MergeFinishing.{CanMerge}
+use Rattle.fjall_compaction.specs.Merges.{Merge, MergesTables, home_after, infos_from, record_after, tree_after}
+use Rattle.fjall_compaction.specs.Merges as merges
+use Rattle.fjall_compaction.specs.MergePlans as merging
+use Rattle.fjall_compaction.proofs.MergeFinishing as Finishing
+use Rattle.fjall_compaction.proofs.MergeSameStore as SameStore
+use Rattle.fjall_compaction.proofs.Taking.{named_ids}
 use Rattle.fjall_meta.specs.declared.living.LivingKeyspace.{LivingKeyspace}
 use Rattle.fjall_meta.specs.Keyspaces.{Keyspaces, keyspace_at}
-use Rattle.fjall_recovery.specs.Folders.{number_of}
+use Rattle.fjall_recovery.specs.Folders.{number_of_contents}
 use Rattle.fjall_recovery.specs.Halves.{HasTree, Tree}
 use Rattle.fjall_recovery.specs.Places.{Journaling, LiesInTree, contents_with}
-use Rattle.fjall_sorted.specs.Sorted.{flat}
-use Rattle.fjall_state.specs.Machine.{is_living, is_merging}
-use Rattle.fjall_state.specs.Merging.{AreTaken, IsMergeFinished, counted_as, keyspace_of}
-use Rattle.fjall_state.specs.Remembered.{IsLawful, Remembered, with_merge, with_merge_done}
-use Rattle.fjall_state.proofs.Facts.{living_names, some_there}
+use Rattle.fjall_memtable.specs.Sorted.{flat}
+use Rattle.fjall_machine.specs.Machine.{is_living, is_merging}
+use Rattle.fjall_machine.specs.Merging.{AreTaken, IsMergeFinished, counted_as, keyspace_of}
+use Rattle.fjall_machine.specs.Remembered.{IsLawful, Remembered, with_merge, with_merge_done}
+use Rattle.fjall_machine.proofs.Facts.{living_names, some_there}
 use Rattle.fjall_table.specs.Blocks.{Entry}
 use Rattle.fjall_table.specs.declared.table_info.TableInfo.{TableInfo}
-use Rattle.fjall_tree.specs.Records.{Fields}
+use Rattle.fjall_manifest.specs.Records.{Fields}
 use Rattle.fjall_trees.specs.Forests.{Forest, altered_at}
 use Rattle.fjall_trees.specs.Tables.{entries_with, shape_in}
 use Rattle.fjall_trees.proofs.Changing.{tree_under}
 use Rattle.fjall_trees.proofs.Outstanding.{merging_tree}
-use Rattle.fjall_versions.proofs.Found.{found_has, found_passes}
-use Rattle.fjall_versions.proofs.Slots.{get_put, same_id}
+use Rattle.fjall_contents.proofs.Found.{found_has, found_passes}
+use Rattle.fjall_contents.proofs.Slots.{get_put, same_id}
 use Rattle.fjall_core.specs.Holding.{Held}
 use Rattle.fjall_core.specs.CallParts.{TookAway, WroteMerge}
-use Rattle.fjall_core.specs.Durables.{AreKnown, Durable, Knows, Lies, Rests, StandsAmid, StaysFinished}
+use Rattle.fjall_core.specs.Durables.{AreKnown, CrashLeavesPending, Durable, Knows, Lies, StandsAmid, StaysFinished}
 use Rattle.fjall_core.specs.Standing.{Becomes, IsDueToMerge, Poisons, StandsOn, job_of, store_in, store_with_tables}
 use Rattle.fjall_core.proofs.CatalogOnDisk.{removal_leaves}
 use Rattle.fjall_core.proofs.FlushesOnDisk.{leads_over}
@@ -178,7 +178,7 @@ module _ (old : Held) (made : MergeMade) (entries : ℕ → List (List Entry)) (
     at : HasAt t id h (flat (entries id))
     at = record { home = known.home; stored = known.stored }
 
-    counts : Merges does lists (entries id) h.last
+    counts : MergesTables does lists (entries id) h.last
     counts = Finishing.counts j t m.trees entries m.records living_there task can h known.home made.job.target tables made.clears.items has.merged
 
     abbrev home_then : Home
@@ -236,7 +236,7 @@ module _ (old : Held) (made : MergeMade) (entries : ℕ → List (List Entry)) (
         keyspaces = lies.keyspaces ∙ ap (λ (x : Remembered). x.keyspaces) (sym fin.is);
         made = lies.made ∙ sym (SameStore.same_store t id does lists h (entries id) at lies.in_tree.rests.versions counts j []);
         waits = lies.waits ∙ sym (SameStore.same_pending t id does lists h (entries id) at lies.in_tree.rests.versions counts (map shown j.later));
-        next = subst (λ (n : ℕ). number_of (contents_with j next j.later) ≤ n) (sym (ap (λ (x : Remembered). x.next) fin.is))
+        next = subst (λ (n : ℕ). number_of_contents (contents_with j next j.later) ≤ n) (sym (ap (λ (x : Remembered). x.next) fin.is))
             (subst (λ (n : ℕ). n ≤ m.next) (sym (SameStore.same_number t id does lists h (entries id) at lies.in_tree.rests.versions counts j j.later)) lies.next);
       }
 
@@ -259,7 +259,7 @@ module _ (old : Held) (made : MergeMade) (entries : ℕ → List (List Entry)) (
         took = take out.tables last.tables
 
         -- they are those of the home's record
-        taken_there : merging.AreTaken id h.last does taken
+        taken_there : merging.AreTakenFiles id h.last does taken
         taken_there =
             let home = is_home (state_in old.disk) lies.records t id h (flat (entries id)) lies.in_tree at in
             record {
@@ -365,7 +365,7 @@ module _ (old : Held) (made : MergeMade) (entries : ℕ → List (List Entry)) (
         let knows = stands.knows well in
         let leaves = both_leave old made entries has lawful base pending lies knows mid away.wrote away.fin away.becomes away.taken away.are new false away.away in
         let finished = away_finished old made entries has lawful base pending lies knows mid away.wrote away.fin away.becomes away.taken away.are new false away.away in
-        let rests : Rests (held_on new base pending) = at_end old.disk new.disk _ leaves in
+        let rests : CrashLeavesPending (held_on new base pending) = at_end old.disk new.disk _ leaves in
         let was = present_of entries old (held_on old base pending) false well stands ∙ same ∙ ap (λ (x : Remembered). kept (store_with more x.keyspaces x.trees)) (sym fault.memory_is) in
         let still = stands_ill more new base pending (ap (λ (x : Remembered). x.poisoned) fault.memory_is) rests finished (inl was) in (
           held_on new base pending,
@@ -386,7 +386,7 @@ module _ (old : Held) (made : MergeMade) (entries : ℕ → List (List Entry)) (
       let lies = stands.lies well in
       let knows = stands.knows well in
       let leaves = put_leaves old made entries has lawful base pending lies knows new false wrote in
-      let rests : Rests (held_on new base pending) = at_end old.disk new.disk _ leaves in
+      let rests : CrashLeavesPending (held_on new base pending) = at_end old.disk new.disk _ leaves in
       let was = present_of entries old (held_on old base pending) false well stands ∙ ap (λ (x : Remembered). kept (store_with entries x.keyspaces x.trees)) (sym fault.memory_is) in
       let still = stands_ill entries new base pending (ap (λ (x : Remembered). x.poisoned) fault.memory_is) rests (put_finished old made entries has lawful base pending lies knows new false wrote) (inl was) in (
         held_on new base pending,

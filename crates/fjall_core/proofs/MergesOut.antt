@@ -3,15 +3,15 @@ use Rattle.std.proofs.Common.{◌≡◌, ℕ, List, get_or, refl, sym, ap, subst
 use Rattle.fjall_base.specs.Store.{kept}
 use Rattle.fjall_contents.specs.Contents.{clears_held, versions_held}
 use Rattle.fjall_journal.specs.Batches.{Written}
-use Rattle.fjall_loading.specs.Known.{GoesOnFrom}
-use Rattle.fjall_lsm.specs.Trees.{Shape}
-use Rattle.fjall_maps.proofs.Alike.{changed_alike_store}
+use Rattle.fjall_recovery.specs.Known.{GoesOnFrom}
+use Rattle.fjall_tree.specs.Trees.{Shape}
+use Rattle.fjall_trees.proofs.Alike.{changed_alike_store}
 use Rattle.fjall_meta.specs.declared.living.LivingKeyspace.{LivingKeyspace}
 use Rattle.fjall_recovery.specs.Halves.{Tree}
 use Rattle.fjall_recovery.specs.Homes.{stored_in}
 use Rattle.fjall_recovery.specs.Places.{Journaling}
-use Rattle.fjall_replay.specs.Beside.{ShowsWith}
-use Rattle.fjall_state.proofs.SameTrees.{altered_tables}
+use Rattle.fjall_recovery.specs.Beside.{ShowsWith}
+use Rattle.fjall_machine.proofs.SameTrees.{altered_tables}
 use Rattle.fjall_table.specs.Blocks.{Entry}
 use Rattle.fjall_trees.specs.Forests.{Forest, altered_at}
 use Rattle.fjall_core.specs.Durables.{CoversSynced, Knows}

@@ -6,14 +6,14 @@ use Rattle.std.specs.Ordering.{nat_cmp, eq_by_cmp}
 use Rattle.std.proofs.lemmas.Bool.Decides.{nat_tests}
 use Rattle.fjall_base.proofs.Names.{bool_cases}
 use Rattle.fjall_journal.specs.Batches.{shown}
-use Rattle.fjall_home.specs.Homes.{Home}
+use Rattle.fjall_manifest.specs.Homes.{Home}
 use Rattle.fjall_meta.specs.declared.living.LivingKeyspace.{LivingKeyspace}
 use Rattle.fjall_catalog.specs.declared.catalog.Catalog.{Catalog}
 use Rattle.fjall_catalog.specs.Catalog.{fields}
-use Rattle.fjall_versions.specs.Replays.{least_after}
-use Rattle.fjall_recovery.specs.Folders.{number_of, past, past_record, past_records}
+use Rattle.fjall_contents.specs.Replays.{least_after}
+use Rattle.fjall_recovery.specs.Folders.{number_of_contents, past, past_record, past_records}
 use Rattle.fjall_recovery.specs.Journals.{batches_in}
-use Rattle.fjall_versions.proofs.Slots.{get_put}
+use Rattle.fjall_contents.proofs.Slots.{get_put}
 use Rattle.fjall_recovery.specs.Halves.{Tree}
 use Rattle.fjall_recovery.specs.Homes.{Homes, last_in, lasts}
 use Rattle.fjall_recovery.specs.Places.{Journaling, contents_with, journals_with}
@@ -60,20 +60,20 @@ change_past c number persisted highest = let a = ap past persisted in let b = ap
 abbrev pub least_in : Journaling → ℕ
 least_in j = least_after 0 (map shown (batches_in (journals_with j [])))
 
-pub created_number : (j : Journaling) (t : Tree) (name : List ℕ) (options : List (List ℕ)) (number : ℕ) (c : Catalog) → c.persisted ≡ Some number → c.highest ≡ Some number → number_of (contents_with j t []) ≤ number
-    → number_of (contents_with j (with_home name options number c t) []) ≤ number + 1
+pub created_number : (j : Journaling) (t : Tree) (name : List ℕ) (options : List (List ℕ)) (number : ℕ) (c : Catalog) → c.persisted ≡ Some number → c.highest ≡ Some number → number_of_contents (contents_with j t []) ≤ number
+    → number_of_contents (contents_with j (with_home name options number c t) []) ≤ number + 1
 created_number j t name options number c persisted highest is =
     let last = change_past c number persisted highest in
     let more = more_past t.homes (record { id = t.keyspaces.next; number = number; name = name; options = options }) (first_home number) t.keyspaces.living in
     omega (arith, last, more, is)
 
-pub deleted_number : (j : Journaling) (t : Tree) (id number : ℕ) (c : Catalog) → c.persisted ≡ Some number → c.highest ≡ Some number → number_of (contents_with j t []) ≤ number
-    → number_of (contents_with j (without_home id c t) []) ≤ number + 1
+pub deleted_number : (j : Journaling) (t : Tree) (id number : ℕ) (c : Catalog) → c.persisted ≡ Some number → c.highest ≡ Some number → number_of_contents (contents_with j t []) ≤ number
+    → number_of_contents (contents_with j (without_home id c t) []) ≤ number + 1
 deleted_number j t id number c persisted highest is =
     let last = change_past c number persisted highest in
     let fewer = fewer_past id t.keyspaces.living t.homes in
     omega (arith, last, fewer, is)
 
 -- what lies below the next number
-pub below_number : (j : Journaling) (t : Tree) (number : ℕ) → number_of (contents_with j t []) ≤ number → (least_in j ≤ number) × (past_record (fields t.last) ≤ number)
+pub below_number : (j : Journaling) (t : Tree) (number : ℕ) → number_of_contents (contents_with j t []) ≤ number → (least_in j ≤ number) × (past_record (fields t.last) ≤ number)
 below_number j t number is = (omega (arith, is), omega (arith, is))

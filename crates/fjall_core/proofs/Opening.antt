@@ -10,26 +10,24 @@ use Rattle.std.proofs.Math.Seq.{take-nil}
 use Rattle.fjall_base.specs.Store.{Store, kept}
 use Rattle.fjall_base.specs.Disk as disks
 use Rattle.fjall_base.specs.Disk.{File, LeavesOnly, Meaning, state_in}
-use Rattle.fjall_base.specs.declared.error.Error.{Error}
-use Rattle.fjall_base.specs.declared.error.Error.TheVariants.{Io}
 use Rattle.fjall_catalog.specs.Catalog.{fields, first_of}
 use Rattle.fjall_journal.specs.Batches.{Written, shown}
-use Rattle.fjall_loading.specs.Known.{AreAtHome, last_known}
-use Rattle.fjall_tree.specs.Records.{Fields}
+use Rattle.fjall_recovery.specs.Known.{AreAtHome, last_known}
+use Rattle.fjall_manifest.specs.Records.{Fields}
 use Rattle.fjall_journal.specs.Writer.{Journal}
 use Rattle.fjall_manager.specs.Journals.{Sealed}
 use Rattle.fjall_manager.specs.Places.{told}
 use Rattle.fjall_manager.specs.Telling.{AreMarksOf}
 use Rattle.fjall_table.specs.Blocks.{Entry}
-use Rattle.fjall_blocks.specs.Readers.{AreRead, Reader, SomeTableIsWrong}
-use Rattle.fjall_lsm.specs.Puts.{bare_tree}
-use Rattle.fjall_lsm.specs.Trees.{Shape}
+use Rattle.fjall_table_reader.specs.Readers.{AreRead, Reader, SomeTableIsWrong}
+use Rattle.fjall_tree.specs.Puts.{bare_tree}
+use Rattle.fjall_tree.specs.Trees.{Shape}
 use Rattle.fjall_trees.specs.Forests.{Forest, tree_at}
 use Rattle.fjall_trees.specs.Tables.{AreReadOn, shape_in}
 use Rattle.fjall_trees.specs.Views.{forest_of}
-use Rattle.fjall_maps.specs.Tables.{store_with}
-use Rattle.fjall_recovery.specs.Folders.{Contents, StandsFor, number_of, store_of}
-use Rattle.fjall_recovery.specs.Held.{Holds, number_held, store_held}
+use Rattle.fjall_trees.specs.MapTables.{store_with}
+use Rattle.fjall_recovery.specs.Folders.{Contents, ImageStandsFor, number_of_contents, store_of_contents}
+use Rattle.fjall_recovery.specs.Held.{Holds, number_held, store_of_folder}
 use Rattle.fjall_files.specs.Names.{journal_name}
 use Rattle.fjall_files.specs.Regions.{IsSafe}
 use Rattle.fjall_recovery.specs.Journals as read
@@ -37,22 +35,22 @@ use Rattle.fjall_recovery.specs.Halves.{is_of_keyspaces}
 use Rattle.fjall_recovery.specs.Told.{TellsOf}
 use Rattle.fjall_recovery.specs.Homes.{no_fields, stored_in}
 use Rattle.fjall_recovery.specs.Places.{contents_with, journals_with, texts_of}
-use Rattle.fjall_replay.specs.Beside.{AreReplayedWith}
+use Rattle.fjall_recovery.specs.Beside.{AreReplayedWith}
 use Rattle.fjall_commit.specs.Watermarks.{AreMarked}
 use Rattle.fjall_commit.proofs.KeepingKeyspaces.{journal_apart}
 use Rattle.fjall_commit.proofs.RootAfterWrites.{active_fits, begins}
-use Rattle.fjall_repair.specs.declared.opened.Opened.{Opened}
-use Rattle.fjall_repair.specs.Opened.{ComesBack, IsOpenedFrom, IsUnopened, WritesJournal, store_entries}
-use Rattle.fjall_repair.specs.Opened as repair
-use Rattle.fjall_state.specs.Remembered.{AreBeside, IsBegun, IsMergeBegun, Remembered, journals_of, remembered}
+use Rattle.fjall_opening.specs.declared.opened.Opened.{Opened}
+use Rattle.fjall_opening.specs.Opened.{ComesBack, IsOpenedFrom, WritesJournal, store_entries}
+use Rattle.fjall_opening.specs.Opened as repair
+use Rattle.fjall_machine.specs.Remembered.{AreBeside, IsFlushBegun, IsMergeBegun, Remembered, journals_of, remembered}
 use Rattle.fjall_history.proofs.Values.{all_none}
-use Rattle.fjall_state.specs.Remembered as memory
-use Rattle.fjall_state.specs.Machine.{is_among, opened_state}
-use Rattle.fjall_state.proofs.Lawful.{remembered_is_lawful}
-use Rattle.fjall_state.proofs.Standing.{an_opening_stands}
+use Rattle.fjall_machine.specs.Remembered as memory
+use Rattle.fjall_machine.specs.Machine.{is_among, opened_state}
+use Rattle.fjall_machine.proofs.Lawful.{remembered_is_lawful}
+use Rattle.fjall_machine.proofs.Standing.{an_opening_stands}
 use Rattle.fjall_core.specs.Holding.{Held}
 use Rattle.fjall_core.specs.Durables.{Durable, Knows, Lies}
-use Rattle.fjall_core.specs.Openings.{AreAllDamaged, AreWhole, IsAtEnd, IsDueTo, KeepsStore, Opens, OpensAs, OpensOn, opened_as, parts_of}
+use Rattle.fjall_core.specs.Openings.{AreAllDamaged, AreWhole, IsAtEnd, KeepsStore, Opens, OpensAs, OpensOn, opened_as, parts_of}
 use Rattle.fjall_core.specs.Standing.{ReadsOn, store_with_tables}
 use Rattle.fjall_commit.proofs.CrashedJournals.{commanded, store_is_kept}
 use Rattle.fjall_core.proofs.CrashImages.{lies_rest, root_finished}
@@ -68,7 +66,7 @@ abbrev pub core_of : Meaning → Opened → Held
 core_of disk o = held_of disk o (memory_of o)
 
 -- what was opened is lawful
-lawful_of : (o : Opened) → repair.IsLawful o → memory.IsLawful (memory_of o)
+lawful_of : (o : Opened) → repair.IsLawfulOpening o → memory.IsLawful (memory_of o)
 lawful_of o lawful = remembered_is_lawful o.keyspaces (forest_of o.trees) o.number (journals_of o.sealed o.active o.watermarks) o.records (record {
   keyspaces = lawful.keyspaces;
   made = lawful.made;
@@ -82,7 +80,7 @@ lawful_of o lawful = remembered_is_lawful o.keyspaces (forest_of o.trees) o.numb
   above = all_none (λ i. 0 < 0 → 0 < i);
   recorded = lawful.recorded;
   kept = lawful.kept;
-  begun = λ i d lt. subst (IsBegun 0 0) (sym (lawful.still i d lt).0) tt;
+  begun = λ i d lt. subst (IsFlushBegun 0 0) (sym (lawful.still i d lt).0) tt;
   merging = λ i d lt. subst (IsMergeBegun 0 0) (sym (lawful.still i d lt).1) tt;
   jobs = omega arith;
 })
@@ -92,7 +90,7 @@ same_record : (found : Option Fields) (a b : Fields) → is_some found ≡ true 
 same_record (Some last) a b some = refl
 same_record None a b some = absurd (true≢false (sym some))
 
-records_of : (disk : Meaning) (o : Opened) (entries : ℕ → List (List Entry)) → repair.IsLawful o → All (λ k. (parts_of (core_of disk o) entries).records k.id ≡ last_known o.records k) o.keyspaces.living
+records_of : (disk : Meaning) (o : Opened) (entries : ℕ → List (List Entry)) → repair.IsLawfulOpening o → All (λ k. (parts_of (core_of disk o) entries).records k.id ≡ last_known o.records k) o.keyspaces.living
 records_of disk o entries lawful i d lt =
     let k = get_or o.keyspaces.living i d in
     same_record (get o.records k.id) no_fields (fields (first_of k.number)) (lawful.recorded i d lt)
@@ -112,21 +110,21 @@ beside_of disk o entries on unused = record {
 }
 
 -- it stands for the store that its trees show with their tables, where these have such entries
-pub opens : (disk : Meaning) (o : Opened) (entries : ℕ → List (List Entry)) (store : Store) (damaged : List ℕ) (next : ℕ) → repair.IsLawful o → AreBeside (memory_of o) entries
+pub opens : (disk : Meaning) (o : Opened) (entries : ℕ → List (List Entry)) (store : Store) (damaged : List ℕ) (next : ℕ) → repair.IsLawfulOpening o → AreBeside (memory_of o) entries
     → store_with entries o.keyspaces (forest_of o.trees) ≡ store → o.number ≡ next → Opens (core_of disk o) store entries damaged next
 opens disk o entries store damaged next lawful beside made number =
     let m = memory_of o in
     let table = o.catalog.next_table_id in
     let parts = parts_of (core_of disk o) entries in
     record {
-      remembered = subst (λ (s : Store). memory.StandsFor m table (opened_state s damaged next parts)) made
-          (subst (λ (n : ℕ). memory.StandsFor m table (opened_state (store_with entries o.keyspaces (forest_of o.trees)) damaged n parts)) number
+      remembered = subst (λ (s : Store). memory.MemoryStandsFor m table (opened_state s damaged next parts)) made
+          (subst (λ (n : ℕ). memory.MemoryStandsFor m table (opened_state (store_with entries o.keyspaces (forest_of o.trees)) damaged n parts)) number
           (an_opening_stands m (lawful_of o lawful) refl refl refl refl refl refl table parts refl refl refl (records_of disk o entries lawful) beside damaged));
       journal = refl;
       buffer = refl;
     }
 
-pub opens_beside : (disk : Meaning) (o : Opened) → repair.IsLawful o → (entries : ℕ → List (List Entry)) → AreBeside (memory_of o) entries → (damaged : List ℕ)
+pub opens_beside : (disk : Meaning) (o : Opened) → repair.IsLawfulOpening o → (entries : ℕ → List (List Entry)) → AreBeside (memory_of o) entries → (damaged : List ℕ)
     → Opens (core_of disk o) (store_with_tables entries (core_of disk o)) entries damaged o.number
 opens_beside disk o lawful entries beside damaged = opens disk o entries (store_with_tables entries (core_of disk o)) damaged o.number lawful beside refl refl
 
@@ -147,13 +145,13 @@ placed (k ∷ trees) ascend (suc i) d lt =
 abbrev IsTold : Meaning → List ℕ → Forest → Type 0
 IsTold disk damaged trees = All (λ k. SomeTableIsWrong disk k.shape.tables → is_among damaged k.id ≡ true) trees
 
-told_all : (disk : Meaning) (o : Opened) (damaged : List ℕ) → repair.IsLawful o → AreAllDamaged (core_of disk o) damaged → IsTold disk damaged (forest_of o.trees)
+told_all : (disk : Meaning) (o : Opened) (damaged : List ℕ) → repair.IsLawfulOpening o → AreAllDamaged (core_of disk o) damaged → IsTold disk damaged (forest_of o.trees)
 told_all disk o damaged lawful all = λ i d lt wrong.
     let k = get_or (forest_of o.trees) i d in
     all k.id (subst (λ (shape : Shape). SomeTableIsWrong disk shape.tables) (sym (placed (forest_of o.trees) lawful.forest.ascend i d lt)) wrong)
 
 -- its disk has the tables of its trees
-reads_of : (disk : Meaning) (o : Opened) (entries : ℕ → List (List Entry)) (store : Store) (damaged : List ℕ) (next : ℕ) → repair.IsLawful o → AreReadOn disk (forest_of o.trees) entries → AreAtHome o.records (forest_of o.trees)
+reads_of : (disk : Meaning) (o : Opened) (entries : ℕ → List (List Entry)) (store : Store) (damaged : List ℕ) (next : ℕ) → repair.IsLawfulOpening o → AreReadOn disk (forest_of o.trees) entries → AreAtHome o.records (forest_of o.trees)
     → IsTold disk damaged (forest_of o.trees) → is_of_keyspaces o.journal.name ≡ false → ReadsOn (core_of disk o) (opened_as (core_of disk o) store entries damaged next)
 reads_of disk o entries store damaged next lawful on named wrong outside = record {
   tables = λ i d lt. record { positive = lawful.positive i d lt; read = (on i d lt).tables; named = (named i d lt).0; damage = wrong i d lt };
@@ -161,7 +159,7 @@ reads_of disk o entries store damaged next lawful on named wrong outside = recor
   recorded = λ i d lt. (named i d lt).1;
 }
 
-pub opens_on : (old new : Meaning) (o : Opened) → repair.IsLawful o → WritesJournal o → IsOpenedFrom old new o → OpensOn old (core_of new o)
+pub opens_on : (old new : Meaning) (o : Opened) → repair.IsLawfulOpening o → WritesJournal o → IsOpenedFrom old new o → OpensOn old (core_of new o)
 opens_on old new o lawful writes from = record {
   folder = from.folder;
   is = from.is;
@@ -176,13 +174,13 @@ opens_on old new o lawful writes from = record {
 }
 
 -- the sealed journals are known, and their files are whole
-marked_as : (journals : List read.Journal) (sealed : List Sealed) → AllZip TellsOf journals sealed → AreMarked sealed journals
+marked_as : (journals : List read.WholeJournal) (sealed : List Sealed) → AllZip TellsOf journals sealed → AreMarked sealed journals
 marked_as [] [] tell = tt
 marked_as [] (s ∷ sealed) tell = tell
 marked_as (j ∷ journals) [] tell = tell
 marked_as (j ∷ journals) (s ∷ sealed) tell = (tell.0.id_is, tell.0.marks, marked_as journals sealed tell.1)
 
-whole_as : (state : disks.State) (journals : List read.Journal) (sealed : List Sealed) → AllZip TellsOf journals sealed
+whole_as : (state : disks.DiskState) (journals : List read.WholeJournal) (sealed : List Sealed) → AllZip TellsOf journals sealed
     → AllByRecursion (λ journal. IsSafe state (journal_name journal.id) (texts_of journal.batches)) journals → AreWhole state sealed
 whole_as state [] [] tell safe = tt
 whole_as state [] (s ∷ sealed) tell safe = absurd tell
@@ -191,14 +189,14 @@ whole_as state (j ∷ journals) (s ∷ sealed) tell safe =
     ((texts_of j.batches, subst (λ (n : ℕ). IsSafe state (journal_name n) (texts_of j.batches)) (sym tell.0.id_is) safe.0, tell.0.len_is), whole_as state journals sealed tell.1 safe.1)
 
 -- with that store as its base, and nothing pending
-module _ (disk : Meaning) (folder : Option Contents) (o : Opened) (is : repair.Opens disk folder o) where
+module _ (disk : Meaning) (folder : Option Contents) (o : Opened) (is : repair.OpensFolder disk folder o) where
   abbrev here : Durable
-  here = record { meaning = disk; base = store_held folder; pending = [] }
+  here = record { meaning = disk; base = store_of_folder folder; pending = [] }
 
-  held : store_of (contents_with is.j is.t []) ≡ store_held folder
+  held : store_of_contents (contents_with is.j is.t []) ≡ store_of_folder folder
   held = is.store
 
-  kept_held : kept (store_held folder) ≡ store_of (contents_with is.j is.t [])
+  kept_held : kept (store_of_folder folder) ≡ store_of_contents (contents_with is.j is.t [])
   kept_held = ap kept (sym held) ∙ store_is_kept (contents_with is.j is.t [])
 
   lies : Lies (core_of disk o) here
@@ -217,11 +215,11 @@ module _ (disk : Meaning) (folder : Option Contents) (o : Opened) (is : repair.O
     keyspaces = is.keyspaces;
     made = kept_held;
     waits = sym (ap (commanded is.t) is.later);
-    next = subst (λ (n : ℕ). n ≤ o.number) (is.number ∙ ap (λ (b : List Written). number_of (contents_with is.j is.t b)) (sym is.later)) (omega arith);
+    next = subst (λ (n : ℕ). n ≤ o.number) (is.number ∙ ap (λ (b : List Written). number_of_contents (contents_with is.j is.t b)) (sym is.later)) (omega arith);
   }
 
   -- what is known of the keyspaces' homes; no flush is out
-  knows : repair.IsLawful o → Knows (core_of disk o) is.entries lies.journals lies.tree
+  knows : repair.IsLawfulOpening o → Knows (core_of disk o) is.entries lies.journals lies.tree
   unfolding lies
   knows lawful = record {
     shown = subst (λ (b : List Written). AreReplayedWith is.entries is.t.keyspaces (stored_in is.t.homes is.t.versions) (map shown (read.batches_in (journals_with is.j b))) (forest_of o.trees)) (sym is.later) is.shown;
@@ -247,22 +245,17 @@ module _ (disk : Meaning) (folder : Option Contents) (o : Opened) (is : repair.O
   writes_outside : is_of_keyspaces o.journal.name ≡ false
   writes_outside = ap (λ (w : Journal). is_of_keyspaces w.name) is.journal ∙ journal_apart is.j.active (active_fits (state_in disk) is.j is.root)
 
-  pub opens_as : (store : Store) → repair.IsLawful o → store ≡ store_held folder → OpensAs (core_of disk o) store
+  pub opens_as : (store : Store) → repair.IsLawfulOpening o → store ≡ store_of_folder folder → OpensAs (core_of disk o) store
   opens_as store lawful same = subst (λ (s : Store). OpensAs (core_of disk o) s) (sym same) (record {
     next = number_held folder;
     entries = is.entries;
-    state = opens disk o is.entries (store_held folder) [] (number_held folder) lawful (beside_of disk o is.entries is.on is.unused) (is.made ∙ is.store) is.same;
-    reads = reads_of disk o is.entries (store_held folder) [] (number_held folder) lawful is.on is.named (λ i d lt wrong. absurd (is.right i d lt wrong)) writes_outside;
+    state = opens disk o is.entries (store_of_folder folder) [] (number_held folder) lawful (beside_of disk o is.entries is.on is.unused) (is.made ∙ is.store) is.same;
+    reads = reads_of disk o is.entries (store_of_folder folder) [] (number_held folder) lawful is.on is.named (λ i d lt wrong. absurd (is.right i d lt wrong)) writes_outside;
     journal = at_end;
     sealed = whole_as (state_in disk) is.j.sealed o.sealed is.sealed is.root.sealed;
     base = record { same = refl; rests = lies_rest (core_of disk o) here lies; finished = root_finished (state_in disk) is.j is.root; lies = λ well. lies; knows = λ well. knows lawful; present = ap kept (sym held ∙ sym is.made) };
   })
 
 -- whatever store the disk held is left
-pub keeps : (old new : Meaning) → ((folder : Option Contents) → Holds (state_in old) folder → ComesBack (state_in old) folder → LeavesOnly old new (λ image. StandsFor image (store_held folder))) → KeepsStore old new
-keeps old new each store (folder, holds, back, same) = subst (λ (s : Store). LeavesOnly old new (λ image. StandsFor image s)) (sym same) (each folder holds back)
-
--- why it isn't opened
-pub due_to : (old new : Meaning) (error : Error) → IsUnopened old new error → IsDueTo old new error
-due_to old new (Io kind) is = is
-due_to old new error is = is
+pub keeps : (old new : Meaning) → ((folder : Option Contents) → Holds (state_in old) folder → ComesBack (state_in old) folder → LeavesOnly old new (λ image. ImageStandsFor image (store_of_folder folder))) → KeepsStore old new
+keeps old new each store (folder, holds, back, same) = subst (λ (s : Store). LeavesOnly old new (λ image. ImageStandsFor image s)) (sym same) (each folder holds back)

@@ -4,16 +4,16 @@ use Rattle.fjall_journal.specs.Writer.{Journal}
 use Rattle.fjall_history.specs.declared.job.JobId.{JobId}
 use Rattle.fjall_history.specs.declared.reply.Reply.{Reply}
 use Rattle.fjall_history.specs.declared.reply.Reply.TheVariants.{Began}
-use Rattle.fjall_state.specs.declared.merges.MergeKind.{MergeKind}
-use Rattle.fjall_state.specs.Shapes.{OfMergeBegin, OfMergeFinish}
-use Rattle.fjall_state.specs.Machine.{BeginsMerge, FinishesMerge, State, begins_merge, is_living, is_merging, present, rotation_refusals}
-use Rattle.fjall_state.specs.Machine as machine
-use Rattle.fjall_state.specs.Remembered.{Remembered, facts_of}
-use Rattle.fjall_state.specs.Remembered as memory
-use Rattle.fjall_state.proofs.Dues.{is_so}
-use Rattle.fjall_state.proofs.MergeSettings.{merges_are_out, merges_begin}
-use Rattle.fjall_state.proofs.Merging.{a_begun_merge_stands, a_dropped_merge_stands}
-use Rattle.fjall_state.proofs.Standing as law
+use Rattle.fjall_machine.specs.declared.merge_kind.MergeKind.{MergeKind}
+use Rattle.fjall_machine.specs.Shapes.{OfMergeBegin, OfMergeFinish}
+use Rattle.fjall_machine.specs.Machine.{BeginsMerge, FinishesMerge, State, begins_merge, is_living, is_merging, present, rotation_refusals}
+use Rattle.fjall_machine.specs.Machine as machine
+use Rattle.fjall_machine.specs.Remembered.{Remembered, facts_of}
+use Rattle.fjall_machine.specs.Remembered as memory
+use Rattle.fjall_machine.proofs.Dues.{is_so}
+use Rattle.fjall_machine.proofs.MergeSettings.{merges_are_out, merges_begin}
+use Rattle.fjall_machine.proofs.Merging.{a_begun_merge_stands, a_dropped_merge_stands}
+use Rattle.fjall_machine.proofs.Standing as law
 use Rattle.fjall_core.specs.Holding.{Held}
 use Rattle.fjall_core.specs.Standing.{BeginsMergeAt, IsDueToMerge, OwesMerge, OwesMergeBegin, RestsOnTables, StandsFor, begins_merge_in, held_due, store_in}
 use Rattle.fjall_core.proofs.OwedStates.{Answered, same_due, still}
@@ -52,8 +52,8 @@ module _ (old : Held) (s : State) (stands : StandsFor old s) where
         let t = machine.merge_out s id in
         let trees = new.memory.trees in
         record {
-          remembered = subst (λ (m : Remembered). memory.StandsFor m new.catalog.next_table_id t) (sym at.memory_is)
-              (subst (λ c. memory.StandsFor (memory.with_trees trees (memory.merge_out id old.memory)) c t) (ap (λ c. c.next_table_id) (sym at.catalog))
+          remembered = subst (λ (m : Remembered). memory.MemoryStandsFor m new.catalog.next_table_id t) (sym at.memory_is)
+              (subst (λ c. memory.MemoryStandsFor (memory.with_trees trees (memory.merge_out id old.memory)) c t) (ap (λ c. c.next_table_id) (sym at.catalog))
               (a_begun_merge_stands old.memory table s stands.remembered id left trees at.trees));
           journal = stands.journal ∙ ap (λ (j : Journal). j.len) (sym at.journal);
           buffer = stands.buffer ∙ ap (λ (j : Journal). length j.buffer) (sym at.journal);

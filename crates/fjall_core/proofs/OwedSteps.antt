@@ -22,22 +22,22 @@ use Rattle.fjall_history.specs.Histories as history
 use Rattle.fjall_history.specs.Histories.{number}
 use Rattle.fjall_history.specs.Queries.{Query, Tells}
 use Rattle.fjall_history.specs.Tickets.{Tickets, closed, collected, opened}
-use Rattle.fjall_state.specs.declared.call.Call.{Call}
-use Rattle.fjall_state.specs.Shapes.{AsKeyspace, ByMode, Clone, Close, Collect, Count, DiskSpace, Exists, Flushes, JournalSpace, Keyspaces, MergesDone, MergesOut, Next, OfChange, OfCount, OfCreation, OfDeletion, OfFlushBegin, OfFlushFinish, OfHandle, OfIngestion, OfJournalRotation, OfMaintenance, OfMergeBegin, OfMergeFinish, OfPersist, OfRead, OfRotation, OfTickets, OneLess, OneMore, Open, OpenTickets, Persistence, Entries, SealedMemtables, Shape, Tables, TablesL0, TicketCall, ToFlush, Visible, WriteBuffer, shape_of}
-use Rattle.fjall_state.specs.Shapes as shapes
-use Rattle.fjall_state.specs.Allowed.{MayChange}
-use Rattle.fjall_state.specs.Machine.{ChangesDisk, CountIs, MayFail, Parts, ReadsTables, Refuses, State, TooLong, TurnsTickets, accepted, begins_flush, created, creation_refusals, deleted, due, facts, first_due, has_name, is_flushing, is_living, is_merging, leaves_buffer, mode_in, present, rotates, written, written_out}
-use Rattle.fjall_state.specs.Machine as machine
-use Rattle.fjall_state.specs.Remembered.{IsLawful, Remembered, facts_of, instant_in, poisoned}
-use Rattle.fjall_state.specs.Remembered as memory
+use Rattle.fjall_machine.specs.declared.call.Call.{Call}
+use Rattle.fjall_machine.specs.Shapes.{AsKeyspace, ByMode, Clone, Close, Collect, Count, DiskSpace, Exists, Flushes, JournalSpace, Keyspaces, MergesDone, MergesOut, Next, OfChange, OfCount, OfCreation, OfDeletion, OfFlushBegin, OfFlushFinish, OfHandle, OfIngestion, OfJournalRotation, OfMaintenance, OfMergeBegin, OfMergeFinish, OfPersist, OfRead, OfRotation, OfTickets, OneLess, OneMore, Open, OpenTickets, Persistence, Entries, SealedMemtables, CallShape, Tables, TablesL0, TicketCall, ToFlush, Visible, WriteBuffer, shape_of}
+use Rattle.fjall_machine.specs.Shapes as shapes
+use Rattle.fjall_machine.specs.Allowed.{MayChange}
+use Rattle.fjall_machine.specs.Machine.{ChangesDisk, CountIs, MayFail, Parts, ReadsTables, Refuses, State, TooLong, TurnsTickets, accepted, begins_flush, created, creation_refusals, deleted, due, facts, first_due, has_name, is_flushing, is_living, is_merging, leaves_buffer, mode_in, present, rotates, written, written_out}
+use Rattle.fjall_machine.specs.Machine as machine
+use Rattle.fjall_machine.specs.Remembered.{IsLawful, Remembered, facts_of, instant_in, poisoned}
+use Rattle.fjall_machine.specs.Remembered as memory
 use Rattle.fjall_manager.specs.Journals.{Journals, bytes_of}
-use Rattle.fjall_state.proofs.ByHand.{options_agree}
-use Rattle.fjall_state.proofs.MergeSettings.{merges_counted}
-use Rattle.fjall_state.proofs.Sizes.{awaited_agree, buffers_agree, l0_counts_agree, rotations_agree, sealed_agree, space_agrees, spaces_agree, table_counts_agree, versions_agree, waits_agree, wants_agree}
-use Rattle.fjall_state.proofs.Dues.{may_change, may_create, may_delete}
-use Rattle.fjall_state.proofs.Standing as law
+use Rattle.fjall_machine.proofs.ByHand.{options_agree}
+use Rattle.fjall_machine.proofs.MergeSettings.{merges_counted}
+use Rattle.fjall_machine.proofs.Sizes.{awaited_agree, buffers_agree, l0_counts_agree, rotations_agree, sealed_agree, space_agrees, spaces_agree, table_counts_agree, versions_agree, waits_agree, wants_agree}
+use Rattle.fjall_machine.proofs.Dues.{may_change, may_create, may_delete}
+use Rattle.fjall_machine.proofs.Standing as law
 use Rattle.fjall_core.specs.Holding.{Held}
-use Rattle.fjall_blocks.specs.Readers.{Reader}
+use Rattle.fjall_table_reader.specs.Readers.{Reader}
 use Rattle.fjall_core.proofs.OwedStates.{Answered, Steps, looked_stands, none_more, poisoned_stands, poisoned_state, same_due, still}
 use Rattle.fjall_core.proofs.OwedMerges.{finish_merge_steps, merge_begin_steps}
 use Rattle.fjall_core.proofs.OwedWork.{begin_steps, finish_steps, ingestion_steps, maintenance_steps, same_asks, same_late, same_room, same_used, work_steps}
@@ -46,7 +46,7 @@ use Rattle.fjall_core.specs.Standing.{AsksMemory, StandsFor, at_fault, tables_of
 -- ---- refusals
 
 -- what a fault leaves in memory, but that it poisons the core, stands for what it leaves of a state
-fault_left : (old : Held) (s : State) (shape : Shape) → StandsFor old s → memory.StandsFor (at_fault shape old.memory) old.catalog.next_table_id (machine.at_fault s shape)
+fault_left : (old : Held) (s : State) (shape : CallShape) → StandsFor old s → memory.MemoryStandsFor (at_fault shape old.memory) old.catalog.next_table_id (machine.at_fault s shape)
 fault_left old s (OfChange change how) stands = stands.remembered
 fault_left old s (OfIngestion id items) stands = stands.remembered
 fault_left old s (OfCreation name options) stands = stands.remembered
@@ -70,7 +70,7 @@ looked_at_stands old new s [] same stands = subst (λ c. StandsFor c s) (sym sam
 looked_at_stands old new s (t ∷ tables) looks stands = looked_stands old new s looks stands
 
 -- what is too long for the core is so for the state
-same_long : (old : Held) (s : State) (shape : Shape) → StandsFor old s → TooLong (store_in old) shape → TooLong (present s) shape
+same_long : (old : Held) (s : State) (shape : CallShape) → StandsFor old s → TooLong (store_in old) shape → TooLong (present s) shape
 same_long old s (OfCreation name options) stands long = law.long_creation old.memory old.catalog.next_table_id s stands.remembered name options long
 same_long old s (OfDeletion id) stands long = law.long_deletion old.memory old.catalog.next_table_id s stands.remembered id long
 same_long old s (OfChange change how) stands long = absurd long
@@ -100,7 +100,7 @@ same_leaves old s stands change how =
     λ i. goes_out (is_none (mode i)) (stands.buffer i + length (change_text change (stands.remembered.number i)))
 
 -- what changes the core's disk does so for the state
-same_changes : (old : Held) (s : State) (shape : Shape) → StandsFor old s → ChangesDisk (facts_of old.memory old.catalog.next_table_id) (length old.journal.buffer) shape → ChangesDisk (facts s) s.parts.buffer shape
+same_changes : (old : Held) (s : State) (shape : CallShape) → StandsFor old s → ChangesDisk (facts_of old.memory old.catalog.next_table_id) (length old.journal.buffer) shape → ChangesDisk (facts s) s.parts.buffer shape
 same_changes old s (OfChange (Items []) how) stands changes = absurd changes
 same_changes old s (OfChange (Items (item ∷ items)) how) stands out = same_leaves old s stands (Items (item ∷ items)) how ∙ out
 same_changes old s (OfChange (Emptied id) how) stands out = same_leaves old s stands (Emptied id) how ∙ out
@@ -122,7 +122,7 @@ same_changes old s (OfPersist mode) stands changes = tt
 same_changes old s (OfCount count) stands changes = absurd changes
 
 -- where memory ran out the core stands for the same state
-ran_out_still : (old new : Held) (s : State) (shape : Shape) → RanOut old shape new → StandsFor old s → StandsFor new s
+ran_out_still : (old new : Held) (s : State) (shape : CallShape) → RanOut old shape new → StandsFor old s → StandsFor new s
 ran_out_still old new s (OfHandle OneLess id) (same, later) stands = subst (λ (c : Held). StandsFor c s) (sym same) (record { remembered = stands.remembered; journal = stands.journal; buffer = stands.buffer })
 ran_out_still old new s (OfHandle OneMore id) same stands = still old new s same stands
 ran_out_still old new s (OfChange change how) same stands = still old new s same stands
@@ -142,17 +142,17 @@ ran_out_still old new s (OfPersist mode) same stands = still old new s same stan
 ran_out_still old new s (OfCount count) same stands = still old new s same stands
 
 -- what reads tables rests on them, and so does what met a wrong block
-reads_rest : (core : Held) (shape : Shape) (reply : Reply) → ReadsTables core.memory.trees shape → RestsOnTables core shape reply
+reads_rest : (core : Held) (shape : CallShape) (reply : Reply) → ReadsTables core.memory.trees shape → RestsOnTables core shape reply
 reads_rest core (OfMergeBegin kind id) reply reads = absurd reads
 reads_rest core (OfMergeFinish job) reply reads = absurd reads
 reads_rest core shape reply reads = reads
 
-disorder_rests : (old new : Held) (shape : Shape) (told : StorageError) → FindsDisorder old shape new → RestsOnTables old shape (Refused (Storage told))
+disorder_rests : (old new : Held) (shape : CallShape) (told : StorageError) → FindsDisorder old shape new → RestsOnTables old shape (Refused (Storage told))
 disorder_rests old new (OfMergeBegin kind id) told (begins, left, looks) = begins
 disorder_rests old new (OfMergeFinish job) told (out, same) = out
 disorder_rests old new shape told found = absurd found
 
-failure_steps : (old new : Held) (s : State) (shape : Shape) (error : Error) → held_due old shape ≡ None → (RestsOnTables old shape (Refused error) → ⊥) → StandsFor old s → OwesFailure old shape error new → (t : State) × StandsFor new t × MayFail shape error s t
+failure_steps : (old new : Held) (s : State) (shape : CallShape) (error : Error) → held_due old shape ≡ None → (RestsOnTables old shape (Refused error) → ⊥) → StandsFor old s → OwesFailure old shape error new → (t : State) × StandsFor new t × MayFail shape error s t
 failure_steps old new s shape (Io kind) due_is none stands (inl (changes, fault)) =
     let left = machine.at_fault s shape in (
       poisoned_state new left,
@@ -170,16 +170,16 @@ failure_steps old new s shape NumbersUsedUp due_is none stands (used, same) = (s
 failure_steps old new s shape TooManyItems due_is none stands (room, same) = (s, still old new s same stands, (same_room old s stands shape TooManyItems none room, refl))
 failure_steps old new s shape error due_is none stands bad = absurd bad
 
-refusal_steps : (old new : Held) (s : State) (shape : Shape) (error : Error) (first : Option Error) → held_due old shape ≡ first → (RestsOnTables old shape (Refused error) → ⊥) → StandsFor old s → OwesRefusal first old shape error new → (t : State) × StandsFor new t × Refuses first shape error s t
+refusal_steps : (old new : Held) (s : State) (shape : CallShape) (error : Error) (first : Option Error) → held_due old shape ≡ first → (RestsOnTables old shape (Refused error) → ⊥) → StandsFor old s → OwesRefusal first old shape error new → (t : State) × StandsFor new t × Refuses first shape error s t
 refusal_steps old new s shape error (Some first) due_is none stands (is, same) = (s, still old new s same stands, (is, refl))
 refusal_steps old new s shape error None due_is none stands failure = failure_steps old new s shape error due_is none stands failure
 
 -- a refusal that is due, and changes nothing
-pub due_step : (core : Held) (s : State) (shape : Shape) (error : Error) → held_due core shape ≡ Some error → StandsFor core s → Steps core s shape (Refused error)
+pub due_step : (core : Held) (s : State) (shape : CallShape) (error : Error) → held_due core shape ≡ Some error → StandsFor core s → Steps core s shape (Refused error)
 due_step core s shape error due stands = (s, stands, subst (λ first. Refuses first shape error s s) (sym (same_due core s shape stands ∙ due)) (refl, refl))
 
 -- want of memory, where none is due
-pub memory_step : (old new : Held) (s : State) (shape : Shape) → AsksMemory old shape → held_due old shape ≡ None → RanOut old shape new → StandsFor old s → Steps new s shape (Refused OutOfMemory)
+pub memory_step : (old new : Held) (s : State) (shape : CallShape) → AsksMemory old shape → held_due old shape ≡ None → RanOut old shape new → StandsFor old s → Steps new s shape (Refused OutOfMemory)
 memory_step old new s shape asks none out stands =
     (s, ran_out_still old new s shape out stands, subst (λ first. Refuses first shape OutOfMemory s s) (sym (same_due old s shape stands ∙ none)) (same_asks old s stands shape none asks, refl))
 
@@ -207,8 +207,8 @@ grown_stands old new s change how some is_made may grows stands =
     let after = parts_after (goes_out hand (length (old.journal.buffer ++ text))) old.journal s.parts text stands.journal stands.buffer in
     let held = law.a_change_stands old.memory old.catalog.next_table_id s stands.remembered change how some may.living may.fits may.numbered in
     subst (λ (u : State). StandsFor new u) (sym is_made) (record {
-      remembered = subst (λ (m : Remembered). memory.StandsFor m new.catalog.next_table_id t) (sym grows.memory_is)
-          (subst (λ c. memory.StandsFor (memory.with_change change old.memory) c t) (ap (λ c. c.next_table_id) (sym grows.catalog)) (subst (λ (u : State). memory.StandsFor (memory.with_change change old.memory) old.catalog.next_table_id u) is_made held));
+      remembered = subst (λ (m : Remembered). memory.MemoryStandsFor m new.catalog.next_table_id t) (sym grows.memory_is)
+          (subst (λ c. memory.MemoryStandsFor (memory.with_change change old.memory) c t) (ap (λ c. c.next_table_id) (sym grows.catalog)) (subst (λ (u : State). memory.MemoryStandsFor (memory.with_change change old.memory) old.catalog.next_table_id u) is_made held));
       journal = (λ i. (written (out i) s.parts (length (same i))).journal) ∙ after.0 ∙ ap (λ (j : Journal). j.len) (sym grows.journal);
       buffer = (λ i. (written (out i) s.parts (length (same i))).buffer) ∙ after.1 ∙ ap (λ (j : Journal). length j.buffer) (sym grows.journal);
     })
@@ -228,24 +228,24 @@ changed_steps old new s (Emptied id) how none grows stands =
 -- the parts are others, and the history and what is held are as before
 handed_stands : (old new : Held) (s : State) → HandsOver old new → StandsFor old s → StandsFor new (record s { parts = written_out s.parts 0 })
 handed_stands old new s hands stands = record {
-  remembered = subst (λ (m : Remembered). memory.StandsFor m new.catalog.next_table_id (record s { parts = written_out s.parts 0 })) (sym hands.memory_is)
-      (law.other_parts_stand old.memory new.catalog.next_table_id s (subst (λ c. memory.StandsFor old.memory c s) (ap (λ c. c.next_table_id) (sym hands.catalog)) stands.remembered) (written_out s.parts 0)
+  remembered = subst (λ (m : Remembered). memory.MemoryStandsFor m new.catalog.next_table_id (record s { parts = written_out s.parts 0 })) (sym hands.memory_is)
+      (law.other_parts_stand old.memory new.catalog.next_table_id s (subst (λ c. memory.MemoryStandsFor old.memory c s) (ap (λ c. c.next_table_id) (sym hands.catalog)) stands.remembered) (written_out s.parts 0)
       (stands.remembered.next_table ∙ ap (λ c. c.next_table_id) (sym hands.catalog)) refl refl refl refl);
   journal = none_more old.journal s.parts stands.journal stands.buffer ∙ ap (λ (j : Journal). j.len) (sym hands.journal);
   buffer = ap (λ (j : Journal). length j.buffer) (sym hands.journal);
 }
 
 -- the keyspaces changed
-altered_stands : (old new : Held) (s t : State) (after : Remembered) (table : ℕ) → Alters old after table new → memory.StandsFor after table t → t.parts.journal ≡ (written_out s.parts 0).journal → t.parts.buffer ≡ 0 → StandsFor old s → StandsFor new t
+altered_stands : (old new : Held) (s t : State) (after : Remembered) (table : ℕ) → Alters old after table new → memory.MemoryStandsFor after table t → t.parts.journal ≡ (written_out s.parts 0).journal → t.parts.buffer ≡ 0 → StandsFor old s → StandsFor new t
 altered_stands old new s t after table alters held journal buffer stands = record {
-  remembered = subst (λ (m : Remembered). memory.StandsFor m new.catalog.next_table_id t) (sym alters.memory_is) (subst (λ c. memory.StandsFor after c t) (sym alters.next_table) held);
+  remembered = subst (λ (m : Remembered). memory.MemoryStandsFor m new.catalog.next_table_id t) (sym alters.memory_is) (subst (λ c. memory.MemoryStandsFor after c t) (sym alters.next_table) held);
   journal = journal ∙ none_more old.journal s.parts stands.journal stands.buffer ∙ ap (λ (j : Journal). j.len) (sym alters.journal);
   buffer = buffer ∙ ap (λ (j : Journal). length j.buffer) (sym alters.journal);
 }
 
-counted_stands : (old new : Held) (s t : State) (after : Remembered) → Counts old after new → memory.StandsFor after old.catalog.next_table_id t → t.parts.journal ≡ s.parts.journal → t.parts.buffer ≡ s.parts.buffer → StandsFor old s → StandsFor new t
+counted_stands : (old new : Held) (s t : State) (after : Remembered) → Counts old after new → memory.MemoryStandsFor after old.catalog.next_table_id t → t.parts.journal ≡ s.parts.journal → t.parts.buffer ≡ s.parts.buffer → StandsFor old s → StandsFor new t
 counted_stands old new s t after counts held journal buffer stands = record {
-  remembered = subst (λ (m : Remembered). memory.StandsFor m new.catalog.next_table_id t) (sym counts.memory_is) (subst (λ c. memory.StandsFor after c t) (ap (λ c. c.next_table_id) (sym counts.catalog)) held);
+  remembered = subst (λ (m : Remembered). memory.MemoryStandsFor m new.catalog.next_table_id t) (sym counts.memory_is) (subst (λ c. memory.MemoryStandsFor after c t) (ap (λ c. c.next_table_id) (sym counts.catalog)) held);
   journal = journal ∙ stands.journal ∙ ap (λ (j : Journal). j.len) (sym counts.journal);
   buffer = buffer ∙ stands.buffer ∙ ap (λ (j : Journal). length j.buffer) (sym counts.journal);
 }
@@ -295,9 +295,6 @@ found_steps old new s name options id none found same stands =
     )
 
 -- ---- a deletion
-
-same_count : (old : Held) (s : State) → StandsFor old s → len (store_in old).names ≡ len (present s).names
-same_count old s stands = sym (ap len (law.same_names old.memory old.catalog.next_table_id s stands.remembered))
 
 deleted_steps : (old new : Held) (s : State) (id : ℕ) → held_due old (OfDeletion id) ≡ None → is_living (store_in old) id ≡ true → Deletes old id new → StandsFor old s → Steps new s (OfDeletion id) Done
 deleted_steps old new s id none living deletes stands =
@@ -353,8 +350,8 @@ turned_steps old new s none turns stands =
     let same : len ≡ counted (s.parts.journal + s.parts.buffer) = λ i. counted (sym stands.journal i + sym stands.buffer i) in (
       t,
       record {
-        remembered = subst (λ (m : Remembered). memory.StandsFor m new.catalog.next_table_id t) (sym turns.memory_is)
-            (subst (λ c. memory.StandsFor (memory.journal_rotated len old.memory) c t) (ap (λ c. c.next_table_id) (sym turns.catalog))
+        remembered = subst (λ (m : Remembered). memory.MemoryStandsFor m new.catalog.next_table_id t) (sym turns.memory_is)
+            (subst (λ c. memory.MemoryStandsFor (memory.journal_rotated len old.memory) c t) (ap (λ c. c.next_table_id) (sym turns.catalog))
             (law.a_journal_rotation_stands old.memory old.catalog.next_table_id s stands.remembered len same));
         journal = ap (λ (j : Journal). j.len) (sym turns.journal);
         buffer = ap (λ (j : Journal). length j.buffer) (sym turns.journal);
@@ -366,7 +363,7 @@ turned_steps old new s none turns stands =
 
 -- the core with other tickets
 with_tickets_for : (old new : Held) (s : State) (tickets : Tickets) → new ≡ record old { memory = memory.with_tickets new.memory.tickets old.memory } → new.memory.tickets ≡ tickets
-    → memory.StandsFor (memory.with_tickets tickets old.memory) old.catalog.next_table_id (record s { tickets = tickets }) → StandsFor old s → StandsFor new (record s { tickets = tickets })
+    → memory.MemoryStandsFor (memory.with_tickets tickets old.memory) old.catalog.next_table_id (record s { tickets = tickets }) → StandsFor old s → StandsFor new (record s { tickets = tickets })
 with_tickets_for old new s tickets is at held stands =
     subst (λ c. StandsFor c (record s { tickets = tickets })) (sym (is ∙ ap (λ (t : Tickets). record old { memory = memory.with_tickets t old.memory }) at))
     (record { remembered = held; journal = stands.journal; buffer = stands.buffer })
@@ -379,13 +376,13 @@ module _ (old new : Held) (s : State) (stands : StandsFor old s) (is : new ≡ r
   same_tickets = stands.remembered.tickets
 
   -- what the core's tickets became the state's do
-  turned : (f : ℕ → Tickets → Tickets) → new.memory.tickets ≡ f old.memory.next old.memory.tickets → memory.StandsFor (memory.with_tickets (f old.memory.next old.memory.tickets) old.memory) old.catalog.next_table_id (record s { tickets = f old.memory.next s.tickets })
+  turned : (f : ℕ → Tickets → Tickets) → new.memory.tickets ≡ f old.memory.next old.memory.tickets → memory.MemoryStandsFor (memory.with_tickets (f old.memory.next old.memory.tickets) old.memory) old.catalog.next_table_id (record s { tickets = f old.memory.next s.tickets })
       → StandsFor new (record s { tickets = f (number s.history) s.tickets })
   turned f at held =
       let same : f (number s.history) s.tickets ≡ f old.memory.next old.memory.tickets = λ i. f (same_number i) (same_tickets i) in
       let half : f old.memory.next s.tickets ≡ f old.memory.next old.memory.tickets = λ i. f old.memory.next (same_tickets i) in
       subst (λ t. StandsFor new (record s { tickets = t })) (sym same)
-      (with_tickets_for old new s (f old.memory.next old.memory.tickets) is at (subst (λ t. memory.StandsFor (memory.with_tickets (f old.memory.next old.memory.tickets) old.memory) old.catalog.next_table_id (record s { tickets = t })) half held) stands)
+      (with_tickets_for old new s (f old.memory.next old.memory.tickets) is at (subst (λ t. memory.MemoryStandsFor (memory.with_tickets (f old.memory.next old.memory.tickets) old.memory) old.catalog.next_table_id (record s { tickets = t })) half held) stands)
 
   none_due : (call : TicketCall) → held_due old (OfTickets call) ≡ None → due s (OfTickets call) ≡ None
   none_due call none = same_due old s (OfTickets call) stands ∙ none
@@ -455,7 +452,7 @@ deletion_steps : (old new : Held) (s : State) (id : ℕ) → held_due old (OfDel
 deletion_steps old new s id none (inl (gone, same)) stands = gone_steps old new s id none gone same stands
 deletion_steps old new s id none (inr (living, deletes)) stands = deleted_steps old new s id none living deletes stands
 
-gives_step : (old new : Held) (shape : Shape) (reply : Reply) (s : State) → (RestsOnTables old shape reply → ⊥) → held_due old shape ≡ None → Gives old shape reply new → StandsFor old s → Answered new s shape reply
+gives_step : (old new : Held) (shape : CallShape) (reply : Reply) (s : State) → (RestsOnTables old shape reply → ⊥) → held_due old shape ≡ None → Gives old shape reply new → StandsFor old s → Answered new s shape reply
 gives_step old new (OfChange change how) reply s bare none (told, owes) stands = subst (λ r. Answered new s (OfChange change how) r) (sym told) (changed_steps old new s change how none owes stands)
 gives_step old new (OfIngestion id items) reply s bare none owes stands = ingestion_steps old new s stands id items reply none owes
 gives_step old new (OfCreation name options) reply s bare none (id, told, owes) stands = subst (λ r. Answered new s (OfCreation name options) r) (sym told) (creation_steps old new s name options id none owes stands)
@@ -478,7 +475,7 @@ gives_step old new (OfPersist mode) reply s bare none (told, hands) stands =
 gives_step old new (OfCount count) reply s bare none (told, same) stands = (s, still old new s same stands, (same_due old s (OfCount count) stands ∙ none, (same_counts old s count reply told stands, refl)))
 
 -- each call is a step, but for what rests on what tables hold
-pub owes_step : (old new : Held) (shape : Shape) (reply : Reply) (s : State) → (RestsOnTables old shape reply → ⊥) → Owes old shape reply new → StandsFor old s → Steps new s shape reply
+pub owes_step : (old new : Held) (shape : CallShape) (reply : Reply) (s : State) → (RestsOnTables old shape reply → ⊥) → Owes old shape reply new → StandsFor old s → Steps new s shape reply
 owes_step old new shape (Refused error) s bare owes stands =
     subst (λ first. (t : State) × StandsFor new t × Refuses first shape error s t) (sym (same_due old s shape stands)) (refusal_steps old new s shape error (held_due old shape) refl bare stands owes)
 owes_step old new shape reply s bare (none, gives) stands = gives_step old new shape reply s bare none gives stands

@@ -11,31 +11,31 @@ use Rattle.fjall_journal.specs.Rotations.{empty_journal}
 use Rattle.fjall_history.specs.declared.job.JobId.{JobId}
 use Rattle.fjall_history.specs.declared.reply.Reply.{Reply}
 use Rattle.fjall_history.specs.declared.reply.Reply.TheVariants.{Began, Done, Flag, Refused}
-use Rattle.fjall_tree.specs.Records.{Fields, body}
+use Rattle.fjall_manifest.specs.Records.{Fields, body}
 use Rattle.fjall_history.specs.Histories.{number}
 use Rattle.fjall_jobs.specs.declared.made_table.MadeTable.{MadeTable}
-use Rattle.fjall_loading.specs.Known.{last_known}
+use Rattle.fjall_recovery.specs.Known.{last_known}
 use Rattle.fjall_meta.specs.declared.living.LivingKeyspace.{LivingKeyspace}
 use Rattle.fjall_meta.specs.Keyspaces.{keyspace_at}
-use Rattle.fjall_state.specs.IngestPlans.{AreOf}
-use Rattle.fjall_state.specs.Whole.{LacksIds, LacksRecordRoom, last_flushed, last_ingested}
+use Rattle.fjall_compaction.specs.IngestionPlans.{AreIngestionTables}
+use Rattle.fjall_compaction.specs.Whole.{LacksIds, LacksRecordRoom, last_flushed, last_ingested}
 use Rattle.fjall_jobs.specs.Tasks.{IsFlushed}
-use Rattle.fjall_lsm.specs.Ingestions.{memory_task}
-use Rattle.fjall_lsm.specs.Jobs.{count_out}
-use Rattle.fjall_lsm.specs.Trees as lsm
-use Rattle.fjall_parts.specs.Parts.{Memory, clears_in, parts_of}
+use Rattle.fjall_tree.specs.Ingestions.{memory_task}
+use Rattle.fjall_tree.specs.Jobs.{count_out}
+use Rattle.fjall_tree.specs.Trees as lsm
+use Rattle.fjall_memtable.specs.Parts.{Memory, clears_in, parts_of}
 use Rattle.fjall_trees.specs.Tables.{shape_in}
-use Rattle.fjall_state.specs.Shapes.{OfChange, OfCount, OfCreation, OfDeletion, OfFlushBegin, OfFlushFinish, OfHandle, OfIngestion, OfJournalRotation, OfMaintenance, OfMergeBegin, OfMergeFinish, OfPersist, OfRead, OfRotation, OfTickets, Shape}
-use Rattle.fjall_state.specs.Machine.{BeginsFlush, EvictsSome, FinishesFlush, Flushed, IngestionFails, Ingests, IngestsInto, IsPoisoned, LacksRoom, MayIngest, Parts, State, WorkFails, begins_flush, is_flushing, is_living, present, written_out}
-use Rattle.fjall_state.specs.Machine as machine
-use Rattle.fjall_state.specs.Remembered.{Remembered, facts_of}
-use Rattle.fjall_state.specs.Remembered as memory
-use Rattle.fjall_state.proofs.Flushing.{a_begun_flush_stands, a_dropped_flush_stands, a_finished_flush_stands, an_eviction_stands, known_record, some_evicted, with_sealed_stands}
-use Rattle.fjall_state.proofs.Ascending.{may_ingest}
-use Rattle.fjall_state.proofs.Ingesting.{an_ingestion_stands}
-use Rattle.fjall_state.proofs.SameTrees.{same_in}
-use Rattle.fjall_state.proofs.Sizes.{beginning_agrees, out_agrees}
-use Rattle.fjall_state.proofs.Standing as law
+use Rattle.fjall_machine.specs.Shapes.{CallShape, OfChange, OfCount, OfCreation, OfDeletion, OfFlushBegin, OfFlushFinish, OfHandle, OfIngestion, OfJournalRotation, OfMaintenance, OfMergeBegin, OfMergeFinish, OfPersist, OfRead, OfRotation, OfTickets}
+use Rattle.fjall_machine.specs.Machine.{BeginsFlush, EvictsSome, FinishesFlush, Flushed, IngestionFails, Ingests, IngestsInto, IsPoisoned, LacksRoom, MayIngest, Parts, State, WorkFails, begins_flush, is_flushing, is_living, present, written_out}
+use Rattle.fjall_machine.specs.Machine as machine
+use Rattle.fjall_machine.specs.Remembered.{Remembered, facts_of}
+use Rattle.fjall_machine.specs.Remembered as memory
+use Rattle.fjall_machine.proofs.Flushing.{a_begun_flush_stands, a_dropped_flush_stands, a_finished_flush_stands, an_eviction_stands, known_record, some_evicted, with_sealed_stands}
+use Rattle.fjall_machine.proofs.Ascending.{may_ingest}
+use Rattle.fjall_machine.proofs.Ingesting.{an_ingestion_stands}
+use Rattle.fjall_machine.proofs.SameTrees.{same_in}
+use Rattle.fjall_machine.proofs.Sizes.{beginning_agrees, out_agrees}
+use Rattle.fjall_machine.proofs.Standing as law
 use Rattle.fjall_writes.specs.Ingestions.{KeyOp}
 use Rattle.fjall_core.specs.Holding.{Held}
 use Rattle.fjall_core.specs.Standing.{AsksMemory, Becomes, BeginsAt, EvictsInMemory, FinishesLate, FlushedInMemory, HasNoRoom, IngestedInMemory, IngestionPoisons, IsDueToFinish, OwesBegin, OwesFinish, OwesIngestion, Poisons, RestsOnTables, StandsFor, UsesUp, WorkPoisons, are_jobs_used_up, are_journals_used_up, evicted_in_memory, held_due, is_long, journal_synced, next_name, store_in, takes_effect}
@@ -68,7 +68,7 @@ module _ (old new : Held) (s : State) (stands : StandsFor old s) where
   abbrev synced_writer : Bool → Journal
   synced_writer long = if long then empty_journal (next_name old) else writer.written_out old.journal
 
-  pub synced_stands : (long : Bool) → memory.StandsFor (synced_memory long) table (synced_state long)
+  pub synced_stands : (long : Bool) → memory.MemoryStandsFor (synced_memory long) table (synced_state long)
   synced_stands true =
       law.a_journal_rotation_stands old.memory table s stands.remembered (writer.written_out old.journal).len (λ i. writer.counted (sym stands.journal i + sym stands.buffer i))
   synced_stands false = law.other_parts_stand old.memory table s stands.remembered (written_out s.parts 0) stands.remembered.next_table refl refl refl refl
@@ -97,8 +97,8 @@ module _ (old new : Held) (s : State) (stands : StandsFor old s) where
       let m = synced_memory long in
       let t = machine.flush_out (synced_state long) id in
       subst (λ (b : Bool). StandsFor new (machine.flush_out (synced_state b) id)) (sym long_agrees) (record {
-        remembered = subst (λ (x : Remembered). memory.StandsFor x new.catalog.next_table_id t) (sym begins.memory_is)
-            (subst (λ c. memory.StandsFor (memory.flush_out id m) c t) (ap (λ c. c.next_table_id) (sym begins.catalog)) (a_begun_flush_stands m table (synced_state long) (synced_stands long) id (job_left free)));
+        remembered = subst (λ (x : Remembered). memory.MemoryStandsFor x new.catalog.next_table_id t) (sym begins.memory_is)
+            (subst (λ c. memory.MemoryStandsFor (memory.flush_out id m) c t) (ap (λ c. c.next_table_id) (sym begins.catalog)) (a_begun_flush_stands m table (synced_state long) (synced_stands long) id (job_left free)));
         journal = synced_len long ∙ ap (λ (j : Journal). j.len) (sym begins.journal);
         buffer = synced_buffer long ∙ ap (λ (j : Journal). length j.buffer) (sym begins.journal);
       })
@@ -119,9 +119,9 @@ module _ (old new : Held) (s : State) (stands : StandsFor old s) where
   -- ---- a flush that is finished
 
   -- memory became what stands for a state of the same lengths
-  becomes_stands : (after : Remembered) (t : State) → Becomes old after new → memory.StandsFor after table t → t.parts.journal ≡ s.parts.journal → t.parts.buffer ≡ s.parts.buffer → StandsFor new t
+  becomes_stands : (after : Remembered) (t : State) → Becomes old after new → memory.MemoryStandsFor after table t → t.parts.journal ≡ s.parts.journal → t.parts.buffer ≡ s.parts.buffer → StandsFor new t
   becomes_stands after t becomes held journal buffer = record {
-    remembered = subst (λ (m : Remembered). memory.StandsFor m new.catalog.next_table_id t) (sym becomes.memory_is) (subst (λ c. memory.StandsFor after c t) (ap (λ c. c.next_table_id) (sym becomes.catalog)) held);
+    remembered = subst (λ (m : Remembered). memory.MemoryStandsFor m new.catalog.next_table_id t) (sym becomes.memory_is) (subst (λ c. memory.MemoryStandsFor after c t) (ap (λ c. c.next_table_id) (sym becomes.catalog)) held);
     journal = journal ∙ stands.journal ∙ ap (λ (j : Journal). j.len) (sym becomes.journal);
     buffer = buffer ∙ stands.buffer ∙ ap (λ (j : Journal). length j.buffer) (sym becomes.journal);
   }
@@ -130,10 +130,10 @@ module _ (old new : Held) (s : State) (stands : StandsFor old s) where
   abbrev flushed_parts : (id : ℕ) (mid : Remembered) → FlushedInMemory old.memory id mid → Parts
   flushed_parts id mid f = machine.flushed id f.begun.out f.tables f.made.lists f.readers s.parts
 
-  flushed_there : (id : ℕ) (mid : Remembered) (f : FlushedInMemory old.memory id mid) → Flushed s.parts id (flushed_parts id mid f) × memory.StandsFor mid table (record s { parts = flushed_parts id mid f })
+  flushed_there : (id : ℕ) (mid : Remembered) (f : FlushedInMemory old.memory id mid) → Flushed s.parts id (flushed_parts id mid f) × memory.MemoryStandsFor mid table (record s { parts = flushed_parts id mid f })
   flushed_there id mid f =
       let both = a_finished_flush_stands old.memory table s stands.remembered id f.task f.begun f.tables f.clears f.made f.k f.lives f.readers f.infos in
-      (both.0, subst (λ (m : Remembered). memory.StandsFor m table (record s { parts = flushed_parts id mid f })) (sym f.is) both.1)
+      (both.0, subst (λ (m : Remembered). memory.MemoryStandsFor m table (record s { parts = flushed_parts id mid f })) (sym f.is) both.1)
 
   finished : (job : JobId) (reply : Reply) → reply ≡ Flag true → old.memory.poisoned ≡ false → (mid : Remembered) → FlushedInMemory old.memory job.keyspace_id mid → Becomes old (evicted_in_memory mid) new
       → (t : State) × StandsFor new t × FinishesFlush true true s job reply t
@@ -195,20 +195,20 @@ module _ (old new : Held) (s : State) (stands : StandsFor old s) where
     small = let numbered = may.numbered in let same = same_next long in omega (arith, numbered, same)
 
     -- what was ingested behind the sync
-    ingested_there : (mid : Remembered) → IngestedInMemory (journal_synced old) id all mid → (t : State) × Ingests (synced_state long) id all t × memory.StandsFor mid table t
+    ingested_there : (mid : Remembered) → IngestedInMemory (journal_synced old) id all mid → (t : State) × Ingests (synced_state long) id all t × memory.MemoryStandsFor mid table t
     ingested_there mid f =
         let way = an_ingestion_stands (synced_memory long) table (synced_state long) (synced_stands long) id f.k f.lives all (λ same. let bad : ⊥ = cc in bad) small may.fits f.flushes f.made f.readers f.makes in
-        (way.0, way.1, subst (λ (m : Remembered). memory.StandsFor m table way.0) (sym f.is) way.2)
+        (way.0, way.1, subst (λ (m : Remembered). memory.MemoryStandsFor m table way.0) (sym f.is) way.2)
 
     -- the state is synced as the core is
     ingests_there : (t : State) → Ingests (synced_state long) id all t → Ingests (machine.journal_synced s) id all t
     ingests_there t = subst (λ (b : Bool). Ingests (synced_state b) id all t) (sym long_agrees)
 
-    ingested_stands : (mid : Remembered) (t : State) → Ingests (synced_state long) id all t → memory.StandsFor mid table t → new.memory ≡ evicted_in_memory mid → new.catalog ≡ old.catalog → new.journal ≡ synced_writer long
+    ingested_stands : (mid : Remembered) (t : State) → Ingests (synced_state long) id all t → memory.MemoryStandsFor mid table t → new.memory ≡ evicted_in_memory mid → new.catalog ≡ old.catalog → new.journal ≡ synced_writer long
         → StandsFor new (machine.evicted t)
     ingested_stands mid t ingests held memory_is catalog journal = record {
-      remembered = subst (λ (m : Remembered). memory.StandsFor m new.catalog.next_table_id (machine.evicted t)) (sym memory_is)
-          (subst (λ c. memory.StandsFor (evicted_in_memory mid) c (machine.evicted t)) (ap (λ c. c.next_table_id) (sym catalog)) (an_eviction_stands mid table t held));
+      remembered = subst (λ (m : Remembered). memory.MemoryStandsFor m new.catalog.next_table_id (machine.evicted t)) (sym memory_is)
+          (subst (λ c. memory.MemoryStandsFor (evicted_in_memory mid) c (machine.evicted t)) (ap (λ c. c.next_table_id) (sym catalog)) (an_eviction_stands mid table t held));
       journal = ap (λ (x : State). x.parts.journal) ingests.is ∙ synced_len long ∙ ap (λ (j : Journal). j.len) (sym journal);
       buffer = ap (λ (x : State). x.parts.buffer) ingests.is ∙ synced_buffer long ∙ ap (λ (j : Journal). length j.buffer) (sym journal);
     }
@@ -237,14 +237,14 @@ module _ (old new : Held) (s : State) (stands : StandsFor old s) where
   -- ---- faults
 
   -- what a core is after a fault, where this was left of it
-  poisons : (left : Remembered) (t : State) → Poisons left old new → memory.StandsFor left table t → (u : State) × StandsFor new u × IsPoisoned t u
+  poisons : (left : Remembered) (t : State) → Poisons left old new → memory.MemoryStandsFor left table t → (u : State) × StandsFor new u × IsPoisoned t u
   poisons left t fault held = (poisoned_state new t, poisoned_stands left old new table t fault held, record { is = refl; trees = refl; entries = refl; records = refl; journals = refl })
 
   -- some journals went before it
-  some_gone : (m left : Remembered) (t : State) → memory.StandsFor m table t → EvictsInMemory m left → Poisons left old new → (mid : State) × (u : State) × EvictsSome t mid × StandsFor new u × IsPoisoned mid u
+  some_gone : (m left : Remembered) (t : State) → memory.MemoryStandsFor m table t → EvictsInMemory m left → Poisons left old new → (mid : State) × (u : State) × EvictsSome t mid × StandsFor new u × IsPoisoned mid u
   some_gone m left t held (gone, rest, stopped, is) fault =
       let mid = machine.with_sealed rest t in
-      let way = poisons left mid fault (subst (λ (x : Remembered). memory.StandsFor x table mid) (sym is) (with_sealed_stands m table t held rest)) in
+      let way = poisons left mid fault (subst (λ (x : Remembered). memory.MemoryStandsFor x table mid) (sym is) (with_sealed_stands m table t held rest)) in
       (mid, way.0, some_evicted m table t held gone rest stopped, way.1, way.2)
 
   due_there : (job : JobId) → IsDueToFinish old job → machine.IsDueToFinish s job
@@ -262,7 +262,7 @@ module _ (old new : Held) (s : State) (stands : StandsFor old s) where
       (way.1, way.3, (due_there job due, stands.remembered.poisoned ∙ well, inr (parts, way.0, flushed.0, way.2, way.4)))
 
   -- the state after a fault in one that was synced
-  fails_synced : (left : State → State) (m : Remembered) → Poisons m old new → memory.StandsFor m table (left (synced_state (is_long old.journal)))
+  fails_synced : (left : State → State) (m : Remembered) → Poisons m old new → memory.MemoryStandsFor m table (left (synced_state (is_long old.journal)))
       → (u : State) × StandsFor new u × IsPoisoned (left (machine.journal_synced s)) u
   fails_synced left m fault held =
       let way = poisons m (left (synced_state (is_long old.journal))) fault held in
@@ -291,7 +291,7 @@ module _ (old new : Held) (s : State) (stands : StandsFor old s) where
         )),
       )
 
-  pub work_steps : (shape : Shape) (error : Error) → held_due old shape ≡ None → (RestsOnTables old shape (Refused error) → ⊥) → WorkPoisons old shape new → (t : State) × StandsFor new t × WorkFails shape s t
+  pub work_steps : (shape : CallShape) (error : Error) → held_due old shape ≡ None → (RestsOnTables old shape (Refused error) → ⊥) → WorkPoisons old shape new → (t : State) × StandsFor new t × WorkFails shape s t
   work_steps (OfFlushBegin id) error none bare (begins, free, fault) =
       let way = poisons old.memory s fault stands.remembered in
       (way.0, way.1, (beginning_agrees old.memory table s stands.remembered id ∙ begins, used_up_agrees ∙ free, way.2))
@@ -319,7 +319,7 @@ module _ (old new : Held) (s : State) (stands : StandsFor old s) where
 
 -- the record behind an ingestion is too long, or the one behind the flush before it
 abbrev IsTooLong : ℕ → lsm.Shape → List KeyOp → (flushes made : List MadeTable) → Fields → Type 0
-IsTooLong n tree items flushes made last = (2 ^ 32 ≤ length (body (last_flushed tree flushes last))) ⊎ (AreOf n items made × (2 ^ 32 ≤ length (body (last_ingested n tree flushes made last))))
+IsTooLong n tree items flushes made last = (2 ^ 32 ≤ length (body (last_flushed tree flushes last))) ⊎ (AreIngestionTables n items made × (2 ^ 32 ≤ length (body (last_ingested n tree flushes made last))))
 
 module _ (old : Held) (s : State) (stands : StandsFor old s) where
   abbrev at : ℕ
@@ -328,7 +328,7 @@ module _ (old : Held) (s : State) (stands : StandsFor old s) where
   is_due : (job : JobId) → IsDueToFinish old job → machine.IsDueToFinish s job
   is_due job (out, takes) = (out_agrees old.memory at s stands.remembered job ∙ out, takes_there old old s stands job ∙ takes)
 
-  pub same_asks : (shape : Shape) → held_due old shape ≡ None → AsksMemory old shape → machine.AsksMemory s shape
+  pub same_asks : (shape : CallShape) → held_due old shape ≡ None → AsksMemory old shape → machine.AsksMemory s shape
   same_asks (OfFlushBegin id) none (begins, free) = (beginning_agrees old.memory at s stands.remembered id ∙ begins, used_up_agrees old old s stands ∙ free)
   same_asks (OfFlushFinish job) none (due, well) = (is_due job due, stands.remembered.poisoned ∙ well)
   same_asks (OfMergeBegin kind id) none (begins, left) = (merge_begins_there old s stands kind id none ∙ begins, subst (λ (n : ℕ). n < 2 ^ 64 - 1) (sym stands.remembered.next_job) left)
@@ -346,7 +346,7 @@ module _ (old : Held) (s : State) (stands : StandsFor old s) where
   same_asks (OfPersist mode) none takes = takes
   same_asks (OfCount count) none takes = takes
 
-  pub same_late : (shape : Shape) → FinishesLate old shape → machine.FinishesLate s shape
+  pub same_late : (shape : CallShape) → FinishesLate old shape → machine.FinishesLate s shape
   same_late (OfFlushFinish job) (due, ill) = (is_due job due, stands.remembered.poisoned ∙ ill)
   same_late (OfFlushBegin id) late = absurd late
   same_late (OfMergeBegin kind id) late = absurd late
@@ -392,7 +392,7 @@ module _ (old : Held) (s : State) (stands : StandsFor old s) where
         long = subst (λ (x : ℕ × Memory × Fields). IsTooLong x.0 (record tree { memory = x.1 }) items lacks.flushes lacks.made x.2) (λ i. (sym stands.remembered.number i, alike.memory i, sym record_is i)) lacks.long;
       }
 
-  pub same_used : (shape : Shape) (error : Error) → held_due old shape ≡ None → (RestsOnTables old shape (Refused error) → ⊥) → UsesUp old shape → machine.UsesUp s shape
+  pub same_used : (shape : CallShape) (error : Error) → held_due old shape ≡ None → (RestsOnTables old shape (Refused error) → ⊥) → UsesUp old shape → machine.UsesUp s shape
   same_used (OfFlushBegin id) error none bare (begins, used) = (beginning_agrees old.memory at s stands.remembered id ∙ begins, used_up_agrees old old s stands ∙ used)
   same_used (OfFlushFinish job) error none bare (due, well, (k, lives, last)) =
       (is_due job due, stands.remembered.poisoned ∙ well, ap (λ (r : Fields). r.next_table_id) (known_record old.memory at s stands.remembered job.keyspace_id k lives) ∙ last)
@@ -413,7 +413,7 @@ module _ (old : Held) (s : State) (stands : StandsFor old s) where
   same_used (OfPersist mode) error none bare used = absurd used
   same_used (OfCount count) error none bare used = absurd used
 
-  pub same_room : (shape : Shape) (error : Error) → (RestsOnTables old shape (Refused error) → ⊥) → HasNoRoom old shape → machine.HasNoRoom s shape
+  pub same_room : (shape : CallShape) (error : Error) → (RestsOnTables old shape (Refused error) → ⊥) → HasNoRoom old shape → machine.HasNoRoom s shape
   same_room (OfFlushFinish job) error bare (due, well, (k, lives, lacks)) =
       let id = job.keyspace_id in
       let alike = same_in id s.parts.trees old.memory.trees stands.remembered.trees in

@@ -15,7 +15,7 @@ use Rattle.fjall_commit.specs.declared.creation.Creation.{Creation}
 use Rattle.fjall_commit.specs.Changes.{IsCreation}
 use Rattle.fjall_commit.specs.Journaling.{is_out}
 use Rattle.fjall_commit.specs.Removals.{RemovesOwn}
-use Rattle.fjall_state.specs.Remembered.{poisoned, with_change}
+use Rattle.fjall_machine.specs.Remembered.{poisoned, with_change}
 use Rattle.fjall_core.specs.Holding.{Held}
 use Rattle.fjall_core.specs.Crashes.{is_io}
 use Rattle.fjall_commit.specs.SyncedChanges.{CreatedKeyspace, SyncsThenChanges, DeletedKeyspace}

@@ -7,10 +7,10 @@ use Rattle.fjall_base.specs.declared.error.Error.{Error}
 use Rattle.fjall_base.specs.declared.error.Error.TheVariants.{Io, Poisoned}
 use Rattle.fjall_journal.specs.declared.persist_mode.PersistMode.{PersistMode}
 use Rattle.fjall_journal.specs.Writer.{Journal, PersistTook, persist_steps}
-use Rattle.fjall_state.specs.Shapes.{OfPersist}
+use Rattle.fjall_machine.specs.Shapes.{OfPersist}
 use Rattle.fjall_history.specs.declared.reply.Reply.TheVariants.{Done, Refused}
-use Rattle.fjall_state.specs.Machine.{first_due}
-use Rattle.fjall_state.specs.Remembered.{Remembered, poisoned}
+use Rattle.fjall_machine.specs.Machine.{first_due}
+use Rattle.fjall_machine.specs.Remembered.{Remembered, poisoned}
 use Rattle.fjall_core.specs.Holding.{Held}
 use Rattle.fjall_core.specs.Standing.{HandsOver, Owes, OwesRefusal, Serves, held_due}
 use Rattle.fjall_core.proofs.Refusals.{no_sync}

@@ -5,15 +5,15 @@ use Rattle.fjall_base.specs.declared.error.Error.TheVariants.{Io}
 use Rattle.fjall_jobs.specs.declared.flush_made.FlushMade.{FlushMade}
 use Rattle.fjall_jobs.specs.Flushes.{flush_task}
 use Rattle.fjall_journal.specs.Writer.{IsIo}
-use Rattle.fjall_loading.specs.Known.{last_known}
-use Rattle.fjall_lsm.specs.Jobs.{IsFlushing}
+use Rattle.fjall_recovery.specs.Known.{last_known}
+use Rattle.fjall_tree.specs.Jobs.{IsFlushing}
 use Rattle.fjall_meta.specs.declared.living.LivingKeyspace.{LivingKeyspace}
 use Rattle.fjall_meta.specs.Keyspaces.{keyspace_at}
 use Rattle.fjall_trees.specs.Tables.{shape_in}
-use Rattle.fjall_state.specs.Finishing.{ForFlush, IsFinishRefusal, keyspace_of}
-use Rattle.fjall_state.specs.Machine.{flush_with, is_living}
-use Rattle.fjall_state.specs.Remembered.{poisoned}
-use Rattle.fjall_state.proofs.Facts.{living_names, some_there}
+use Rattle.fjall_machine.specs.Finishing.{ForFlush, IsFinishRefusal, keyspace_of}
+use Rattle.fjall_machine.specs.Machine.{flush_with, is_living}
+use Rattle.fjall_machine.specs.Remembered.{poisoned}
+use Rattle.fjall_machine.proofs.Facts.{living_names, some_there}
 use Rattle.fjall_core.specs.Holding.{Held}
 use Rattle.fjall_core.specs.CallParts.{Evicts, Finishes, Puts, WroteFlush}
 use Rattle.fjall_core.specs.Crashes.{is_io}

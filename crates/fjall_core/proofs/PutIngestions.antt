@@ -2,11 +2,11 @@
 use Rattle.std.proofs.Common.{◌≡◌, inr, ℕ, ◌+◌, ◌<◌, ◌≤◌, ◌^◌, true, List, [], length, vec_capacity, Result, Ok, Err, sym, ◌∙◌, ap, subst}
 use Rattle.std.specs.FinMap.{contains_key}
 use Rattle.fjall_base.specs.declared.error.Error.{Error}
-use Rattle.fjall_state.specs.PlannedIngestion.{PlannedIngestion}
-use Rattle.fjall_lsm.specs.Trees.{clears_of}
-use Rattle.fjall_state.specs.Ingesting.{IsPlanned}
-use Rattle.fjall_state.specs.Remembered.{Remembered}
-use Rattle.fjall_tree.specs.Records.{Fields}
+use Rattle.fjall_compaction.specs.declared.ingestion.whole.PlannedIngestion.{PlannedIngestion}
+use Rattle.fjall_tree.specs.Trees.{clears_of}
+use Rattle.fjall_machine.specs.Ingesting.{IsPlanned}
+use Rattle.fjall_machine.specs.Remembered.{Remembered}
+use Rattle.fjall_manifest.specs.Records.{Fields}
 use Rattle.fjall_trees.specs.Tables.{shape_in}
 use Rattle.fjall_writes.specs.Ingestions.{KeyOp}
 use Rattle.fjall_core.specs.Holding.{Held}

@@ -7,13 +7,13 @@ use Rattle.fjall_base.specs.Errors.{IsFault}
 use Rattle.fjall_jobs.specs.declared.merge_made.MergeMade.{MergeMade}
 use Rattle.fjall_jobs.specs.Merges.{merge_task}
 use Rattle.fjall_journal.specs.Writer.{IsIo}
-use Rattle.fjall_loading.specs.Known.{last_known}
-use Rattle.fjall_lsm.specs.Jobs.{is_merge_out}
+use Rattle.fjall_recovery.specs.Known.{last_known}
+use Rattle.fjall_tree.specs.Jobs.{is_merge_out}
 use Rattle.fjall_trees.specs.Tables.{shape_in}
-use Rattle.fjall_state.specs.Machine.{is_living}
-use Rattle.fjall_state.specs.Merging.{ForMerge, IsMergeRefusal, counted_as, keyspace_of}
-use Rattle.fjall_state.specs.Remembered.{poisoned, with_merge_done}
-use Rattle.fjall_state.proofs.MergeFinishing.{merge_there}
+use Rattle.fjall_machine.specs.Machine.{is_living}
+use Rattle.fjall_machine.specs.Merging.{ForMerge, IsMergeRefusal, counted_as, keyspace_of}
+use Rattle.fjall_machine.specs.Remembered.{poisoned, with_merge_done}
+use Rattle.fjall_machine.proofs.MergeFinishing.{merge_there}
 use Rattle.fjall_core.specs.Holding.{Held}
 use Rattle.fjall_core.specs.CallParts.{Merges, PutsMerge, TakesAway, TookAway, WroteMerge}
 use Rattle.fjall_core.specs.Crashes.{is_io}

@@ -2,13 +2,13 @@
 use Rattle.std.proofs.Common.{◌≡◌, ◌⊎◌, inl, inr, ℕ, List, [], ◌∷◌, Option, Some, None, refl, sym, subst}
 use Rattle.fjall_base.specs.declared.error.Error.{Error}
 use Rattle.fjall_base.specs.declared.error.Error.TheVariants.{Io, NumbersUsedUp, OutOfMemory, Poisoned, Storage, TooManyItems, ValueTooLong}
-use Rattle.fjall_blocks.specs.Readers.{Reader}
+use Rattle.fjall_table_reader.specs.Readers.{Reader}
 use Rattle.fjall_history.specs.declared.reply.Reply.{Reply}
 use Rattle.fjall_history.specs.declared.reply.Reply.TheVariants.{Refused}
 use Rattle.fjall_history.specs.declared.ticket.View.{View}
 use Rattle.fjall_history.specs.Queries.{Query}
-use Rattle.fjall_state.specs.Shapes.{OfRead}
-use Rattle.fjall_state.specs.Machine.{MayFail, Refuses, State, StepOf, due}
+use Rattle.fjall_machine.specs.Shapes.{OfRead}
+use Rattle.fjall_machine.specs.Machine.{MayFail, Refuses, State, StepOf, due}
 use Rattle.fjall_core.specs.Holding.{Held}
 use Rattle.fjall_core.specs.Standing.{LeadsOn, LooksAt, Owes, OwesRefusal, ReadsOn, Serves, StandsFor, held_due, tables_of}
 use Rattle.fjall_core.proofs.OwedStates.{looked_stands, still}

@@ -3,33 +3,32 @@ use Rattle.std.proofs.Common.{◌≡◌, inl, inr, ℕ, Bool, true, false, if◌
 use Rattle.std.proofs.lemmas.Bool.{true≢false}
 use Rattle.std.specs.declared.alloc.Global.{Global}
 use Rattle.fjall_base.specs.Pairs.{Bytes, KeyRange, Pairs, lookup, page, pairs_between}
-use Rattle.fjall_base.specs.Store.{Command}
+use Rattle.fjall_base.specs.Store.{Command, map_at}
 use Rattle.fjall_base.specs.declared.error.Error.{Error}
 use Rattle.fjall_base.specs.declared.error.Error.TheVariants.{Io, OutOfMemory, Storage}
 use Rattle.fjall_files.proofs.Tidying.{stays_none}
 use Rattle.fjall_table.specs.Blocks.{Entry}
-use Rattle.fjall_blocks.specs.Readers.{LooksOn, Reader, SomeTableIsWrong}
+use Rattle.fjall_table_reader.specs.Readers.{LooksOn, Reader, SomeTableIsWrong}
 use Rattle.fjall_commit.proofs.KeptHomes.{homes_none}
 use Rattle.fjall_recovery.specs.Refusals.{HasRisen}
 use Rattle.fjall_trees.specs.Tables.{AreReadOn, AreSameTrees}
-use Rattle.fjall_maps.specs.Maps.{pairs_in}
-use Rattle.fjall_maps.specs.Tables.{pairs_with}
+use Rattle.fjall_trees.specs.Maps.{pairs_in}
+use Rattle.fjall_trees.specs.MapTables.{pairs_with}
 use Rattle.fjall_history.specs.declared.ticket.View.{View}
 use Rattle.fjall_history.specs.declared.ticket.View.TheVariants.{At, Present}
 use Rattle.fjall_history.specs.declared.reply.Reply.{Reply}
 use Rattle.fjall_history.specs.declared.reply.Reply.TheVariants.{Pairs as PairsIs, Refused, Value}
 use Rattle.fjall_history.specs.Queries.{Get, Page, Query, Tells}
-use Rattle.fjall_state.specs.Shapes.{OfRead}
-use Rattle.fjall_state.specs.Reads.{IsReadRefusal}
-use Rattle.fjall_base.specs.Store.{map_at}
-use Rattle.fjall_state.specs.Machine.{HasTables, State, first_due, is_among, maps_in, view_refusals}
-use Rattle.fjall_state.specs.Remembered.{facts_of, instant_in, with_trees}
-use Rattle.fjall_state.proofs.Refusing.{read_steps}
-use Rattle.fjall_state.proofs.Standing as law
+use Rattle.fjall_machine.specs.Shapes.{OfRead}
+use Rattle.fjall_machine.specs.Reads.{IsReadRefusal}
+use Rattle.fjall_machine.specs.Machine.{HasTables, State, first_due, is_among, maps_in, view_refusals}
+use Rattle.fjall_machine.specs.Remembered.{facts_of, instant_in, with_trees}
+use Rattle.fjall_machine.proofs.Refusing.{read_steps}
+use Rattle.fjall_machine.proofs.Standing as law
 use Rattle.fjall_core.specs.Holding.{Held}
 use Rattle.fjall_core.specs.Crashes.{is_io}
 use Rattle.fjall_core.specs.Durables.{Durable}
-use Rattle.fjall_core.specs.Standing.{DiskRead, GivesRead, IsOfKind, Looks, LooksAt, OnDisk, Owes, OwesRefusal, ReadsOn, Serves, StandsFor, StandsOn, held_due, pairs_reply, tables_of, value_reply}
+use Rattle.fjall_core.specs.Standing.{DiskRead, GivesRead, IsAnswerTo, Looks, LooksAt, OnDisk, Owes, OwesRefusal, ReadsOn, Serves, StandsFor, StandsOn, held_due, pairs_reply, tables_of, value_reply}
 use Rattle.fjall_core.proofs.KeptEntries.{step_keeps}
 use Rattle.fjall_core.proofs.DeviceFaults.{risen_blames}
 use Rattle.fjall_core.proofs.JournalWrites.{Leads}
@@ -81,7 +80,7 @@ module _ (honest : Bool) (old new : Held) (view : View) (id : ℕ) (query : Quer
 
   -- ---- what it owes
 
-  gives_read : (reply : Reply) → IsOfKind query reply → (tables_of old id ≡ [] → Tells query (pairs_in id (instant_in old.memory view) old.memory.trees) reply) → (tables : List Reader) → tables_of old id ≡ tables → GivesRead tables old view id query reply
+  gives_read : (reply : Reply) → IsAnswerTo query reply → (tables_of old id ≡ [] → Tells query (pairs_in id (instant_in old.memory view) old.memory.trees) reply) → (tables : List Reader) → tables_of old id ≡ tables → GivesRead tables old view id query reply
   gives_read reply kind tells [] is = tells is
   gives_read reply kind tells (t ∷ tables) is = kind
 
@@ -160,10 +159,6 @@ module _ (honest : Bool) (old new : Held) (view : View) (id : ℕ) (query : Quer
 
   answered_on : IsTrue honest → DiskRead (tables_of old id) old new
   answered_on h = disk_read h (tables_of old id) refl
-
-  -- an answer that tells what a state's view has
-  none_due : held_due old (OfRead view id query) ≡ None → first_due (view_refusals (facts_of old.memory old.catalog.next_table_id) view id) ≡ None
-  none_due none = none
 
   view_has : (s : State) (reply : Reply) → StandsFor old s → ReadsOn old s → held_due old (OfRead view id query) ≡ None
       → ((entries : ℕ → List (List Entry)) → AreReadOn old.disk old.memory.trees entries → Tells query (pairs_with entries id (instant_in old.memory view) old.memory.trees) reply) → Tells query (map_at (maps_in s view) id) reply

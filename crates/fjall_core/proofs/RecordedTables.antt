@@ -5,40 +5,40 @@ use Rattle.std.proofs.lemmas.List.{drop-map, map-append}
 use Rattle.std.proofs.lemmas.List.Elements.{All-filter, All-map, All-push}
 use Rattle.fjall_base.specs.declared.error.Error.{Error}
 use Rattle.fjall_base.specs.declared.error.Error.TheVariants.{Io, NumbersUsedUp, OutOfMemory, Poisoned, Storage, TooManyItems, ValueTooLong}
-use Rattle.fjall_blocks.specs.Readers.{Reader}
+use Rattle.fjall_table_reader.specs.Readers.{Reader}
 use Rattle.fjall_catalog.specs.Catalog.{fields, first_of}
-use Rattle.fjall_state.specs.Flushes.{infos_from}
-use Rattle.fjall_state.specs.Flushes as flushes
-use Rattle.fjall_state.proofs.FlushReading.{infos_both}
+use Rattle.fjall_compaction.specs.Flushes.{infos_from}
+use Rattle.fjall_compaction.specs.Flushes as flushes
+use Rattle.fjall_compaction.proofs.FlushReading.{infos_both}
 use Rattle.fjall_history.specs.Histories.{number}
 use Rattle.fjall_history.specs.declared.reply.Reply.{Reply}
 use Rattle.fjall_history.specs.declared.reply.Reply.TheVariants.{Refused}
-use Rattle.fjall_state.specs.Whole.{last_ingested, memory_flush}
-use Rattle.fjall_state.proofs.Preparing.{nothing_there}
-use Rattle.fjall_state.proofs.WholeMemory.{none_listed, none_made, nothing_made}
+use Rattle.fjall_compaction.specs.Whole.{last_ingested, memory_flush}
+use Rattle.fjall_compaction.proofs.Preparing.{nothing_there}
+use Rattle.fjall_compaction.proofs.WholeMemory.{none_listed, none_made, nothing_made}
 use Rattle.fjall_jobs.specs.declared.made_table.MadeTable.{MadeTable}
 use Rattle.fjall_jobs.specs.Tasks.{IsFlushed}
 use Rattle.fjall_journal.specs.Changes.{Emptied, Items}
-use Rattle.fjall_lsm.specs.Ingestions.{has_memory, ingested, memory_task}
-use Rattle.fjall_lsm.specs.Jobs.{flush_begun, flush_dropped, flush_finished, merge_begun, merge_dropped, merge_finished}
-use Rattle.fjall_lsm.specs.Puts.{bare_tree}
-use Rattle.fjall_lsm.specs.Trees.{Flushing, Merging, Shape as Tree, sealed_off}
-use Rattle.fjall_state.specs.MergeFinishing as counting
-use Rattle.fjall_state.specs.Merges as merges
-use Rattle.fjall_parts.specs.Parts.{clears_in, parts_of}
-use Rattle.fjall_sorted.specs.Sorted.{flat}
-use Rattle.fjall_state.specs.Machine.{Answers, BeginsFlush, BeginsMerge, CreatesOrFinds, EvictsSome, FinishesFlush, FinishesMerge, FlushesIn, IngestionFails, Ingests, IngestsInto, IsPoisoned, MayFail, MergesIn, Parts, Refuses, State, StepOf, WorkFails, at_fault}
-use Rattle.fjall_state.specs.Machine as machine
-use Rattle.fjall_state.specs.Shapes.{OfChange, OfCount, OfCreation, OfDeletion, OfFlushBegin, OfFlushFinish, OfHandle, OfIngestion, OfJournalRotation, OfMaintenance, OfMergeBegin, OfMergeFinish, OfPersist, OfRead, OfRotation, OfTickets, OneLess, OneMore, Shape}
-use Rattle.fjall_state.proofs.SameTrees.{all_alike, altered_tables, back, changed_tables}
-use Rattle.fjall_state.proofs.Standing.{next_agrees}
+use Rattle.fjall_tree.specs.Ingestions.{has_memory, ingested, memory_task}
+use Rattle.fjall_tree.specs.Jobs.{flush_begun, flush_dropped, flush_finished, merge_begun, merge_dropped, merge_finished}
+use Rattle.fjall_tree.specs.Puts.{bare_tree}
+use Rattle.fjall_tree.specs.Trees.{Flushing, Merging, Shape as Tree, sealed_off}
+use Rattle.fjall_compaction.specs.MergeFinishing as counting
+use Rattle.fjall_compaction.specs.Merges as merges
+use Rattle.fjall_memtable.specs.Parts.{clears_in, parts_of}
+use Rattle.fjall_memtable.specs.Sorted.{flat}
+use Rattle.fjall_machine.specs.Machine.{Answers, BeginsFlush, BeginsMerge, CreatesOrFinds, EvictsSome, FinishesFlush, FinishesMerge, FlushesIn, IngestionFails, Ingests, IngestsInto, IsPoisoned, MayFail, MergesIn, Parts, Refuses, State, StepOf, WorkFails, at_fault}
+use Rattle.fjall_machine.specs.Machine as machine
+use Rattle.fjall_machine.specs.Shapes.{CallShape, OfChange, OfCount, OfCreation, OfDeletion, OfFlushBegin, OfFlushFinish, OfHandle, OfIngestion, OfJournalRotation, OfMaintenance, OfMergeBegin, OfMergeFinish, OfPersist, OfRead, OfRotation, OfTickets, OneLess, OneMore}
+use Rattle.fjall_machine.proofs.SameTrees.{all_alike, altered_tables, back, changed_tables}
+use Rattle.fjall_machine.proofs.Standing.{next_agrees}
 use Rattle.fjall_table.specs.declared.table_info.TableInfo.{TableInfo}
-use Rattle.fjall_tree.specs.Records.{Fields}
+use Rattle.fjall_manifest.specs.Records.{Fields}
 use Rattle.fjall_trees.specs.Forests.{Forest, Planted, altered_at}
 use Rattle.fjall_trees.specs.Forests as forests
 use Rattle.fjall_trees.specs.Tables.{shape_in}
 use Rattle.fjall_trees.specs.Writes.{with_tree}
-use Rattle.fjall_versions.proofs.Slots.{same_id}
+use Rattle.fjall_contents.proofs.Slots.{same_id}
 use Rattle.fjall_writes.specs.Ingestions.{KeyOp}
 use Rattle.fjall_core.specs.Holding.{Held}
 use Rattle.fjall_core.specs.Standing.{AreRecorded, StandsFor}
@@ -169,7 +169,7 @@ same_so s t same told = subst (λ (x : State). AreRecorded x.parts) (sym same) t
 
 -- ---- what may go wrong
 
-fault_so : (s : State) (shape : Shape) → AreRecorded s.parts → AreRecorded (at_fault s shape).parts
+fault_so : (s : State) (shape : CallShape) → AreRecorded s.parts → AreRecorded (at_fault s shape).parts
 fault_so s (OfHandle OneLess id) told = released_so s id told
 fault_so s (OfHandle OneMore id) told = told
 fault_so s (OfChange change how) told = told
@@ -194,7 +194,7 @@ ingestion_fails s t id items (inr (inl fault)) told = poisoned_so (machine.journ
 ingestion_fails s t id items (inr (inr (mid, left, ingests, evicts, fault))) told =
     poisoned_so (machine.with_sealed left.parts.journals.sealed (machine.journal_synced s)) t fault (synced_so s told)
 
-work_so : (s t : State) (shape : Shape) → WorkFails shape s t → AreRecorded s.parts → AreRecorded t.parts
+work_so : (s t : State) (shape : CallShape) → WorkFails shape s t → AreRecorded s.parts → AreRecorded t.parts
 work_so s t (OfFlushBegin id) (begins, numbered, fault) told = poisoned_so s t fault told
 work_so s t (OfFlushFinish job) (due, well, inl fault) told = poisoned_so s t fault told
 work_so s t (OfFlushFinish job) (due, well, inr (parts, mid, flushes, evicts, fault)) told =
@@ -218,7 +218,7 @@ work_so s t (OfTickets call) fails told = absurd fails
 work_so s t (OfPersist mode) fails told = absurd fails
 work_so s t (OfCount count) fails told = absurd fails
 
-failure_so : (s t : State) (shape : Shape) (error : Error) → MayFail shape error s t → AreRecorded s.parts → AreRecorded t.parts
+failure_so : (s t : State) (shape : CallShape) (error : Error) → MayFail shape error s t → AreRecorded s.parts → AreRecorded t.parts
 failure_so s t shape (Io kind) (inl (changes, fault)) told = poisoned_so (at_fault s shape) t fault (fault_so s shape told)
 failure_so s t shape (Io kind) (inr (inl (reads, same))) told = same_so s t same told
 failure_so s t shape (Io kind) (inr (inr fails)) told = work_so s t shape fails told
@@ -230,7 +230,7 @@ failure_so s t shape NumbersUsedUp (used, same) told = same_so s t same told
 failure_so s t shape TooManyItems (room, same) told = same_so s t same told
 failure_so s t shape error fails told = absurd fails
 
-refusal_so : (s t : State) (shape : Shape) (error : Error) (first : Option Error) → Refuses first shape error s t → AreRecorded s.parts → AreRecorded t.parts
+refusal_so : (s t : State) (shape : CallShape) (error : Error) (first : Option Error) → Refuses first shape error s t → AreRecorded s.parts → AreRecorded t.parts
 refusal_so s t shape error (Some first) (is, same) told = same_so s t same told
 refusal_so s t shape error None fails told = failure_so s t shape error fails told
 
@@ -282,7 +282,7 @@ ingestion_so s t id [] reply (tells, same) told = same_so s t same told
 ingestion_so s t id (item ∷ items) reply (tells, left, mid, ingests, is) told =
     subst (λ (x : State). AreRecorded x.parts) (sym is) (recorded_ingestion (machine.journal_synced s) mid id (item ∷ items) ingests (synced_so s told))
 
-answer_so : (s t : State) (shape : Shape) (reply : Reply) → AreGiven s → Answers s shape reply t → AreRecorded s.parts → AreRecorded t.parts
+answer_so : (s t : State) (shape : CallShape) (reply : Reply) → AreGiven s → Answers s shape reply t → AreRecorded s.parts → AreRecorded t.parts
 answer_so s t (OfChange (Items []) how) reply given (tells, is) told = same_so s t is told
 answer_so s t (OfChange (Items (item ∷ items)) how) reply given (tells, is) told =
     subst (λ (x : State). AreRecorded x.parts) (sym is) (changed_tables (Lists s.parts.records) s.parts.trees told (number s.history) (Items (item ∷ items)))
@@ -306,12 +306,12 @@ answer_so s t (OfTickets call) reply given (turns, is) told = subst (λ (x : Sta
 answer_so s t (OfPersist mode) reply given (tells, is) told = subst (λ (x : State). AreRecorded x.parts) (sym is) told
 answer_so s t (OfCount count) reply given (tells, same) told = same_so s t same told
 
-step_so : (s t : State) (shape : Shape) (reply : Reply) → AreGiven s → StepOf s shape reply t → AreRecorded s.parts → AreRecorded t.parts
+step_so : (s t : State) (shape : CallShape) (reply : Reply) → AreGiven s → StepOf s shape reply t → AreRecorded s.parts → AreRecorded t.parts
 step_so s t shape (Refused error) given refuses told = refusal_so s t shape error (machine.due s shape) refuses told
 step_so s t shape reply given (none, answers) told = answer_so s t shape reply given answers told
 
 -- where a core stands for the state before
-pub recorded_step : (core : Held) (s t : State) (shape : Shape) (reply : Reply) → StandsFor core s → StepOf s shape reply t → AreRecorded s.parts → AreRecorded t.parts
+pub recorded_step : (core : Held) (s t : State) (shape : CallShape) (reply : Reply) → StandsFor core s → StepOf s shape reply t → AreRecorded s.parts → AreRecorded t.parts
 recorded_step core s t shape reply stands =
     let m = core.memory in
     let held = stands.remembered in

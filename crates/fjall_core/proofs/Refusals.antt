@@ -8,16 +8,16 @@ use Rattle.fjall_base.specs.Store.{Command, Create, Delete}
 use Rattle.fjall_base.specs.declared.error.Error.{Error}
 use Rattle.fjall_base.specs.declared.error.Error.TheVariants.{NumbersUsedUp, Poisoned, SnapshotClosed}
 use Rattle.fjall_journal.specs.Changes.{Change, Emptied, Items, command_of}
-use Rattle.fjall_versions.specs.Replays.{option_pairs}
+use Rattle.fjall_contents.specs.Replays.{option_pairs}
 use Rattle.fjall_history.specs.declared.ticket.View.TheVariants.{At, Present}
 use Rattle.fjall_history.specs.declared.reply.Reply.TheVariants.{Refused}
 use Rattle.fjall_history.specs.Tickets.{Tickets, ids_used_up, is_open}
-use Rattle.fjall_state.specs.Ingests.{ingestion}
+use Rattle.fjall_compaction.specs.Ingests.{ingestion}
 use Rattle.fjall_writes.specs.Ingestions.{KeyOp}
-use Rattle.fjall_state.proofs.Ascending.{may_ingest}
-use Rattle.fjall_state.proofs.Dues.{may_change}
-use Rattle.fjall_state.specs.Shapes.{Clone, Close, Collect, OfChange, OfCount, OfCreation, OfDeletion, OfFlushBegin, OfFlushFinish, OfHandle, OfIngestion, OfJournalRotation, OfMaintenance, OfMergeBegin, OfMergeFinish, OfPersist, OfRead, OfRotation, OfTickets, OneLess, OneMore, Open, Shape, TicketCall}
-use Rattle.fjall_state.specs.Machine.{Facts, State, change_refusals, clear_refusals, creation_refusals, deletion_refusals, due, due_in, facts, first_due, handle_refusals, has_name, ingestion_refusals, is_living, items_refusals, present, rotation_refusals, ticket_refusal, view_refusals, journal_refusals}
+use Rattle.fjall_machine.proofs.Ascending.{may_ingest}
+use Rattle.fjall_machine.proofs.Dues.{may_change}
+use Rattle.fjall_machine.specs.Shapes.{CallShape, Clone, Close, Collect, OfChange, OfCount, OfCreation, OfDeletion, OfFlushBegin, OfFlushFinish, OfHandle, OfIngestion, OfJournalRotation, OfMaintenance, OfMergeBegin, OfMergeFinish, OfPersist, OfRead, OfRotation, OfTickets, OneLess, OneMore, Open, TicketCall}
+use Rattle.fjall_machine.specs.Machine.{Facts, State, change_refusals, clear_refusals, creation_refusals, deletion_refusals, due, due_in, facts, first_due, handle_refusals, has_name, ingestion_refusals, is_living, items_refusals, present, rotation_refusals, ticket_refusal, view_refusals, journal_refusals}
 use Rattle.fjall_core.specs.Crashes.{IsSync, asked, attempt, is_io}
 
 -- where none is due, no cause holds
@@ -55,7 +55,7 @@ no_ticket_fault t (Clone id) = cloning_not (is_open t id) (ids_used_up t)
 no_ticket_fault t (Close id) = closing_not (is_open t id)
 no_ticket_fault t Collect = refl
 
-pub never_due : (f : Facts) (shape : Shape) → is_fault (due_in f shape) ≡ false
+pub never_due : (f : Facts) (shape : CallShape) → is_fault (due_in f shape) ≡ false
 never_due f (OfChange (Items []) how) = refl
 never_due f (OfChange (Emptied id) how) = no_fault_due (clear_refusals f id) (refl, (refl, (refl, (refl, tt))))
 never_due f (OfChange (Items (item ∷ items)) how) = no_fault_due (items_refusals f (item ∷ items)) (refl, (refl, (refl, (refl, (refl, (refl, (refl, (refl, tt))))))))
@@ -80,21 +80,17 @@ never_due f (OfPersist mode) = no_fault_due ((f.poisoned, Poisoned) ∷ []) (ref
 never_due f (OfCount count) = refl
 
 -- what is refused without a fault was not tried
-pub no_attempt : (s : State) (shape : Shape) (error : Error) → is_io error ≡ false → attempt s shape (Refused error) ≡ []
+pub no_attempt : (s : State) (shape : CallShape) (error : Error) → is_io error ≡ false → attempt s shape (Refused error) ≡ []
 no_attempt s shape error other = ap (λ b. if b then asked s shape else []) other
 
--- a fault was tried
-pub an_attempt : (s : State) (shape : Shape) (error : Error) → is_io error ≡ true → attempt s shape (Refused error) ≡ asked s shape
-an_attempt s shape error io = ap (λ b. if b then asked s shape else []) io
-
 -- and what is refused is no sync
-pub no_sync : (s : State) (shape : Shape) (error : Error) → IsSync s shape (Refused error) → ⊥
+pub no_sync : (s : State) (shape : CallShape) (error : Error) → IsSync s shape (Refused error) → ⊥
 no_sync s shape error sync = sync
 
 -- ---- what a call asks for
 
 -- A call asks for nothing, or for one command, which is refused to a poisoned engine.
-pub data Asks (s : State) (shape : Shape) : Type 0 where
+pub data Asks (s : State) (shape : CallShape) : Type 0 where
   asks_nothing : (none : asked s shape ≡ []) → Asks s shape
   asks_one : (command : Command) (is : asked s shape ≡ command ∷ []) (well : due s shape ≡ None → s.poisoned ≡ false) → Asks s shape
 
@@ -119,7 +115,7 @@ deletion_asks s id true living =
     asks_one (Delete id) (ap (λ b. if b then (Delete id ∷ []) else []) living) (λ none. and_false (is_living (present s) id) s.poisoned living (none_due (deletion_refusals (facts s) id) none).1.0)
 deletion_asks s id false living = asks_nothing (ap (λ b. if b then (Delete id ∷ []) else []) living)
 
-pub asks : (s : State) (shape : Shape) → Asks s shape
+pub asks : (s : State) (shape : CallShape) → Asks s shape
 asks s (OfChange (Items []) how) = asks_nothing refl
 asks s (OfChange (Items (item ∷ items)) how) = asks_one (command_of (Items (item ∷ items))) refl (well_change s (Items (item ∷ items)))
 asks s (OfChange (Emptied id) how) = asks_one (command_of (Emptied id)) refl (well_change s (Emptied id))

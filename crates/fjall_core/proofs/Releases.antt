@@ -19,20 +19,20 @@ use Rattle.fjall_meta.specs.Keyspaces.{AreKeyspaces, Keyspaces, keyspace_at}
 use Rattle.fjall_base.specs.Errors.{Rose}
 use Rattle.fjall_journal.specs.Writer.{Journal}
 use Rattle.fjall_table.specs.Blocks.{Entry}
-use Rattle.fjall_maps.specs.Maps.{store_of}
-use Rattle.fjall_maps.specs.Tables.{store_with}
+use Rattle.fjall_trees.specs.Maps.{store_of}
+use Rattle.fjall_trees.specs.MapTables.{store_with}
 use Rattle.fjall_trees.specs.Forests.{Planted, without}
 use Rattle.fjall_commit.proofs.KeptHomes.{homes_none, removal_others}
-use Rattle.fjall_versions.proofs.Naming.{living_names}
+use Rattle.fjall_contents.proofs.Naming.{living_names}
 use Rattle.fjall_commit.specs.Removals.{IsUnused, RemovesOwn}
 use Rattle.fjall_recovery.specs.Halves.{Tree}
 use Rattle.fjall_recovery.specs.Places.{Journaling}
-use Rattle.fjall_state.specs.Shapes.{OfHandle, OneLess}
+use Rattle.fjall_machine.specs.Shapes.{OfHandle, OneLess}
 use Rattle.fjall_history.specs.declared.reply.Reply.TheVariants.{Done, Refused}
-use Rattle.fjall_state.specs.Machine.{State, handles_of, is_living, is_unknown}
-use Rattle.fjall_state.specs.Remembered.{Remembered, is_last, poisoned, released}
-use Rattle.fjall_state.proofs.Dues.{none_due}
-use Rattle.fjall_state.proofs.Standing as law
+use Rattle.fjall_machine.specs.Machine.{State, handles_of, is_living, is_unknown}
+use Rattle.fjall_machine.specs.Remembered.{Remembered, is_last, poisoned, released}
+use Rattle.fjall_machine.proofs.Dues.{none_due}
+use Rattle.fjall_machine.proofs.Standing as law
 use Rattle.fjall_core.specs.Holding.{Held}
 use Rattle.fjall_core.specs.Durables.{Durable, Knows}
 use Rattle.fjall_core.specs.Crashes.{is_io}
@@ -134,9 +134,6 @@ recounts_of old new s id stands counts =
       journals = ap (λ (m : Remembered). m.journals) counts.memory_is;
       known = λ j t. released_knows s.parts.entries old new id j t counts.memory_is;
     }
-
-pub released_owes : (old new : Held) (id : ℕ) → held_due old (OfHandle OneLess id) ≡ None → Counts old (released id old.memory) new → Owes old (OfHandle OneLess id) Done new
-released_owes old new id none counts = (none, (refl, counts))
 
 -- what is done to the disk where the files are to go, and where they aren't
 gone_on_disk : (A B : Type 0) (last poisoned : Bool) → last ≡ true → poisoned ≡ false → A → MatchBool (last && not poisoned) A B
@@ -293,9 +290,6 @@ counts_then honest old mid new id all is = record {
   journal = ap (λ (h : Held). h.journal) is ∙ ap (λ (h : Held). h.journal) all.0;
   faults = subst (λ (h : Held). old.disk.faults ≤ h.disk.faults) (sym is) all.1;
 }
-
-pub then_owes : (honest : Type 0) (old mid new : Held) (id : ℕ) → held_due old (OfHandle OneLess id) ≡ None → Removes honest old id (Ok tt) mid → new ≡ record mid { memory = released id mid.memory } → Owes old (OfHandle OneLess id) Done new
-then_owes honest old mid new id none all is = (none, (refl, counts_then honest old mid new id all is))
 
 pub then_serves : (honest : Type 0) (old mid new : Held) (id : ℕ) → held_due old (OfHandle OneLess id) ≡ None → is_last old.memory id ≡ true → old.memory.poisoned ≡ false → Removes honest old id (Ok tt) mid → new ≡ record mid { memory = released id mid.memory } → honest
     → Serves old (OfHandle OneLess id) Done new

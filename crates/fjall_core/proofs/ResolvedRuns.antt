@@ -3,10 +3,10 @@ use Rattle.std.proofs.Common.{◌≡◌, ℕ, ◌+◌, ◌<◌, List, [], ◌∷
 use Rattle.std.proofs.lemmas.List.{append-nil, take_more}
 use Rattle.fjall_history.specs.declared.reply.Reply.{Reply}
 use Rattle.fjall_jobs.specs.declared.merge_job.MergeJob.{MergeJob}
-use Rattle.fjall_state.specs.declared.call.Call.{Call}
-use Rattle.fjall_state.specs.Machine.{State}
-use Rattle.fjall_state.specs.Places.{resolved, resolved_all, resolved_behind}
-use Rattle.fjall_state.specs.Shapes.{shape_of}
+use Rattle.fjall_machine.specs.declared.call.Call.{Call}
+use Rattle.fjall_machine.specs.Machine.{State}
+use Rattle.fjall_machine.specs.Places.{resolved, resolved_all, resolved_behind}
+use Rattle.fjall_machine.specs.Shapes.{shape_of}
 use Rattle.fjall_core.specs.Durables.{Durable}
 use Rattle.fjall_core.specs.Holding.{Held}
 use Rattle.fjall_core.specs.Jobs.{KeepsMerges, KnowsMerges}

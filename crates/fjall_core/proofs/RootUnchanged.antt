@@ -4,13 +4,13 @@ use Rattle.std.proofs.lemmas.List.Elements.{All-head, All-tail}
 use Rattle.std.proofs.lemmas.List.{append_cancel_left}
 use Rattle.std.proofs.lemmas.Bool.{true≢false}
 use Rattle.std.specs.List.{AllByRecursion}
-use Rattle.fjall_base.specs.Disk.{Image, LeavesOnly, Leaves, Meaning, Name, State, Step, Survives, folder_of, state_in}
+use Rattle.fjall_base.specs.Disk.{Image, LeavesOnly, Leaves, Meaning, Name, DiskState, DiskStep, Survives, folder_of, state_in}
 use Rattle.fjall_files.specs.Regions.{IsImageIn, IsSafe, Within, is_under}
 use Rattle.fjall_files.proofs.Changes.{within_state}
 use Rattle.fjall_files.proofs.Parts.{region_run}
 use Rattle.fjall_journal.specs.Writer as writer
 use Rattle.fjall_files.specs.Names.{IsMisnamed, journal_name}
-use Rattle.fjall_recovery.specs.Journals.{Journal}
+use Rattle.fjall_recovery.specs.Journals.{WholeJournal}
 use Rattle.fjall_recovery.specs.Halves.{is_of_root}
 use Rattle.fjall_recovery.specs.Places.{IsNeverFile, Journaling, LiesInRoot, texts_of}
 use Rattle.fjall_recovery.proofs.Named.{journal_within, keyspaces_not_misnamed, root_cases}
@@ -21,28 +21,28 @@ use Rattle.fjall_base.proofs.Names.{bool_cases}
 use Rattle.fjall_core.proofs.CrashImages.{root_finished}
 
 -- what stands outside `keyspaces` is the same
-abbrev pub SameRoot : State → State → Type 0
+abbrev pub SameRoot : DiskState → DiskState → Type 0
 SameRoot old new = (q : Name) → is_of_root q ≡ true → new q ≡ old q
 
-named_along : (old new : State) → SameRoot old new → (name : Name) → folder_of name ≡ [] → IsMisnamed name → IsNeverFile (old name) → IsNeverFile (new name)
+named_along : (old new : DiskState) → SameRoot old new → (name : Name) → folder_of name ≡ [] → IsMisnamed name → IsNeverFile (old name) → IsNeverFile (new name)
 named_along old new same name at misnamed never = elim (root_cases name at) [
   | inl of_root ↦ subst IsNeverFile (sym (same name of_root)) never
   | inr keyspaces ↦ absurd (keyspaces_not_misnamed (subst IsMisnamed keyspaces misnamed))
 ]
 
-sealed_along : (old new : State) → SameRoot old new → (sealed : List Journal) (rest : List ℕ) → All (λ id. id < 2 ^ 64) (map (λ journal. journal.id) sealed ++ rest)
+sealed_along : (old new : DiskState) → SameRoot old new → (sealed : List WholeJournal) (rest : List ℕ) → All (λ id. id < 2 ^ 64) (map (λ journal. journal.id) sealed ++ rest)
     → AllByRecursion (λ journal. IsSafe old (journal_name journal.id) (texts_of journal.batches)) sealed → AllByRecursion (λ journal. IsSafe new (journal_name journal.id) (texts_of journal.batches)) sealed
 sealed_along old new same [] rest fit safe = tt
 sealed_along old new same (k ∷ sealed) rest fit safe = (
-  same (journal_name k.id) (journal_within k.id (All-head (λ (id : ℕ). id < 2 ^ 64) k.id (map (λ (journal : Journal). journal.id) sealed ++ rest) fit)) ∙ safe.0,
-  sealed_along old new same sealed rest (All-tail (λ (id : ℕ). id < 2 ^ 64) k.id (map (λ (journal : Journal). journal.id) sealed ++ rest) fit) safe.1,
+  same (journal_name k.id) (journal_within k.id (All-head (λ (id : ℕ). id < 2 ^ 64) k.id (map (λ (journal : WholeJournal). journal.id) sealed ++ rest) fit)) ∙ safe.0,
+  sealed_along old new same sealed rest (All-tail (λ (id : ℕ). id < 2 ^ 64) k.id (map (λ (journal : WholeJournal). journal.id) sealed ++ rest) fit) safe.1,
 )
 
-ids_parted : (sealed : List Journal) (last : Journal) → map (λ journal. journal.id) (sealed ++ last ∷ []) ≡ map (λ journal. journal.id) sealed ++ last.id ∷ []
+ids_parted : (sealed : List WholeJournal) (last : WholeJournal) → map (λ journal. journal.id) (sealed ++ last ∷ []) ≡ map (λ journal. journal.id) sealed ++ last.id ∷ []
 ids_parted [] last = refl
 ids_parted (k ∷ sealed) last = ap (λ (l : List ℕ). k.id ∷ l) (ids_parted sealed last)
 
-pub root_along : (old new : State) (j : Journaling) → SameRoot old new → LiesInRoot old j → LiesInRoot new j
+pub root_along : (old new : DiskState) (j : Journaling) → SameRoot old new → LiesInRoot old j → LiesInRoot new j
 root_along old new j same lies = record {
   marker_text = lies.marker_text;
   marker = same (codes "version") refl ∙ lies.marker;
@@ -57,7 +57,7 @@ root_along old new j same lies = record {
   sound = lies.sound;
 }
 
-pub writing_along : (old new : State) (w : writer.Journal) (j : Journaling) → SameRoot old new → IsWriting old w j → IsWriting new w j
+pub writing_along : (old new : DiskState) (w : writer.Journal) (j : Journaling) → SameRoot old new → IsWriting old w j → IsWriting new w j
 writing_along old new w j same writing = record { root = root_along old new j same writing.root; name = writing.name; exact = writing.exact }
 
 -- ---- a change within `keyspaces`
@@ -87,6 +87,6 @@ leaves_beside old new P run leaves =
       took = leaves.took;
       each = λ image left. (
         leaves.each image left,
-        region_run is_of_root (codes "keyspaces") some_keyspaces apart (state_in old) (state_in old) run.added image run.under (λ q out. refl) (subst (λ (l : List Step). Leaves (state_in old) l image) same left),
+        region_run is_of_root (codes "keyspaces") some_keyspaces apart (state_in old) (state_in old) run.added image run.under (λ q out. refl) (subst (λ (l : List DiskStep). Leaves (state_in old) l image) same left),
       );
     }

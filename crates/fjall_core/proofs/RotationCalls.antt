@@ -5,11 +5,11 @@ use Rattle.fjall_base.specs.declared.error.Error.{Error}
 use Rattle.fjall_base.specs.declared.error.Error.TheVariants.{OutOfMemory}
 use Rattle.fjall_files.proofs.Tidying.{stays_start}
 use Rattle.fjall_table.specs.Blocks.{Entry}
-use Rattle.fjall_maps.proofs.Rotated.{rotated_store_with}
+use Rattle.fjall_trees.proofs.Rotated.{rotated_store_with}
 use Rattle.fjall_history.specs.declared.reply.Reply.TheVariants.{Flag, Refused}
-use Rattle.fjall_state.specs.Machine.{first_due, rotates, rotation_refusals}
-use Rattle.fjall_state.specs.Remembered.{Remembered, facts_of, rotated}
-use Rattle.fjall_state.specs.Shapes.{OfRotation}
+use Rattle.fjall_machine.specs.Machine.{first_due, rotates, rotation_refusals}
+use Rattle.fjall_machine.specs.Remembered.{Remembered, facts_of, rotated}
+use Rattle.fjall_machine.specs.Shapes.{OfRotation}
 use Rattle.fjall_core.specs.Holding.{Held}
 use Rattle.fjall_core.specs.Standing.{Owes, Serves, flag_reply, held_due}
 use Rattle.fjall_core.proofs.TablesAtHome.{KeepsReads, carry_all, carry_sealed, keeps_disk, outside_same}

@@ -4,10 +4,10 @@ use Rattle.fjall_base.specs.Store.{Command}
 use Rattle.fjall_base.specs.Disk.{LeavesOnly}
 use Rattle.fjall_files.specs.Tidy.{StaysTidy}
 use Rattle.fjall_jobs.specs.declared.merge_job.MergeJob.{MergeJob}
-use Rattle.fjall_state.specs.declared.call.Call.{Call}
-use Rattle.fjall_state.specs.Shapes.{shape_of}
+use Rattle.fjall_machine.specs.declared.call.Call.{Call}
+use Rattle.fjall_machine.specs.Shapes.{shape_of}
 use Rattle.fjall_history.specs.declared.reply.Reply.{Reply}
-use Rattle.fjall_state.specs.Machine.{Run, State, Step}
+use Rattle.fjall_machine.specs.Machine.{Run, State, Step}
 use Rattle.fjall_core.specs.Holding.{Held}
 use Rattle.fjall_core.specs.Durables.{Durable, StandsAmid}
 use Rattle.fjall_core.specs.Crashes.{attempt, RunOn, SafeAt}

@@ -11,19 +11,19 @@ use Rattle.fjall_files.specs.Regions.{IsSafe}
 use Rattle.fjall_table.specs.declared.table_info.TableInfo.{TableInfo}
 use Rattle.fjall_files.specs.Names.{table_name}
 use Rattle.fjall_catalog.specs.declared.catalog.Catalog.{Catalog}
-use Rattle.fjall_home.specs.Homes.{AreSafe}
+use Rattle.fjall_manifest.specs.Homes.{AreSafe}
 use Rattle.fjall_catalog.specs.Catalog.{listed}
 use Rattle.fjall_catalog.specs.Updates.{IsTableGone}
 use Rattle.fjall_files.specs.Tidy.{IsTidy, StaysTidy}
 use Rattle.fjall_files.proofs.Tidying.{stays_start}
-use Rattle.fjall_state.specs.Shapes.{OfChange, OfCount, OfCreation, OfDeletion, OfFlushBegin, OfFlushFinish, OfHandle, OfIngestion, OfJournalRotation, OfMaintenance, OfMergeBegin, OfMergeFinish, OfPersist, OfRead, OfRotation, OfTickets, OneLess, OneMore, Shape}
+use Rattle.fjall_machine.specs.Shapes.{CallShape, OfChange, OfCount, OfCreation, OfDeletion, OfFlushBegin, OfFlushFinish, OfHandle, OfIngestion, OfJournalRotation, OfMaintenance, OfMergeBegin, OfMergeFinish, OfPersist, OfRead, OfRotation, OfTickets, OneLess, OneMore}
 use Rattle.fjall_table.specs.Blocks.{Entry}
-use Rattle.fjall_blocks.specs.Readers.{Reader}
+use Rattle.fjall_table_reader.specs.Readers.{Reader}
 use Rattle.fjall_trees.proofs.Same.{same_trees}
 use Rattle.fjall_history.specs.declared.reply.Reply.{Reply}
 use Rattle.fjall_history.specs.declared.reply.Reply.TheVariants.{Refused}
-use Rattle.fjall_state.specs.Machine.{HasTables, State, StepOf, TooLong}
-use Rattle.fjall_state.specs.Remembered.{IsDueOrMemory, facts_of}
+use Rattle.fjall_machine.specs.Machine.{HasTables, State, StepOf, TooLong}
+use Rattle.fjall_machine.specs.Remembered.{IsDueOrMemory, facts_of}
 use Rattle.fjall_core.specs.Holding.{Held}
 use Rattle.fjall_core.specs.Durables.{Durable, Passes}
 use Rattle.fjall_core.specs.Crashes.{BlamesDevice, CallLeaves, IsSync, attempt, is_io}
@@ -38,7 +38,7 @@ use Rattle.fjall_core.proofs.JournalWrites.{Leads}
 use Rattle.fjall_core.proofs.RecordedTables.{recorded_step}
 
 -- the core stands on some disk now, to which such a call leads
-abbrev pub Led : Held → State → Durable → Shape → Reply → Type 0
+abbrev pub Led : Held → State → Durable → CallShape → Reply → Type 0
 Led new s d shape reply = (e : Durable) × StandsOn new s.parts.entries e × CallLeaves s d shape reply e
 
 -- what the device is to blame for, wherever the core stood
@@ -46,12 +46,12 @@ abbrev pub Blames : Held → Reply → Held → Type 0
 Blames old reply new = (s : State) (d : Durable) → StandsFor old s → StandsOn old s.parts.entries d → IsTidy (state_in old.disk) → BlamesDevice reply old.disk new.disk
 
 -- where the call leads, wherever the core stood
-abbrev pub LeadsFrom : Held → Shape → Reply → Held → Type 0
+abbrev pub LeadsFrom : Held → CallShape → Reply → Held → Type 0
 LeadsFrom old shape reply new = (s : State) (d : Durable) → StandsFor old s → StandsOn old s.parts.entries d → Led new s d shape reply
 
 -- A call for which it matters what tables hold: a read of some, a merge that begins, a flush or a merge that is finished, and an ingestion of
 -- some items.
-abbrev pub NeedsTables : Held → Shape → Type 0
+abbrev pub NeedsTables : Held → CallShape → Type 0
 NeedsTables core (OfRead view id query) = HasTables id core.memory.trees
 NeedsTables core (OfFlushFinish job) = Unit {0}
 NeedsTables core (OfMergeBegin kind id) = begins_merge_in core kind id ≡ true
@@ -59,7 +59,7 @@ NeedsTables core (OfMergeFinish job) = Unit {0}
 NeedsTables core (OfIngestion id (item ∷ items)) = Unit {0}
 NeedsTables core shape = ⊥
 
-reads_none : (core : Held) (shape : Shape) (reply : Reply) → (NeedsTables core shape → ⊥) → RestsOnTables core shape reply → ⊥
+reads_none : (core : Held) (shape : CallShape) (reply : Reply) → (NeedsTables core shape → ⊥) → RestsOnTables core shape reply → ⊥
 reads_none core (OfRead view id query) reply plain = plain
 reads_none core (OfMergeBegin kind id) (Refused (Storage told)) plain = plain
 reads_none core (OfMergeBegin kind id) reply plain = λ reads. reads
@@ -78,7 +78,7 @@ reads_none core (OfTickets call) reply plain = λ reads. reads
 reads_none core (OfPersist mode) reply plain = λ reads. reads
 reads_none core (OfCount count) reply plain = λ reads. reads
 
-finishes_none : (core : Held) (shape : Shape) → (NeedsTables core shape → ⊥) → Finishes shape → ⊥
+finishes_none : (core : Held) (shape : CallShape) → (NeedsTables core shape → ⊥) → Finishes shape → ⊥
 finishes_none core (OfFlushFinish job) plain = plain
 finishes_none core (OfMergeFinish job) plain = plain
 finishes_none core (OfMergeBegin kind id) plain = λ is. is
@@ -105,7 +105,7 @@ given_else core s t stands given id = elim (given id) [
 ]
 
 -- What a call steps to, what it did to the disk, and where it leads, is what it serves, where it and its disk keep the tables.
-pub served : (old new : Held) (shape : Shape) (reply : Reply) → ((s t : State) → StepOf s shape reply t → KeepsTables s t) → ((s : State) → StandsFor old s → ReadsOn old s → (t : State) × StandsFor new t × StepOf s shape reply t) → OnDisk old shape reply new → StaysTidy old.disk new.disk → KeepsReads old new
+pub served : (old new : Held) (shape : CallShape) (reply : Reply) → ((s t : State) → StepOf s shape reply t → KeepsTables s t) → ((s : State) → StandsFor old s → ReadsOn old s → (t : State) × StandsFor new t × StepOf s shape reply t) → OnDisk old shape reply new → StaysTidy old.disk new.disk → KeepsReads old new
     → Blames old reply new → LeadsFrom old shape reply new → Serves old shape reply new
 served old new shape reply leaves steps disk stays keeps device led = record {
   disk = disk;
@@ -128,17 +128,17 @@ served old new shape reply leaves steps disk stays keeps device led = record {
 }
 
 -- so it is of a call that needs no tables, by what it owes
-pub serves_by : (old new : Held) (shape : Shape) (reply : Reply) → Owes old shape reply new → (NeedsTables old shape → ⊥) → OnDisk old shape reply new → StaysTidy old.disk new.disk → KeepsReads old new
+pub serves_by : (old new : Held) (shape : CallShape) (reply : Reply) → Owes old shape reply new → (NeedsTables old shape → ⊥) → OnDisk old shape reply new → StaysTidy old.disk new.disk → KeepsReads old new
     → Blames old reply new → LeadsFrom old shape reply new → Serves old shape reply new
 serves_by old new shape reply owes plain disk stays keeps device led =
     served old new shape reply (λ s t. step_keeps s t shape reply (finishes_none old shape plain)) (λ s stands reads. owes_step old new shape reply s (reads_none old shape reply plain) owes stands) disk stays keeps device led
 
 -- a way that these commands lead, of a call that tried just them and was no sync
-pub led_by : (new : Held) (s : State) (d : Durable) (shape : Shape) (reply : Reply) (tried : List Command) → attempt s shape reply ≡ tried → (IsSync s shape reply → ⊥) → Leads s.parts.entries new d tried → Led new s d shape reply
+pub led_by : (new : Held) (s : State) (d : Durable) (shape : CallShape) (reply : Reply) (tried : List Command) → attempt s shape reply ≡ tried → (IsSync s shape reply → ⊥) → Leads s.parts.entries new d tried → Led new s d shape reply
 led_by new s d shape reply tried is unsynced leads = (leads.0, leads.1, (subst (λ l. Passes d l leads.0) (sym is) leads.2, λ sync. absurd (unsynced sync)))
 
 -- nothing was done, and nothing tried
-pub still_led : (old new : Held) (s : State) (d : Durable) (shape : Shape) (reply : Reply) → attempt s shape reply ≡ [] → (IsSync s shape reply → ⊥) → new ≡ old → StandsOn old s.parts.entries d → Led new s d shape reply
+pub still_led : (old new : Held) (s : State) (d : Durable) (shape : CallShape) (reply : Reply) → attempt s shape reply ≡ [] → (IsSync s shape reply → ⊥) → new ≡ old → StandsOn old s.parts.entries d → Led new s d shape reply
 still_led old new s d shape reply none unsynced same on =
     led_by new s d shape reply [] none unsynced (d, subst (λ core. StandsOn core s.parts.entries d) (sym same) on, passes_still d on.rests)
 
@@ -153,7 +153,7 @@ read_nothing : (tables : List Reader) (core : Held) → DiskRead tables core cor
 read_nothing [] core = refl
 read_nothing (t ∷ tables) core = record { state = refl; steps = sym (append-nil core.disk.steps) }
 
-out_untouched : (core : Held) (shape : Shape) → DiskLooked core shape core
+out_untouched : (core : Held) (shape : CallShape) → DiskLooked core shape core
 out_untouched core (OfHandle OneLess id) = record { state = refl; steps = sym (append-nil core.disk.steps) }
 out_untouched core (OfMergeBegin kind id) = record { state = refl; steps = sym (append-nil core.disk.steps) }
 out_untouched core (OfMergeFinish job) = refl
@@ -172,36 +172,36 @@ out_untouched core (OfTickets call) = refl
 out_untouched core (OfPersist mode) = refl
 out_untouched core (OfCount count) = refl
 
-untouched : (core : Held) (shape : Shape) (error : Error) → is_io error ≡ false → OnDisk core shape (Refused error) core
+untouched : (core : Held) (shape : CallShape) (error : Error) → is_io error ≡ false → OnDisk core shape (Refused error) core
 untouched core shape (Io kind) other = absurd (true≢false other)
 untouched core shape OutOfMemory other = out_untouched core shape
 untouched core shape (Storage told) other = out_untouched core shape
 untouched core shape error other = refl
 
 -- a refusal that is no fault and changes nothing
-pub refusal_serves : (core : Held) (shape : Shape) (error : Error) → is_io error ≡ false → ((s : State) → StandsFor core s → (t : State) × StandsFor core t × StepOf s shape (Refused error) t) → Serves core shape (Refused error) core
+pub refusal_serves : (core : Held) (shape : CallShape) (error : Error) → is_io error ≡ false → ((s : State) → StandsFor core s → (t : State) × StandsFor core t × StepOf s shape (Refused error) t) → Serves core shape (Refused error) core
 refusal_serves core shape error other steps = served core core shape (Refused error) (λ s t. no_fault_keeps s t shape error other) (λ s stands reads. steps s stands) (untouched core shape error other) (stays_start core.disk) (keeps_same core core refl)
     (λ s d stands on tidy. refusal_blames error core.disk other)
     (λ s d stands on. still_led core core s d shape (Refused error) (no_attempt s shape error other) (no_sync s shape error) refl on)
 
-pub due_owes : (core : Held) (shape : Shape) (error : Error) → held_due core shape ≡ Some error → Owes core shape (Refused error) core
+pub due_owes : (core : Held) (shape : CallShape) (error : Error) → held_due core shape ≡ Some error → Owes core shape (Refused error) core
 due_owes core shape error due = subst (λ first. OwesRefusal first core shape error core) (sym due) (refl, refl)
 
 -- a refusal that is due
-pub due_serves : (core : Held) (shape : Shape) (error : Error) → held_due core shape ≡ Some error → Serves core shape (Refused error) core
+pub due_serves : (core : Held) (shape : CallShape) (error : Error) → held_due core shape ≡ Some error → Serves core shape (Refused error) core
 due_serves core shape error due = refusal_serves core shape error (ap is_fault (sym due) ∙ never_due (facts_of core.memory core.catalog.next_table_id) shape) (λ s stands. due_step core s shape error due stands)
 
 -- a call that memory may run out in before it looks at the disk
-abbrev pub RunsOut : Held → Shape → Type 0
+abbrev pub RunsOut : Held → CallShape → Type 0
 RunsOut core (OfMergeBegin kind id) = ⊥
 RunsOut core shape = AsksMemory core shape
 
-asks_out : (core : Held) (shape : Shape) → RunsOut core shape → AsksMemory core shape
+asks_out : (core : Held) (shape : CallShape) → RunsOut core shape → AsksMemory core shape
 asks_out core (OfMergeBegin kind id) runs = absurd runs
 asks_out core shape runs = runs
 
 -- want of memory
-ran_out : (core : Held) (shape : Shape) → RunsOut core shape → RanOut core shape core
+ran_out : (core : Held) (shape : CallShape) → RunsOut core shape → RanOut core shape core
 ran_out core (OfHandle OneLess id) runs = (refl, omega arith)
 ran_out core (OfMergeBegin kind id) runs = absurd runs
 ran_out core (OfMergeFinish job) runs = refl
@@ -220,28 +220,28 @@ ran_out core (OfTickets call) runs = refl
 ran_out core (OfPersist mode) runs = refl
 ran_out core (OfCount count) runs = refl
 
-pub memory_owes : (core : Held) (shape : Shape) → RunsOut core shape → held_due core shape ≡ None → Owes core shape (Refused OutOfMemory) core
+pub memory_owes : (core : Held) (shape : CallShape) → RunsOut core shape → held_due core shape ≡ None → Owes core shape (Refused OutOfMemory) core
 memory_owes core shape runs due = subst (λ first. OwesRefusal first core shape OutOfMemory core) (sym due) (asks_out core shape runs, ran_out core shape runs)
 
-pub memory_serves : (core : Held) (shape : Shape) → RunsOut core shape → held_due core shape ≡ None → Serves core shape (Refused OutOfMemory) core
+pub memory_serves : (core : Held) (shape : CallShape) → RunsOut core shape → held_due core shape ≡ None → Serves core shape (Refused OutOfMemory) core
 memory_serves core shape runs due = refusal_serves core shape OutOfMemory refl (λ s stands. memory_step core core s shape (asks_out core shape runs) due (ran_out core shape runs) stands)
 
 -- an option that is too long
-pub long_owes : (core : Held) (shape : Shape) → TooLong (store_in core) shape → held_due core shape ≡ None → Owes core shape (Refused ValueTooLong) core
+pub long_owes : (core : Held) (shape : CallShape) → TooLong (store_in core) shape → held_due core shape ≡ None → Owes core shape (Refused ValueTooLong) core
 long_owes core shape long due = subst (λ first. OwesRefusal first core shape ValueTooLong core) (sym due) (long, refl)
 
-pub long_serves : (core : Held) (shape : Shape) → (RestsOnTables core shape (Refused ValueTooLong) → ⊥) → TooLong (store_in core) shape → held_due core shape ≡ None → Serves core shape (Refused ValueTooLong) core
+pub long_serves : (core : Held) (shape : CallShape) → (RestsOnTables core shape (Refused ValueTooLong) → ⊥) → TooLong (store_in core) shape → held_due core shape ≡ None → Serves core shape (Refused ValueTooLong) core
 long_serves core shape bare long due = refusal_serves core shape ValueTooLong refl (λ s stands. owes_step core core shape (Refused ValueTooLong) s bare (long_owes core shape long due) stands)
 
 -- the refusal that is due, or want of memory where none is
-pub either_owes : (core : Held) (shape : Shape) (error : Error) → RunsOut core shape → IsDueOrMemory (held_due core shape) error → Owes core shape (Refused error) core
+pub either_owes : (core : Held) (shape : CallShape) (error : Error) → RunsOut core shape → IsDueOrMemory (held_due core shape) error → Owes core shape (Refused error) core
 either_owes core shape error takes is = by_due (held_due core shape) refl is
   where
     by_due : (first : Option Error) → held_due core shape ≡ first → IsDueOrMemory first error → Owes core shape (Refused error) core
     by_due (Some first) due same = subst (λ e. Owes core shape (Refused e) core) (sym same) (due_owes core shape first due)
     by_due None due same = subst (λ e. Owes core shape (Refused e) core) (sym same) (memory_owes core shape takes due)
 
-pub either_serves : (core : Held) (shape : Shape) (error : Error) → RunsOut core shape → IsDueOrMemory (held_due core shape) error → Serves core shape (Refused error) core
+pub either_serves : (core : Held) (shape : CallShape) (error : Error) → RunsOut core shape → IsDueOrMemory (held_due core shape) error → Serves core shape (Refused error) core
 either_serves core shape error takes is = by_due (held_due core shape) refl is
   where
     by_due : (first : Option Error) → held_due core shape ≡ first → IsDueOrMemory first error → Serves core shape (Refused error) core
@@ -251,7 +251,7 @@ either_serves core shape error takes is = by_due (held_due core shape) refl is
 -- ---- reads
 
 -- an answer that changes nothing, of a call that asks for no command
-pub answer_serves : (core : Held) (shape : Shape) (reply : Reply) → (NeedsTables core shape → ⊥) → Owes core shape reply core → OnDisk core shape reply core → BlamesDevice reply core.disk core.disk → ((s : State) → attempt s shape reply ≡ [])
+pub answer_serves : (core : Held) (shape : CallShape) (reply : Reply) → (NeedsTables core shape → ⊥) → Owes core shape reply core → OnDisk core shape reply core → BlamesDevice reply core.disk core.disk → ((s : State) → attempt s shape reply ≡ [])
     → ((s : State) → IsSync s shape reply → ⊥) → Serves core shape reply core
 answer_serves core shape reply bare owes disk blames none unsynced =
     serves_by core core shape reply owes bare disk (stays_start core.disk) (keeps_same core core refl) (λ s d stands on tidy. blames)
@@ -265,13 +265,13 @@ table_there core entries d on well =
     let lies = on.lies well in
     subst (λ (m : Meaning). HasTable (state_in m) core.catalog) on.same (subst (λ (c : Catalog). HasTable (state_in d.meaning) c) lies.last (of (state_in d.meaning) lies.tree.last.table _ lies.in_tree.rests.catalog.home.tables))
   where
-    of : (state : disk.State) (table : Option TableInfo) (texts : List (List ℕ)) → AreSafe state 0 (listed table) texts → IfSome table (λ t. (bytes : List ℕ) × IsSafe state (table_name 0 t.id) bytes)
+    of : (state : disk.DiskState) (table : Option TableInfo) (texts : List (List ℕ)) → AreSafe state 0 (listed table) texts → IfSome table (λ t. (bytes : List ℕ) × IsSafe state (table_name 0 t.id) bytes)
     of state None texts safe = tt
     of state (Some t) [] safe = absurd safe
     of state (Some t) (bytes ∷ texts) safe = (bytes, safe.0)
 
 -- The old table is gone, and the new one is there wherever the call leads the core.
-pub replaces_table : (old new : Held) (shape : Shape) (reply : Reply) → IsTableGone (state_in new.disk) old.catalog → new.memory.poisoned ≡ false → LeadsFrom old shape reply new → ReplacesTable old new
+pub replaces_table : (old new : Held) (shape : CallShape) (reply : Reply) → IsTableGone (state_in new.disk) old.catalog → new.memory.poisoned ≡ false → LeadsFrom old shape reply new → ReplacesTable old new
 replaces_table old new shape reply gone well led = record {
   gone = gone;
   there = λ s d stands on. let way = led s d stands on in table_there new s.parts.entries way.0 way.1 well;

@@ -9,21 +9,21 @@ use Rattle.fjall_journal.specs.Batches.{Written, shown}
 use Rattle.fjall_journal.specs.declared.persist_mode.PersistMode.{PersistMode}
 use Rattle.fjall_journal.specs.declared.persist_mode.PersistMode.TheVariants.{Buffer, SyncAll, SyncData}
 use Rattle.fjall_catalog.specs.Catalog.{fields}
-use Rattle.fjall_versions.specs.Replays.{least_after}
+use Rattle.fjall_contents.specs.Replays.{least_after}
 use Rattle.fjall_contents.specs.Contents.{store_held}
 use Rattle.fjall_recovery.specs.Homes.{lasts, stored_in}
-use Rattle.fjall_recovery.specs.Folders.{number_of, past_records}
-use Rattle.fjall_recovery.specs.Journals.{Journal, batches_in}
+use Rattle.fjall_recovery.specs.Folders.{number_of_contents, past_records}
+use Rattle.fjall_recovery.specs.Journals.{WholeJournal, batches_in}
 use Rattle.fjall_recovery.specs.Places.{Journaling, contents_with, journals_with}
 use Rattle.fjall_commit.specs.Journaling.{LeavesRoot, after_persist, synced}
-use Rattle.fjall_state.specs.Shapes.{OfPersist}
+use Rattle.fjall_machine.specs.Shapes.{OfPersist}
 use Rattle.fjall_history.specs.declared.reply.Reply.TheVariants.{Done}
-use Rattle.fjall_state.specs.Machine as Machine
-use Rattle.fjall_state.specs.Remembered.{Remembered}
+use Rattle.fjall_machine.specs.Machine as Machine
+use Rattle.fjall_machine.specs.Remembered.{Remembered}
 use Rattle.fjall_table.specs.Blocks.{Entry}
-use Rattle.fjall_maps.specs.Tables.{store_with}
+use Rattle.fjall_trees.specs.MapTables.{store_with}
 use Rattle.fjall_core.specs.Holding.{Held}
-use Rattle.fjall_core.specs.Durables.{AreKnown, Durable, Knows, Lies, Passes, Rests, StandsAmid}
+use Rattle.fjall_core.specs.Durables.{AreKnown, CrashLeavesPending, Durable, Knows, Lies, Passes, StandsAmid}
 use Rattle.fjall_commit.specs.SyncedChanges as on_disk
 use Rattle.fjall_core.specs.Crashes.{IsSync}
 use Rattle.fjall_core.specs.Standing.{HandsOver, Poisons, StandsOn}
@@ -67,7 +67,7 @@ buffer_lies old new base pending same lies out = record {
   keyspaces = lies.keyspaces ∙ sym same.keyspaces;
   made = lies.made;
   waits = lies.waits;
-  next = subst (λ (n : ℕ). number_of (contents_with (after_persist Buffer lies.journals) lies.tree (after_persist Buffer lies.journals).later) ≤ n) (sym same.next) lies.next;
+  next = subst (λ (n : ℕ). number_of_contents (contents_with (after_persist Buffer lies.journals) lies.tree (after_persist Buffer lies.journals).later) ≤ n) (sym same.next) lies.next;
 }
 
 -- what is known of homes stays, of which nothing is in the journals
@@ -103,10 +103,10 @@ sync_lies old new base pending same lies out =
       last = lies.last ∙ sym same.catalog;
       keyspaces = lies.keyspaces ∙ sym same.keyspaces;
       made = ap (λ (l : List Command). kept (fold base l)) lies.waits ∙ kept_with t lies.in_tree.rests.versions base j j.later lies.made lies.writing.root.sound
-          ∙ ap (λ (l : List Journal). store_held t.keyspaces (stored_in t.homes t.versions) (map shown (batches_in l))) (sym (synced_journals j));
+          ∙ ap (λ (l : List WholeJournal). store_held t.keyspaces (stored_in t.homes t.versions) (map shown (batches_in l))) (sym (synced_journals j));
       waits = refl;
-      next = subst (λ (n : ℕ). number_of (contents_with (synced j) t []) ≤ n) (sym same.next)
-          (subst (λ (l : List Journal). max (least_after 0 (map shown (batches_in l))) (past_records (fields t.last ∷ lasts t.keyspaces.living t.homes)) ≤ old.memory.next) (sym (synced_journals j)) lies.next);
+      next = subst (λ (n : ℕ). number_of_contents (contents_with (synced j) t []) ≤ n) (sym same.next)
+          (subst (λ (l : List WholeJournal). max (least_after 0 (map shown (batches_in l))) (past_records (fields t.last ∷ lasts t.keyspaces.living t.homes)) ≤ old.memory.next) (sym (synced_journals j)) lies.next);
     }
 
 pub sync_empty : (old new : Held) (base : Store) (pending : List Command) (same : StaysSame old new) (lies : Lies old (held_on old base pending)) (out : Persisted old new SyncAll true) → (sync_lies old new base pending same lies out).journals.later ≡ []
@@ -120,7 +120,7 @@ unfolding sync_lies
 sync_knows entries old new base pending same lies out = persisted_knows entries old new SyncAll base pending same lies out
 
 -- commands that a base has already
-pub synced_passes : (old new : Held) (base : Store) (pending : List Command) → LeavesOnly old.disk new.disk (StandsAmid base [] (pending ++ [])) → Rests (held_on new (fold base pending) [])
+pub synced_passes : (old new : Held) (base : Store) (pending : List Command) → LeavesOnly old.disk new.disk (StandsAmid base [] (pending ++ [])) → CrashLeavesPending (held_on new (fold base pending) [])
     → Passes (held_on old base pending) [] (held_on new (fold base pending) [])
 synced_passes old new base pending leaves rests = record { leaves = leaves; safe = pending; base = refl; rest = refl; rests = rests }
 
@@ -175,7 +175,7 @@ unpersist_leads entries old new mode d well fault out = leads_on entries old new
     let lies = on.lies well in
     let leaves = hand_leaves old new mode false base pending lies out in
     let finished = leaves_finished old.disk new.disk (state_in old.disk) lies.journals _ (out.leaves lies.journals lies.writing) in
-    let rests : Rests (held_on new base (pending ++ [])) = at_end old.disk new.disk _ leaves in
+    let rests : CrashLeavesPending (held_on new base (pending ++ [])) = at_end old.disk new.disk _ leaves in
     let was = present_of entries old (held_on old base pending) false well on ∙ ap (λ (m : Remembered). kept (store_with entries m.keyspaces m.trees)) (sym fault.memory_is) in
     let still = stands_ill entries new base (pending ++ []) (ap (λ (m : Remembered). m.poisoned) fault.memory_is) rests finished (inl (ap (λ (l : List Command). kept (fold base l)) (append-nil pending) ∙ was)) in
     (held_on new base (pending ++ []), still, record { leaves = leaves; safe = []; base = refl; rest = refl; rests = rests }))

@@ -10,20 +10,20 @@ use Rattle.fjall_journal.specs.Changes.{Change}
 use Rattle.fjall_recovery.specs.Halves.{is_of_keyspaces}
 use Rattle.fjall_table.specs.declared.table_info.TableInfo.{TableInfo}
 use Rattle.fjall_table.specs.Blocks.{Entry}
-use Rattle.fjall_table.specs.Files.{entry_at}
-use Rattle.fjall_blocks.specs.Readers.{AreRead, AreSameTables, HoldsAWrongBlock, IsTableBut, Reader, SomeTableIsWrong}
-use Rattle.fjall_blocks.proofs.Several.{same_at}
-use Rattle.fjall_home.proofs.Naming.{table_under}
-use Rattle.fjall_loading.specs.Known.{AreListed, IsGiven}
-use Rattle.fjall_loading.proofs.Listed.{listed_later, none_listed}
-use Rattle.fjall_lsm.specs.Puts.{bare_tree}
-use Rattle.fjall_lsm.specs.Trees.{sealed_off}
+use Rattle.fjall_table_reader.specs.Files.{entry_at}
+use Rattle.fjall_table_reader.specs.Readers.{AreRead, AreSameTables, HoldsAWrongBlock, IsTableBut, Reader, SomeTableIsWrong}
+use Rattle.fjall_table_reader.proofs.Several.{same_at}
+use Rattle.fjall_manifest.proofs.Naming.{table_under}
+use Rattle.fjall_recovery.specs.Known.{AreListed, IsGiven}
+use Rattle.fjall_recovery.proofs.ListedTables.{listed_later, none_listed}
+use Rattle.fjall_tree.specs.Puts.{bare_tree}
+use Rattle.fjall_tree.specs.Trees.{sealed_off}
 use Rattle.fjall_trees.specs.Forests.{Forest, Planted, altered_at, without}
 use Rattle.fjall_trees.specs.Tables.{AreReadOn, AreSameTrees}
 use Rattle.fjall_trees.specs.Writes.{with_tree}
 use Rattle.fjall_commit.specs.Journaling.{KeepsHome, KeepsHomes, KeepsOtherHomes}
-use Rattle.fjall_state.specs.Machine.{State, changed, is_among}
-use Rattle.fjall_state.proofs.SameTrees.{all_same, altered_tables, changed_tables}
+use Rattle.fjall_machine.specs.Machine.{State, changed, is_among}
+use Rattle.fjall_machine.proofs.SameTrees.{all_same, altered_tables, changed_tables}
 use Rattle.fjall_core.specs.Holding.{Held}
 use Rattle.fjall_core.specs.Standing.{LieAtHome, ReadsOn, StandsFor}
 
@@ -53,7 +53,7 @@ files_read old new (t ∷ tables) (es ∷ entries) same r =
       record {
         blocks = r.0.blocks;
         all = r.0.all;
-        reads = record { table = subst (λ (e : disk.Entry). IsTableBut e t.info r.0.blocks) (sym file) reads.table; index = reads.index; kept = reads.kept };
+        reads = record { table = subst (λ (e : disk.DiskEntry). IsTableBut e t.info r.0.blocks) (sym file) reads.table; index = reads.index; kept = reads.kept };
       },
       files_read old new tables entries (All-tail (λ (u : Reader). entry_at new u.name ≡ entry_at old u.name) t tables same) r.1,
     )
@@ -69,7 +69,7 @@ at_place P (u ∷ tables) (suc at) t all has = at_place P tables at t (All-tail 
 
 pub files_wrong : (old new : Meaning) (tables : List Reader) → HaveFiles old new tables → SomeTableIsWrong new tables → SomeTableIsWrong old tables
 files_wrong old new tables same (at, t, has, wrong) =
-    (at, t, has, subst (λ (e : disk.Entry). HoldsAWrongBlock e t.handles) (at_place (λ u. entry_at new u.name ≡ entry_at old u.name) tables at t same has) wrong)
+    (at, t, has, subst (λ (e : disk.DiskEntry). HoldsAWrongBlock e t.handles) (at_place (λ u. entry_at new u.name ≡ entry_at old u.name) tables at t same has) wrong)
 
 -- where the home stays all of it does
 pub home_stays : (old new : Meaning) (id next : ℕ) (entries : List (List Entry)) (is_damaged : Bool) (tables : List Reader) → KeepsHome old new id → LieAtHome old id next entries is_damaged tables

@@ -5,14 +5,14 @@ use Rattle.fjall_base.specs.Store.{kept}
 use Rattle.fjall_base.specs.declared.error.Error.{Error}
 use Rattle.fjall_files.proofs.Tidying.{stays_start}
 use Rattle.fjall_table.specs.Blocks.{Entry}
-use Rattle.fjall_maps.specs.Tables.{store_with}
+use Rattle.fjall_trees.specs.MapTables.{store_with}
 use Rattle.fjall_history.specs.declared.ticket.Ticket.{Ticket}
 use Rattle.fjall_history.specs.declared.reply.Reply.{Reply}
 use Rattle.fjall_history.specs.declared.reply.Reply.TheVariants.{Done, Number, Opened, Refused}
 use Rattle.fjall_history.specs.Tickets.{Tickets, closed, closing_refusal, cloning_refusal, collected, opened, opening_refusal}
-use Rattle.fjall_state.specs.Shapes.{Clone, Close, Collect, OfTickets, Open, TicketCall}
-use Rattle.fjall_state.specs.Machine.{State}
-use Rattle.fjall_state.specs.Remembered.{IsDueOrMemory, Remembered, with_tickets}
+use Rattle.fjall_machine.specs.Shapes.{Clone, Close, Collect, OfTickets, Open, TicketCall}
+use Rattle.fjall_machine.specs.Machine.{State}
+use Rattle.fjall_machine.specs.Remembered.{IsDueOrMemory, Remembered, with_tickets}
 use Rattle.fjall_core.specs.Holding.{Held}
 use Rattle.fjall_core.specs.Crashes.{IsSync, attempt}
 use Rattle.fjall_core.specs.Durables.{Durable}

@@ -10,11 +10,11 @@ use Rattle.fjall_journal.specs.Writer.{Journal, after_command, batch_steps, fill
 use Rattle.fjall_base.specs.Disk.{Took}
 use Rattle.fjall_commit.proofs.BatchAppends.{refused_stays, took_stays}
 use Rattle.fjall_history.specs.declared.reply.Reply.TheVariants.{Done, Refused}
-use Rattle.fjall_state.specs.Allowed.{MayChange}
-use Rattle.fjall_state.specs.Machine.{ChangesDisk, Facts, State, TakesMemory, clear_refusals, first_due, is_living, items_refusals, leaves_buffer, mode_in, present}
-use Rattle.fjall_state.specs.Shapes.{OfChange, Persistence}
-use Rattle.fjall_state.specs.Remembered.{Remembered, facts_of}
-use Rattle.fjall_state.proofs.Dues.{may_change}
+use Rattle.fjall_machine.specs.Allowed.{MayChange}
+use Rattle.fjall_machine.specs.Machine.{ChangesDisk, Facts, State, TakesMemory, clear_refusals, first_due, is_living, items_refusals, leaves_buffer, mode_in, present}
+use Rattle.fjall_machine.specs.Shapes.{OfChange, Persistence}
+use Rattle.fjall_machine.specs.Remembered.{Remembered, facts_of}
+use Rattle.fjall_machine.proofs.Dues.{may_change}
 use Rattle.fjall_core.specs.Holding.{Held}
 use Rattle.fjall_core.specs.Crashes.{IsSync, IsSyncOf, asked}
 use Rattle.fjall_core.specs.Standing.{Gives, Grows, OnDisk, Owes, OwesRefusal, Serves, StandsFor, held_due, mode_of, reply_of, store_in, text_of}

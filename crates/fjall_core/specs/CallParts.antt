@@ -4,29 +4,28 @@ use Rattle.std.specs.declared.alloc.Global.{Global}
 use Rattle.fjall_base.specs.Disk.{IsNoFile, IsNoFolder, LeavesOnly, Meaning, Name, Took, state_in}
 use Rattle.fjall_base.specs.Errors.{Rose}
 use Rattle.fjall_base.specs.declared.error.Error.{Error}
-use Rattle.fjall_base.specs.declared.error.Error.TheVariants.{Io, OutOfMemory}
+use Rattle.fjall_base.specs.declared.error.Error.TheVariants.{Io, OutOfMemory, NumbersUsedUp}
 use Rattle.fjall_journal.specs.declared.persist_mode.PersistMode.{PersistMode}
 use Rattle.fjall_journal.specs.Batches.{Written}
 use Rattle.fjall_journal.specs.Changes.{Change, change_text, of_change}
 use Rattle.fjall_files.specs.Regions.{Within, is_under}
-use Rattle.fjall_base.specs.declared.error.Error.TheVariants.{NumbersUsedUp}
 use Rattle.fjall_commit.specs.Evictions.{ForEvicting, LeavesEviction, evicted}
 use Rattle.fjall_files.specs.Calls.{AllServed}
 use Rattle.fjall_commit.specs.SyncedChanges as on_disk
 use Rattle.fjall_files.specs.Names.{journal_name, keyspace_folder, table_name}
-use Rattle.fjall_state.specs.FlushPlans.{HaveFiles, IsPlanRefusal, KeepsTables}
+use Rattle.fjall_compaction.specs.FlushPlans.{HaveFiles, IsFlushPlanRefusal, KeepsTables}
 use Rattle.fjall_jobs.specs.declared.flush_job.FlushJob.{FlushJob}
 use Rattle.fjall_jobs.specs.declared.flush_made.FlushMade.{FlushMade}
 use Rattle.fjall_jobs.specs.declared.merge_made.MergeMade.{MergeMade}
 use Rattle.fjall_jobs.specs.Flushes.{flush_task}
 use Rattle.fjall_journal.specs.declared.persist_mode.PersistMode.TheVariants.{SyncAll}
-use Rattle.fjall_loading.specs.Known.{last_known}
+use Rattle.fjall_recovery.specs.Known.{last_known}
 use Rattle.fjall_trees.specs.Tables.{shape_in}
 use Rattle.fjall_journal.specs.Rotations.{RotationTook, empty_journal, rotating}
 use Rattle.fjall_commit.specs.Rotations.{KeepsSyncedKeyspaces, LeavesRotation, rotated}
 use Rattle.fjall_files.specs.Tidy.{StaysTidy}
 use Rattle.fjall_journal.specs.Writer.{BatchTook, Journal, after_command, batch_steps, written_out}
-use Rattle.fjall_tree.specs.Records.{Fields, view}
+use Rattle.fjall_manifest.specs.Records.{Fields, view}
 use Rattle.fjall_meta.specs.Keyspaces.{without_keyspace}
 use Rattle.fjall_catalog.specs.declared.update.Update.{Update}
 use Rattle.fjall_catalog.specs.Updates.{IsPreparingRefusal, IsUpdate}
@@ -36,16 +35,16 @@ use Rattle.fjall_commit.specs.Journaling.{CanFollow, IsWriting, KeepsHomes, Leav
 use Rattle.fjall_commit.specs.declared.creation.Creation.{Creation}
 use Rattle.fjall_commit.specs.Changes.{IsCreation}
 use Rattle.fjall_commit.specs.Removals.{IsUnused, RemovesOwn}
-use Rattle.fjall_state.specs.Evicting.{going_in}
-use Rattle.fjall_home.specs.Changes.{AreGone}
-use Rattle.fjall_state.specs.Plans as merging
-use Rattle.fjall_state.specs.Finishing.{ForFinishing, ForFlush, IsFinished, keyspace_of}
-use Rattle.fjall_state.specs.Merging as merged
-use Rattle.fjall_state.specs.Remembered.{KnowsTask, Remembered, poisoned, with_change, with_merge_done, with_sealed}
-use Rattle.fjall_state.specs.Machine.{flush_with}
-use Rattle.fjall_state.specs.PlannedIngestion.{PlannedIngestion}
-use Rattle.fjall_state.specs.Planned.{ForIngestion, ForIngestionOn, HasNoTableFolder, KeepsGiven}
-use Rattle.fjall_state.specs.Ingesting.{with_record, with_tables}
+use Rattle.fjall_machine.specs.Evicting.{going_in}
+use Rattle.fjall_manifest.specs.Changes.{AreGone}
+use Rattle.fjall_compaction.specs.MergePlans as merging
+use Rattle.fjall_machine.specs.Finishing.{ForFinishing, ForFlush, IsFlushFinished, keyspace_of}
+use Rattle.fjall_machine.specs.Merging as merged
+use Rattle.fjall_machine.specs.Remembered.{KnowsTask, Remembered, poisoned, with_change, with_merge_done, with_sealed}
+use Rattle.fjall_machine.specs.Machine.{flush_with}
+use Rattle.fjall_compaction.specs.declared.ingestion.whole.PlannedIngestion.{PlannedIngestion}
+use Rattle.fjall_compaction.specs.Planned.{ForIngestion, ForIngestionOn, HasNoTableFolder, KeepsGiven}
+use Rattle.fjall_machine.specs.Ingesting.{with_record, with_tables}
 use Rattle.fjall_core.specs.Crashes.{is_io}
 use Rattle.fjall_core.specs.Holding.{Held}
 use Rattle.fjall_core.specs.Standing.{Becomes, BeginsAt, EvictionStopped, EvictionTook, EvictsInMemory, Poisons, RotatesJournal, SyncFailed, SyncTook, are_jobs_used_up, evicted_in_memory, is_long, job_of, journal_synced, next_name}
@@ -192,7 +191,7 @@ pub record WroteFlush (m : Remembered) (made : FlushMade) (old new : Meaning) (d
 -- the flush of that keyspace, which was out, is finished in memory
 abbrev pub PutInMemory : Remembered → FlushMade → Remembered → Type 0
 PutInMemory old made new =
-    ForFlush old (keyspace_of made) (λ k out. IsFinished old (keyspace_of made) (last_known old.records k) out made.tables.items new)
+    ForFlush old (keyspace_of made) (λ k out. IsFlushFinished old (keyspace_of made) (last_known old.records k) out made.tables.items new)
 
 -- the flush is finished, on the disk and in memory; or a fault of the disk has poisoned the core; or nothing changed, for want of memory,
 -- of room in the record, or of an id for the table
@@ -202,7 +201,7 @@ Puts honest old made (Ok _) new =
 Puts honest old made (Err (Io kind)) new = Poisons old.memory old new × (honest → WroteFlush old.memory made old.disk new.disk false)
 Puts honest old made (Err error) new =
     (new ≡ old) × ForFlush old.memory (keyspace_of made)
-    (λ k out. IsPlanRefusal (last_known old.memory.records k) (flush_with (shape_in (keyspace_of made) old.memory.trees) out made.tables.items) error)
+    (λ k out. IsFlushPlanRefusal (last_known old.memory.records k) (flush_with (shape_in (keyspace_of made) old.memory.trees) out made.tables.items) error)
 
 -- What an eviction did to the disk: a crash leaves all but some of the journals that go, the oldest ones; where it was done the writer
 -- goes on behind the others, and where it wasn't it stopped; and what stands in `keyspaces` stayed, in sight wherever the writer goes on.
@@ -241,7 +240,7 @@ pub record WroteMerge (m : Remembered) (made : MergeMade) (old new : Meaning) (d
   pub leaves : merged.ForMerging old m made (λ id records t h does next. LeavesOnly old new (λ image. HasTree image t ⊎ HasTree image next))
   pub lies : done ≡ true → merged.ForMerging old m made (λ id records t h does next. LiesInTree (state_in new) records next)
   pub beside : merged.ForMerge m (merged.keyspace_of made)
-      (λ k out. merging.KeepsTables (merged.keyspace_of made) (last_known m.records k).next_table_id (length made.tables.items) old new)
+      (λ k out. merging.MergeKeepsTables (merged.keyspace_of made) (last_known m.records k).next_table_id (length made.tables.items) old new)
   pub fits : done ≡ true → merged.ForMerge m (merged.keyspace_of made) (λ k out. (last_known m.records k).next_table_id + length made.tables.items < 2 ^ 64)
   pub files : done ≡ true → merged.ForMerge m (merged.keyspace_of made)
       (λ k out. HaveFiles new (merged.keyspace_of made) (last_known m.records k).next_table_id made.tables.items)
@@ -263,7 +262,7 @@ PutsMerge honest old made (Ok taken) new =
     × (honest → WroteMerge old.memory made old.disk new.disk true)
 PutsMerge honest old made (Err (Io kind)) new = Poisons old.memory old new × (honest → WroteMerge old.memory made old.disk new.disk false)
 PutsMerge honest old made (Err error) new =
-    (new ≡ old) × merged.ForMerge old.memory (merged.keyspace_of made) (λ k out. merging.IsPlanRefusal (last_known old.memory.records k) (merged.counted_as out made) error)
+    (new ≡ old) × merged.ForMerge old.memory (merged.keyspace_of made) (λ k out. merging.IsMergePlanRefusal (last_known old.memory.records k) (merged.counted_as out made) error)
 
 -- What the removal of the tables that a merge took did to the disk: nothing outside the keyspace's folder, and in sight nothing but those
 -- names changed; a crash leaves the tree that lies there, of whose record they are none, and it lies there still; where it was done they

@@ -7,40 +7,27 @@ use Rattle.fjall_base.specs.declared.error.Error.{Error}
 use Rattle.fjall_base.specs.declared.error.Error.TheVariants.{Io}
 use Rattle.fjall_journal.specs.declared.persist_mode.PersistMode.{PersistMode}
 use Rattle.fjall_journal.specs.declared.persist_mode.PersistMode.TheVariants.{Buffer, SyncData, SyncAll}
-use Rattle.fjall_state.specs.declared.call.Call.{Call}
+use Rattle.fjall_machine.specs.declared.call.Call.{Call}
 use Rattle.fjall_history.specs.declared.reply.Reply.{Reply}
 use Rattle.fjall_history.specs.declared.reply.Reply.TheVariants.{Refused}
 use Rattle.fjall_files.specs.Tidy.{IsTidy, StaysTidy}
-use Rattle.fjall_versions.specs.Replays.{option_pairs}
-use Rattle.fjall_recovery.specs.Folders.{StandsFor}
+use Rattle.fjall_contents.specs.Replays.{option_pairs}
+use Rattle.fjall_recovery.specs.Folders.{ImageStandsFor}
 use Rattle.fjall_journal.specs.Changes.{Emptied, Items, command_of}
-use Rattle.fjall_state.specs.Ingests.{ingestion}
+use Rattle.fjall_compaction.specs.Ingests.{ingestion}
 use Rattle.fjall_history.specs.Histories.{Accepted, commands_of, extended}
-use Rattle.fjall_state.specs.Shapes.{OfChange, OfCount, OfCreation, OfDeletion, OfFlushBegin, OfFlushFinish, OfHandle, OfIngestion, OfJournalRotation, OfMaintenance, OfMergeBegin, OfMergeFinish, OfPersist, OfRead, OfRotation, OfTickets, Shape, shape_of}
-use Rattle.fjall_state.specs.Machine.{State, Step, begins_flush, has_name, is_living, mode_in, present}
+use Rattle.fjall_machine.specs.Shapes.{CallShape, OfChange, OfCreation, OfDeletion, OfFlushBegin, OfIngestion, OfJournalRotation, OfPersist, shape_of}
+use Rattle.fjall_machine.specs.Machine.{State, Step, begins_flush, has_name, is_living, mode_in, present}
 use Rattle.fjall_core.specs.Durables.{Durable, IsBeginning, StandsAmid, Passes}
 
 -- the command that a call asks for in that state
-abbrev pub asked : State → Shape → List Command
-asked s (OfChange (Items []) how) = []
+abbrev pub asked : State → CallShape → List Command
 asked s (OfChange (Items (item ∷ items)) how) = command_of (Items (item ∷ items)) ∷ []
 asked s (OfChange (Emptied id) how) = command_of (Emptied id) ∷ []
-asked s (OfIngestion id []) = []
 asked s (OfIngestion id (item ∷ items)) = ingestion id (item ∷ items) ∷ []
 asked s (OfCreation name options) = if has_name (present s) name then [] else (Create name (option_pairs options) ∷ [])
 asked s (OfDeletion id) = if is_living (present s) id then (Delete id ∷ []) else []
-asked s (OfHandle call id) = []
-asked s (OfRotation id) = []
-asked s OfJournalRotation = []
-asked s (OfFlushBegin id) = []
-asked s (OfFlushFinish job) = []
-asked s (OfMergeBegin kind id) = []
-asked s (OfMergeFinish job) = []
-asked s OfMaintenance = []
-asked s (OfRead view id query) = []
-asked s (OfTickets call) = []
-asked s (OfPersist mode) = []
-asked s (OfCount count) = []
+asked s shape = []
 
 -- it tells of a fault of the disk
 abbrev pub is_io : Error → Bool
@@ -48,7 +35,7 @@ is_io (Io kind) = true
 is_io error = false
 
 -- what a call in that state tried to do: its command, where it was accepted or a fault of the disk refused it
-abbrev pub attempt : State → Shape → Reply → List Command
+abbrev pub attempt : State → CallShape → Reply → List Command
 attempt s shape (Refused error) = if is_io error then asked s shape else []
 attempt s shape reply = asked s shape
 
@@ -65,29 +52,19 @@ IsSyncOf (Some mode) = IsSyncMode mode
 
 -- A call that syncs all that was accepted, where it succeeds: an ingestion, a creation, a deletion, a rotation of the journal and
 -- a flush that begins do so too.
-abbrev pub Syncs : State → Shape → Type 0
-Syncs s (OfChange (Items []) how) = ⊥
+abbrev pub Syncs : State → CallShape → Type 0
 Syncs s (OfChange (Items (item ∷ items)) how) = IsSyncOf (mode_in (present s) how)
 Syncs s (OfChange (Emptied id) how) = IsSyncOf (mode_in (present s) how)
-Syncs s (OfIngestion id []) = ⊥
 Syncs s (OfIngestion id (item ∷ items)) = Unit {0}
 Syncs s (OfCreation name options) = has_name (present s) name ≡ false
 Syncs s (OfDeletion id) = is_living (present s) id ≡ true
-Syncs s (OfHandle call id) = ⊥
-Syncs s (OfRotation id) = ⊥
 Syncs s OfJournalRotation = Unit {0}
 Syncs s (OfFlushBegin id) = begins_flush s.parts.trees id ≡ true
-Syncs s (OfFlushFinish job) = ⊥
-Syncs s (OfMergeBegin kind id) = ⊥
-Syncs s (OfMergeFinish job) = ⊥
-Syncs s OfMaintenance = ⊥
-Syncs s (OfRead view id query) = ⊥
-Syncs s (OfTickets call) = ⊥
 Syncs s (OfPersist mode) = IsSyncMode mode
-Syncs s (OfCount count) = ⊥
+Syncs s shape = ⊥
 
 -- in that state, a sync that succeeded
-abbrev pub IsSync : State → Shape → Reply → Type 0
+abbrev pub IsSync : State → CallShape → Reply → Type 0
 IsSync s shape (Refused error) = ⊥
 IsSync s shape reply = Syncs s shape
 
@@ -97,12 +74,12 @@ BlamesDevice (Refused (Io kind)) old new = DeviceFailed old new
 BlamesDevice reply old new = new.misuses ≡ old.misuses
 
 -- what one call in that state leaves, and where it was a sync that succeeded, nothing is pending
-abbrev pub CallLeaves : State → Durable → Shape → Reply → Durable → Type 0
+abbrev pub CallLeaves : State → Durable → CallShape → Reply → Durable → Type 0
 CallLeaves s old shape reply new = Passes old (attempt s shape reply) new × (IsSync s shape reply → new.pending ≡ [])
 
 -- The same; where nothing stands in the way the device is to blame for `Io`, and the call put at each name only what may
 -- stand there.
-abbrev pub CallPasses : State → Durable → Shape → Reply → Durable → Type 0
+abbrev pub CallPasses : State → Durable → CallShape → Reply → Durable → Type 0
 CallPasses s old shape reply new =
     Passes old (attempt s shape reply) new × (IsSync s shape reply → new.pending ≡ []) × (IsTidy (state_in old.meaning) → BlamesDevice reply old.meaning new.meaning) × StaysTidy old.meaning new.meaning
 
@@ -141,9 +118,9 @@ IsSyncAt s d calls replies tried t e run i = ⊥
 -- There was a moment since old at which each crash left just these commands. From then on each crash leaves all of them.
 pub record SafeSince (old : Durable) (before all : List Command) (new : Meaning) : Type 0 where
   pub moment : Meaning
-  pub added : List disk.Step
+  pub added : List disk.DiskStep
   pub passed : Took old.meaning moment added
-  pub exactly : (image : Image) → IsImage (state_in moment) image → StandsFor image (kept (fold old.base (old.pending ++ before)))
+  pub exactly : (image : Image) → IsImage (state_in moment) image → ImageStandsFor image (kept (fold old.base (old.pending ++ before)))
   pub since : LeavesOnly moment new (StandsAmid old.base (old.pending ++ before) (old.pending ++ all))
 
 -- Of all that was tried these commands are in the new base, whatever else is; the rest is pending.

@@ -1,24 +1,24 @@
 -- What a crash leaves of the engine's commands.
 use Rattle.std.specs.Prelude.{All, ◌≡◌, ◌⊎◌, ℕ, ◌<◌, ◌≤◌, ◌^◌, Bool, true, false, List, [], ◌∷◌, ◌++◌, length, map, Ok, Some}
 use Rattle.fjall_base.specs.Store.{Store, Command, fold, kept}
-use Rattle.fjall_base.specs.Disk.{Image, IsFile, IsImage, Meaning, LeavesOnly, State, state_in}
+use Rattle.fjall_base.specs.Disk.{Image, IsFile, IsImage, Meaning, LeavesOnly, DiskState, state_in}
 use Rattle.fjall_journal.specs.Batches.{Written, shown}
-use Rattle.fjall_lsm.specs.Jobs.{flush_end}
-use Rattle.fjall_lsm.specs.Trees.{Flushing}
-use Rattle.fjall_tree.specs.Records.{Fields}
+use Rattle.fjall_tree.specs.Jobs.{flush_end}
+use Rattle.fjall_tree.specs.Trees.{Flushing}
+use Rattle.fjall_manifest.specs.Records.{Fields}
 use Rattle.fjall_files.specs.declared.marker.Marker.TheVariants.{Whole}
 use Rattle.fjall_files.specs.Marker.{marker_tells}
 use Rattle.fjall_files.specs.Names.{journal_name}
 use Rattle.fjall_contents.specs.Contents.{journal_beyond}
 use Rattle.fjall_manager.specs.Journals.{Journals}
 use Rattle.fjall_manager.specs.Telling.{AreMarksOf}
-use Rattle.fjall_loading.specs.Known.{IsKnown}
+use Rattle.fjall_recovery.specs.Known.{IsKnown}
 use Rattle.fjall_recovery.specs.Homes.{stored_in}
 use Rattle.fjall_recovery.specs.Journals.{batches_in}
-use Rattle.fjall_replay.specs.Beside.{AreReplayedWith}
+use Rattle.fjall_recovery.specs.Beside.{AreReplayedWith}
 use Rattle.fjall_table.specs.Blocks.{Entry}
 use Rattle.fjall_trees.specs.Forests.{Planted}
-use Rattle.fjall_recovery.specs.Folders.{marker_bytes, number_of, store_of}
+use Rattle.fjall_recovery.specs.Folders.{marker_bytes, number_of_contents, store_of_contents}
 pub use Rattle.fjall_recovery.specs.Amid.{IsBeginning, StandsAmid}
 use Rattle.fjall_recovery.specs.Halves.{Tree}
 use Rattle.fjall_recovery.specs.Places.{Journaling, LiesInTree, contents_with, journals_with}
@@ -33,19 +33,19 @@ pub record Durable : Type 0 where
   pub pending : List Command
 
 -- a crash now leaves the base with a beginning of what is pending
-abbrev pub Rests : Durable → Type 0
-Rests d = (image : Image) → IsImage (state_in d.meaning) image → StandsAmid d.base [] d.pending image
+abbrev pub CrashLeavesPending : Durable → Type 0
+CrashLeavesPending d = (image : Image) → IsImage (state_in d.meaning) image → StandsAmid d.base [] d.pending image
 
 -- an image of a folder whose making was finished, and some journal's file stands in it
-pub record IsFinished (image : Image) : Type 0 where
+pub record IsFinishedImage (image : Image) : Type 0 where
   pub marker : marker_tells (marker_bytes image) ≡ Ok Whole
   pub id : ℕ
   pub fits : id < 2 ^ 64
   pub journal : IsFile (image (journal_name id))
 
 -- a crash now leaves such a folder
-abbrev pub StaysFinished : State → Type 0
-StaysFinished state = (image : Image) → IsImage state image → IsFinished image
+abbrev pub StaysFinished : DiskState → Type 0
+StaysFinished state = (image : Image) → IsImage state image → IsFinishedImage image
 
 -- From old to new, while these commands were tried: each crash since old leaves the base with a beginning of what was
 -- pending and what was tried, and some beginning of those is in the new base.
@@ -54,7 +54,7 @@ pub record Passes (old : Durable) (tried : List Command) (new : Durable) : Type 
   pub safe : List Command
   pub base : kept new.base ≡ kept (fold old.base safe)
   pub rest : safe ++ new.pending ≡ old.pending ++ tried
-  pub rests : Rests new
+  pub rests : CrashLeavesPending new
 
 -- What is known of journals tells of these: the sealed ones by their numbers and with their watermarks, the number of the active
 -- one, and the watermarks of all batches that were handed to that.
@@ -74,9 +74,9 @@ pub record Lies (core : Held) (d : Durable) : Type 0 where
   pub told : AreKnown journals core.memory.journals
   pub last : tree.last ≡ core.catalog
   pub keyspaces : tree.keyspaces ≡ core.memory.keyspaces
-  pub made : kept d.base ≡ store_of (contents_with journals tree [])
+  pub made : kept d.base ≡ store_of_contents (contents_with journals tree [])
   pub waits : d.pending ≡ journal_beyond tree.keyspaces (stored_in tree.homes tree.versions) (map shown journals.later)
-  pub next : number_of (contents_with journals tree journals.later) ≤ core.memory.next
+  pub next : number_of_contents (contents_with journals tree journals.later) ≤ core.memory.next
 
 -- Where a flush is out of a tree, the parts of memory that it takes are there, and all that it covers was synced before it began: the
 -- batches that aren't synced yet are numbered from where the parts begin that it leaves.

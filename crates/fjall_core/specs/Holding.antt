@@ -2,7 +2,7 @@
 use Rattle.fjall_base.specs.Disk.{Meaning}
 use Rattle.fjall_journal.specs.Writer.{Journal}
 use Rattle.fjall_catalog.specs.declared.catalog.Catalog.{Catalog}
-use Rattle.fjall_state.specs.Remembered.{Remembered}
+use Rattle.fjall_machine.specs.Remembered.{Remembered}
 
 -- What the disk means, the journal's writer, what tree 0's last record says, and what stands in memory.
 pub record Held : Type 0 where

@@ -9,10 +9,10 @@ use Rattle.fjall_jobs.specs.declared.merge_job.MergeJob.{MergeJob}
 use Rattle.fjall_jobs.specs.Flushes.{flush_task}
 use Rattle.fjall_jobs.specs.Merges.{merge_task}
 use Rattle.fjall_jobs.specs.Tasks.{Task}
-use Rattle.fjall_state.specs.Machine.{State, StepOf, is_flushing, is_merging}
-use Rattle.fjall_state.specs.Merging.{KnowsMerge}
-use Rattle.fjall_state.specs.Remembered.{KnowsTask, Remembered}
-use Rattle.fjall_state.specs.Shapes.{OfFlushBegin, OfFlushFinish, OfMergeBegin, OfMergeFinish, Shape}
+use Rattle.fjall_machine.specs.Machine.{State, StepOf, is_flushing, is_merging}
+use Rattle.fjall_machine.specs.Merging.{KnowsMerge}
+use Rattle.fjall_machine.specs.Remembered.{KnowsTask, Remembered}
+use Rattle.fjall_machine.specs.Shapes.{CallShape, OfFlushBegin, OfFlushFinish, OfMergeBegin, OfMergeFinish}
 use Rattle.fjall_core.specs.declared.jobs.Jobs.{Jobs}
 use Rattle.fjall_core.specs.Holding.{Held}
 use Rattle.fjall_core.specs.Standing.{ReadsOn, StandsFor}
@@ -36,7 +36,7 @@ abbrev pub is_merge_kept : JobId → List MergeJob → Bool
 is_merge_kept job jobs = list_any (is_merge_named job) jobs
 
 -- The number of the job was given out, and where its flush, or its merge, is out, the job is kept.
-pub record IsKnown (m : Remembered) (jobs : Jobs) (job : JobId) : Type 0 where
+pub record IsJobKnown (m : Remembered) (jobs : Jobs) (job : JobId) : Type 0 where
   pub given : job.number < m.next_job
   pub flush : is_flushing m.trees job ≡ true → is_kept job jobs.flushes.items ≡ true
   pub merge : is_merging m.trees job ≡ true → is_merge_kept job jobs.merges.items ≡ true
@@ -44,19 +44,19 @@ pub record IsKnown (m : Remembered) (jobs : Jobs) (job : JobId) : Type 0 where
 -- Each flush that is kept is known to memory, and so is each job that a call began, as these replies tell.
 pub record KeepsJobs (m : Remembered) (jobs : Jobs) (replies : List Reply) : Type 0 where
   pub known : All (λ kept. KnowsTask m (flush_task kept)) jobs.flushes.items
-  pub named : (place : ℕ) (job : JobId) → slice_get replies place ≡ Some (Began (Some job)) → IsKnown m jobs job
+  pub named : (place : ℕ) (job : JobId) → slice_get replies place ≡ Some (Began (Some job)) → IsJobKnown m jobs job
 
 -- the state knows each of these merges
 abbrev pub KnowsMerges : State → List MergeJob → Type 0
 KnowsMerges s jobs = All (λ kept. KnowsMerge s kept.target (merge_task kept)) jobs
 
 -- Where a state knew the merges that were kept, it knows those that are kept now, in whatever state the step led to.
-abbrev pub KeepsMerges : Held → List MergeJob → Shape → Reply → List MergeJob → Type 0
+abbrev pub KeepsMerges : Held → List MergeJob → CallShape → Reply → List MergeJob → Type 0
 KeepsMerges old before shape reply after =
     (s : State) → StandsFor old s → ReadsOn old s → KnowsMerges s before → (t : State) → StepOf s shape reply t → KnowsMerges t after
 
 -- a call that neither begins nor finishes a job
-abbrev pub IsPlain : Shape → Type 0
+abbrev pub IsPlain : CallShape → Type 0
 IsPlain (OfFlushBegin id) = ⊥
 IsPlain (OfFlushFinish job) = ⊥
 IsPlain (OfMergeBegin kind id) = ⊥

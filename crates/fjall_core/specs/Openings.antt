@@ -1,7 +1,7 @@
 -- What opening makes of a disk.
 use Rattle.std.specs.Prelude.{◌≡◌, ◌⊎◌, ℕ, true, List, [], length, Option, Err, unwrap_or}
 use Rattle.fjall_base.specs.Store.{Store, Command, fold, kept}
-use Rattle.fjall_base.specs.Disk.{LeavesOnly, Meaning, State, Took, standing, state_in}
+use Rattle.fjall_base.specs.Disk.{DiskState, LeavesOnly, Meaning, Took, standing, state_in}
 use Rattle.fjall_base.specs.declared.error.Error.{Error}
 use Rattle.fjall_base.specs.declared.error.Error.TheVariants.{Io}
 use Rattle.fjall_files.specs.Tidy.{StaysTidy}
@@ -17,12 +17,12 @@ use Rattle.fjall_recovery.specs.Refusals.{FolderRefuses, IsDue}
 use Rattle.fjall_recovery.specs.Amid.{HoldsAmid, IsBeginning, StandsAmid}
 use Rattle.fjall_recovery.specs.Held.{IsOpenFolder, number_held}
 use Rattle.fjall_recovery.specs.Homes.{no_fields}
-use Rattle.fjall_repair.specs.Opened.{HaveEntriesIn, IsSomeFolder, store_entries}
+use Rattle.fjall_opening.specs.Opened.{HaveEntriesIn, IsSomeFolder, store_entries}
 use Rattle.fjall_table.specs.Blocks.{Entry}
-use Rattle.fjall_blocks.specs.Readers.{SomeTableIsWrong}
+use Rattle.fjall_table_reader.specs.Readers.{SomeTableIsWrong}
 use Rattle.fjall_trees.specs.Tables.{shape_in}
-use Rattle.fjall_state.specs.Machine as machine
-use Rattle.fjall_state.specs.Machine.{Parts, is_among, opened_state}
+use Rattle.fjall_machine.specs.Machine as machine
+use Rattle.fjall_machine.specs.Machine.{Parts, is_among, opened_state}
 use Rattle.fjall_core.specs.Holding.{Held}
 use Rattle.fjall_core.specs.Standing.{HoldsStore, ReadsOn, StandsFor, StandsOn, reply_of}
 use Rattle.fjall_repair.specs.Sweeps.{IsSwept}
@@ -68,17 +68,17 @@ IsDueTo old new error = IsDue (FolderRefuses (standing (state_in old))) error ×
 
 -- whatever store the disk held, a crash at each moment from old to new leaves that store
 abbrev pub KeepsStore : Meaning → Meaning → Type 0
-KeepsStore old new = (store : Store) → HoldsStore (state_in old) store → LeavesOnly old new (λ image. folders.StandsFor image store)
+KeepsStore old new = (store : Store) → HoldsStore (state_in old) store → LeavesOnly old new (λ image. folders.ImageStandsFor image store)
 
 -- The writer goes on at the end of its file, all of which is synced, and its length is the file's; nothing waits.
-pub record IsAtEnd (state : State) (writer : Journal) : Type 0 where
+pub record IsAtEnd (state : DiskState) (writer : Journal) : Type 0 where
   pub text : List ℕ
   pub file : IsSafe state writer.name text
   pub len : writer.len ≡ length text
   pub buffer : writer.buffer ≡ []
 
 -- The file of each sealed journal is synced, and its length is the one that is known.
-abbrev pub AreWhole : State → List Sealed → Type 0
+abbrev pub AreWhole : DiskState → List Sealed → Type 0
 AreWhole state sealed = AllByRecursion (λ s. (text : List ℕ) × IsSafe state (journal_name s.id) text × (s.len ≡ length text)) sealed
 
 -- A core that was just opened stands for this store, with it as its base, nothing is pending, and no keyspace is damaged. Its disk

@@ -21,8 +21,8 @@ use Rattle.fjall_journal.specs.Writer.{BatchTook, Journal, after_command, batch_
 use Rattle.fjall_files.specs.Names.{journal_name, keyspace_folder, table_name}
 use Rattle.fjall_recovery.specs.Halves.{is_of_keyspaces}
 use Rattle.fjall_table.specs.Blocks.{Entry}
-use Rattle.fjall_blocks.specs.Readers.{AreRead, Reader, SomeTableIsWrong}
-use Rattle.fjall_tree.specs.Records.{Fields}
+use Rattle.fjall_table_reader.specs.Readers.{AreRead, Reader, SomeTableIsWrong}
+use Rattle.fjall_manifest.specs.Records.{Fields}
 use Rattle.fjall_jobs.specs.declared.flush_job.FlushJob.{FlushJob}
 use Rattle.fjall_jobs.specs.declared.flush_made.FlushMade.{FlushMade}
 use Rattle.fjall_jobs.specs.declared.made_table.MadeTable.{MadeTable}
@@ -31,23 +31,23 @@ use Rattle.fjall_jobs.specs.declared.merge_made.MergeMade.{MergeMade}
 use Rattle.fjall_jobs.specs.Flushes.{flush_task}
 use Rattle.fjall_jobs.specs.Merges.{merge_task}
 use Rattle.fjall_jobs.specs.Tasks.{IsFlushed, Task}
-use Rattle.fjall_lsm.specs.Jobs.{IsFlushing, count_out}
-use Rattle.fjall_lsm.specs.Trees.{Merging, is_l0}
-use Rattle.fjall_state.specs.Flushes.{infos_from, record_after}
-use Rattle.fjall_home.specs.Changes.{AreGone}
-use Rattle.fjall_state.specs.Merges.{Merge}
-use Rattle.fjall_state.specs.Merges as merges
-use Rattle.fjall_state.specs.MergeFinishing as merging
-use Rattle.fjall_loading.specs.Known.{AreListed, last_known}
+use Rattle.fjall_tree.specs.Jobs.{IsFlushing, count_out}
+use Rattle.fjall_tree.specs.Trees.{Merging, is_l0}
+use Rattle.fjall_compaction.specs.Flushes.{infos_from, record_after}
+use Rattle.fjall_manifest.specs.Changes.{AreGone}
+use Rattle.fjall_compaction.specs.Merges.{Merge}
+use Rattle.fjall_compaction.specs.Merges as merges
+use Rattle.fjall_compaction.specs.MergeFinishing as merging
+use Rattle.fjall_recovery.specs.Known.{AreListed, last_known}
 use Rattle.fjall_meta.specs.declared.living.LivingKeyspace.{LivingKeyspace}
 use Rattle.fjall_meta.specs.Keyspaces.{id_of, keyspace_at}
 use Rattle.fjall_catalog.specs.declared.catalog.Catalog.{Catalog}
 use Rattle.fjall_catalog.specs.Updates.{IsTableGone}
-use Rattle.fjall_maps.specs.Maps.{pairs_in, store_of}
-use Rattle.fjall_maps.specs.Tables.{store_with}
+use Rattle.fjall_trees.specs.Maps.{pairs_in, store_of}
+use Rattle.fjall_trees.specs.MapTables.{store_with}
 use Rattle.fjall_recovery.specs.Folders.{Contents}
-use Rattle.fjall_recovery.specs.Held.{Holds, store_held}
-use Rattle.fjall_repair.specs.Opened.{ComesBack}
+use Rattle.fjall_recovery.specs.Held.{Holds, store_of_folder}
+use Rattle.fjall_opening.specs.Opened.{ComesBack}
 use Rattle.fjall_commit.specs.Removals.{RemovesOwn}
 use Rattle.fjall_manager.specs.Evictions.{StoppedBehind, TookEvictions, evicting}
 use Rattle.fjall_manager.specs.Journals.{Sealed, bytes_of, names_of, staying, waited_for}
@@ -60,18 +60,18 @@ use Rattle.fjall_history.specs.declared.reply.Reply.{Reply}
 use Rattle.fjall_history.specs.declared.reply.Reply.TheVariants.{Began, Done, Ids, Value, Pairs, Number, Names, Flag, Opened, Refused}
 use Rattle.fjall_history.specs.declared.ticket.View.{View}
 use Rattle.fjall_history.specs.Queries.{Get, Page, Query, Tells}
-use Rattle.fjall_state.specs.declared.call.Call.{Call}
-use Rattle.fjall_state.specs.declared.merges.MergeKind.{MergeKind}
-use Rattle.fjall_state.specs.Shapes.{Count, DiskSpace, Exists, Flushes, JournalSpace, Keyspaces, Next, OfChange, OfCount, OfCreation, OfDeletion, OfFlushBegin, OfFlushFinish, OfHandle, OfIngestion, OfJournalRotation, OfMergeBegin, OfMergeFinish, MergesDone, MergesOut, OfMaintenance, OfPersist, OfRead, OfRotation, OfTickets, OneLess, OneMore, OpenTickets, Persistence, Entries, SealedMemtables, Shape, Tables, TablesL0, ToFlush, Visible, WriteBuffer, shape_of}
-use Rattle.fjall_state.specs.Shapes as shapes
-use Rattle.fjall_state.specs.Machine.{Parts, State, StepOf, Run, TakesMemory, ChangesDisk, LacksRoom, ReadsTables, TooLong, TurnsTickets, begins_flush, present, due_in, buffer_size, flush_count, LacksMergeIds, LacksMergeRoom, begins_merge, flush_with, has_name, is_among, is_flushing, is_living, is_merging, merge_count, mode_in, rotates, table_space, tables_space, version_count, wants_rotation}
-use Rattle.fjall_state.specs.Remembered.{IsLawful, Remembered, facts_of, flushed_by, instant_in, is_last, with_change, with_creation, with_deletion, with_tickets, with_trees, retained, released, rotated, poisoned}
-use Rattle.fjall_state.specs.Remembered as memory
-use Rattle.fjall_state.specs.Evicting.{going_in}
-use Rattle.fjall_state.specs.Ingesting as ingesting
-use Rattle.fjall_state.specs.Whole.{LacksIds, LacksRecordRoom}
+use Rattle.fjall_machine.specs.declared.call.Call.{Call}
+use Rattle.fjall_machine.specs.declared.merge_kind.MergeKind.{MergeKind}
+use Rattle.fjall_machine.specs.Shapes.{Count, DiskSpace, Exists, Flushes, JournalSpace, Keyspaces, Next, OfChange, OfCount, OfCreation, OfDeletion, OfFlushBegin, OfFlushFinish, OfHandle, OfIngestion, OfJournalRotation, OfMergeBegin, OfMergeFinish, MergesDone, MergesOut, OfMaintenance, OfPersist, OfRead, OfRotation, OfTickets, OneLess, OneMore, OpenTickets, Persistence, Entries, SealedMemtables, CallShape, Tables, TablesL0, ToFlush, Visible, WriteBuffer, shape_of}
+use Rattle.fjall_machine.specs.Shapes as shapes
+use Rattle.fjall_machine.specs.Machine.{Parts, State, StepOf, Run, TakesMemory, ChangesDisk, LacksRoom, ReadsTables, TooLong, TurnsTickets, begins_flush, present, due_in, buffer_size, flush_count, LacksMergeIds, LacksMergeRoom, begins_merge, flush_with, has_name, is_among, is_flushing, is_living, is_merging, merge_count, mode_in, rotates, table_space, tables_space, version_count, wants_rotation}
+use Rattle.fjall_machine.specs.Remembered.{IsLawful, Remembered, facts_of, flushed_by, instant_in, is_last, with_change, with_creation, with_deletion, with_tickets, with_trees, retained, released, rotated, poisoned}
+use Rattle.fjall_machine.specs.Remembered as memory
+use Rattle.fjall_machine.specs.Evicting.{going_in}
+use Rattle.fjall_machine.specs.Ingesting as ingesting
+use Rattle.fjall_compaction.specs.Whole.{LacksIds, LacksRecordRoom}
 use Rattle.fjall_writes.specs.Ingestions.{KeyOp}
-use Rattle.fjall_core.specs.Durables.{Durable, Knows, StandsAmid, Passes, Rests, Lies, MakesPresent, StaysFinished}
+use Rattle.fjall_core.specs.Durables.{Durable, Knows, StandsAmid, Passes, CrashLeavesPending, Lies, MakesPresent, StaysFinished}
 use Rattle.fjall_core.specs.Crashes.{BlamesDevice, CallPasses, RunOn, SafeSince, Tried, IsSyncAt, SafeAt, asked}
 use Rattle.fjall_core.specs.Holding.{Held}
 
@@ -81,7 +81,7 @@ store_in core = store_of core.memory.keyspaces core.memory.trees
 
 -- The state is one that the core may be in.
 pub record StandsFor (core : Held) (s : State) : Type 0 where
-  pub remembered : memory.StandsFor core.memory core.catalog.next_table_id s
+  pub remembered : memory.MemoryStandsFor core.memory core.catalog.next_table_id s
   pub journal : s.parts.journal ≡ core.journal.len
   pub buffer : s.parts.buffer ≡ length core.journal.buffer
 
@@ -94,7 +94,7 @@ store_with_tables entries core = store_with entries core.memory.keyspaces core.m
 -- the disk as it knows, and it knows its keyspaces' homes.
 pub record StandsOn (core : Held) (entries : ℕ → List (List Entry)) (d : Durable) : Type 0 where
   pub same : d.meaning ≡ core.disk
-  pub rests : Rests d
+  pub rests : CrashLeavesPending d
   pub finished : StaysFinished (state_in d.meaning)
   pub lies : core.memory.poisoned ≡ false → Lies core d
   pub knows : (well : core.memory.poisoned ≡ false) → Knows core entries (lies well).journals (lies well).tree
@@ -124,7 +124,7 @@ pub record ReadsOn (core : Held) (s : State) : Type 0 where
 -- ---- what calls owe, whatever the disk is
 
 -- the refusal that is due for a call of this core
-abbrev pub held_due : Held → Shape → Option Error
+abbrev pub held_due : Held → CallShape → Option Error
 held_due core shape = due_in (facts_of core.memory core.catalog.next_table_id) shape
 
 -- the mode of a change
@@ -140,24 +140,9 @@ abbrev pub next_name : Held → Name
 next_name core = journal_name (core.memory.journals.active + 1)
 
 -- what is in memory after a fault of the disk, but that the core is poisoned: a handle is counted less all the same
-abbrev pub at_fault : Shape → Remembered → Remembered
-at_fault (OfChange change how) m = m
-at_fault (OfIngestion id items) m = m
-at_fault (OfCreation name options) m = m
-at_fault (OfDeletion id) m = m
-at_fault (OfHandle OneMore id) m = m
+abbrev pub at_fault : CallShape → Remembered → Remembered
 at_fault (OfHandle OneLess id) m = released id m
-at_fault (OfRotation id) m = m
-at_fault OfJournalRotation m = m
-at_fault (OfFlushBegin id) m = m
-at_fault (OfFlushFinish job) m = m
-at_fault (OfMergeBegin kind id) m = m
-at_fault (OfMergeFinish job) m = m
-at_fault OfMaintenance m = m
-at_fault (OfRead view id query) m = m
-at_fault (OfTickets call) m = m
-at_fault (OfPersist mode) m = m
-at_fault (OfCount count) m = m
+at_fault shape m = m
 
 -- A fault of the disk has poisoned the core, and what is in memory is this.
 pub record Poisons (left : Remembered) (old new : Held) : Type 0 where
@@ -234,24 +219,11 @@ abbrev pub begins_merge_in : Held → MergeKind → ℕ → Bool
 begins_merge_in core kind id = begins_merge (store_in core) core.memory.trees kind id
 
 -- Where memory ran out nothing has changed; a release, a read of tables, and a merge that was to begin, has looked at the disk by then.
-abbrev pub RanOut : Held → Shape → Held → Type 0
-RanOut old (OfChange change how) new = new ≡ old
-RanOut old (OfIngestion id items) new = new ≡ old
-RanOut old (OfCreation name options) new = new ≡ old
-RanOut old (OfDeletion id) new = new ≡ old
-RanOut old (OfHandle OneMore id) new = new ≡ old
+abbrev pub RanOut : Held → CallShape → Held → Type 0
 RanOut old (OfHandle OneLess id) new = (new ≡ record old { disk = new.disk }) × (old.disk.faults ≤ new.disk.faults)
-RanOut old (OfRotation id) new = new ≡ old
-RanOut old OfJournalRotation new = new ≡ old
-RanOut old (OfFlushBegin id) new = new ≡ old
-RanOut old (OfFlushFinish job) new = new ≡ old
 RanOut old (OfMergeBegin kind id) new = (begins_merge_in old kind id ≡ true) × Looks old new
-RanOut old (OfMergeFinish job) new = new ≡ old
-RanOut old OfMaintenance new = new ≡ old
 RanOut old (OfRead view id query) new = LooksAt (tables_of old id) old new
-RanOut old (OfTickets call) new = new ≡ old
-RanOut old (OfPersist mode) new = new ≡ old
-RanOut old (OfCount count) new = new ≡ old
+RanOut old shape new = new ≡ old
 
 -- ---- flushes and evictions
 
@@ -321,7 +293,7 @@ pub record IngestedInMemory (old : Remembered) (id : ℕ) (items : List KeyOp) (
   pub flushes : List MadeTable
   pub made : List MadeTable
   pub readers : List Reader
-  pub makes : ingesting.Makes (shape_in id old.trees) id old.tickets.watermark old.next items (last_known old.records k) flushes made readers
+  pub makes : ingesting.MakesIngestion (shape_in id old.trees) id old.tickets.watermark old.next items (last_known old.records k) flushes made readers
   pub is : new ≡ ingesting.with_ingestion id readers (ingesting.last_ingested old.next (shape_in id old.trees) flushes made (last_known old.records k)) old
 
 -- Items were ingested, behind a sync of the journal, of which a long one was sealed; and journals are gone that nobody wants any more.
@@ -409,7 +381,7 @@ LastIs core id Holds = (k : LivingKeyspace) × (keyspace_at id core.memory.keysp
 
 -- What a fault leaves of a worker's step: of a flush that begins nothing but the poison; a flush or a merge that is finished took effect
 -- in memory or it didn't; and some journals may be gone that nobody wants. One that a merge meets as it begins poisons nothing.
-abbrev pub WorkPoisons : Held → Shape → Held → Type 0
+abbrev pub WorkPoisons : Held → CallShape → Held → Type 0
 WorkPoisons old (OfFlushBegin id) new = (begins_flush old.memory.trees id ≡ true) × (are_jobs_used_up old ≡ false) × Poisons old.memory old new
 WorkPoisons old (OfFlushFinish job) new =
     IsDueToFinish old job × (old.memory.poisoned ≡ false)
@@ -432,7 +404,7 @@ LacksAt old job Lacks =
     (λ last. (out : Merging) × ((shape_in job.keyspace_id old.memory.trees).merge ≡ Some out) × (tables : List MadeTable) × (clears : List ℕ) × Lacks last (merging.merge_out out tables clears))
 
 -- a worker's step that needs a number of which none is left: a job's, a journal's, or that of a keyspace's next table
-abbrev pub UsesUp : Held → Shape → Type 0
+abbrev pub UsesUp : Held → CallShape → Type 0
 UsesUp old (OfFlushBegin id) = (begins_flush old.memory.trees id ≡ true) × (are_jobs_used_up old ≡ true)
 UsesUp old (OfFlushFinish job) = IsDueToFinish old job × (old.memory.poisoned ≡ false) × LastIs old job.keyspace_id (λ last. last.next_table_id ≡ 2 ^ 64 - 1)
 UsesUp old (OfMergeBegin kind id) = (begins_merge_in old kind id ≡ true) × (old.memory.next_job ≡ 2 ^ 64 - 1)
@@ -443,7 +415,7 @@ UsesUp old (OfIngestion id (item ∷ items)) =
 UsesUp old shape = ⊥
 
 -- the record of a keyspace whose flush or merge is to be finished has no room for the tables and the clears
-abbrev pub HasNoRoom : Held → Shape → Type 0
+abbrev pub HasNoRoom : Held → CallShape → Type 0
 HasNoRoom old (OfFlushFinish job) =
     let tree = shape_in job.keyspace_id old.memory.trees in
     IsDueToFinish old job × (old.memory.poisoned ≡ false) × LastIs old job.keyspace_id (LacksRoom tree tree.flush)
@@ -454,14 +426,14 @@ HasNoRoom old (OfIngestion id (item ∷ items)) =
 HasNoRoom old shape = ⊥
 
 -- a flush or a merge that is to be finished in a poisoned core, and isn't stale
-abbrev pub FinishesLate : Held → Shape → Type 0
+abbrev pub FinishesLate : Held → CallShape → Type 0
 FinishesLate old (OfFlushFinish job) = IsDueToFinish old job × (old.memory.poisoned ≡ true)
 FinishesLate old (OfMergeFinish job) = IsDueToMerge old job × (old.memory.poisoned ≡ true)
 FinishesLate old shape = ⊥
 
 -- A call that asks for memory: a worker's step only where there is one to make, no fault has poisoned the core, and the numbers of jobs and
 -- journals that it takes are left.
-abbrev pub AsksMemory : Held → Shape → Type 0
+abbrev pub AsksMemory : Held → CallShape → Type 0
 AsksMemory core (OfFlushBegin id) = (begins_flush core.memory.trees id ≡ true) × (are_jobs_used_up core ≡ false)
 AsksMemory core (OfFlushFinish job) = IsDueToFinish core job × (core.memory.poisoned ≡ false)
 AsksMemory core (OfMergeBegin kind id) = (begins_merge_in core kind id ≡ true) × (core.memory.next_job < 2 ^ 64 - 1)
@@ -469,14 +441,14 @@ AsksMemory core (OfMergeFinish job) = IsDueToMerge core job × (core.memory.pois
 AsksMemory core shape = TakesMemory shape
 
 -- A merge that was to begin met a wrong block, or the blocks of one that is out, as a disk that lies gave them, are in no order.
-abbrev pub FindsDisorder : Held → Shape → Held → Type 0
+abbrev pub FindsDisorder : Held → CallShape → Held → Type 0
 FindsDisorder old (OfMergeBegin kind id) new = (begins_merge_in old kind id ≡ true) × (old.memory.next_job < 2 ^ 64 - 1) × Looks old new
 FindsDisorder old (OfMergeFinish job) new = (is_merging old.memory.trees job ≡ true) × (new ≡ old)
 FindsDisorder old shape new = ⊥
 
 -- A call of whose reply a disk that lies may tell anything: a read of a keyspace that has tables, a merge that was to begin and met a wrong
 -- block, and one that is out, unless it is stale.
-abbrev pub RestsOnTables : Held → Shape → Reply → Type 0
+abbrev pub RestsOnTables : Held → CallShape → Reply → Type 0
 RestsOnTables core (OfMergeBegin kind id) (Refused (Storage told)) = begins_merge_in core kind id ≡ true
 RestsOnTables core (OfMergeFinish job) (Flag false) = ⊥
 RestsOnTables core (OfMergeFinish job) reply = is_merging core.memory.trees job ≡ true
@@ -487,7 +459,7 @@ RestsOnTables core shape reply = ReadsTables core.memory.trees shape
 -- Where no refusal is due, a fault may be told, or want of memory, or that an option's value is too long to be stored; a read of a
 -- keyspace that has tables, or a merge of it, may tell of a fault, or of a wrong block; and a worker's step that the core is poisoned, or
 -- that no number or no room is left.
-abbrev pub OwesFailure : Held → Shape → Error → Held → Type 0
+abbrev pub OwesFailure : Held → CallShape → Error → Held → Type 0
 OwesFailure old shape (Io kind) new =
     (ChangesDisk (facts_of old.memory old.catalog.next_table_id) (length old.journal.buffer) shape × Poisons (at_fault shape old.memory) old new)
     ⊎ ((ReadsTables old.memory.trees shape × Looks old new × Rose old.disk.faults new.disk.faults) ⊎ WorkPoisons old shape new)
@@ -500,7 +472,7 @@ OwesFailure old shape TooManyItems new = HasNoRoom old shape × (new ≡ old)
 OwesFailure old shape error new = ⊥
 
 -- a refusal is the one that is due, and changes nothing
-abbrev pub OwesRefusal : Option Error → Held → Shape → Error → Held → Type 0
+abbrev pub OwesRefusal : Option Error → Held → CallShape → Error → Held → Type 0
 OwesRefusal (Some first) old shape error new = (error ≡ first) × (new ≡ old)
 OwesRefusal None old shape error new = OwesFailure old shape error new
 
@@ -547,18 +519,18 @@ HeldCount core MergesDone reply = reply ≡ Number core.memory.merges_done
 HeldCount core ToFlush reply = (ids : Vec ℕ Global) × (reply ≡ Ids ids) × IsStrictlyIncreasing ids.items × (ids.items ≡ waited_for (flushed_by core.memory.keyspaces core.memory.records) core.memory.journals.sealed)
 
 -- an answer to such a query
-abbrev pub IsOfKind : Query → Reply → Type 0
-IsOfKind (Get key) reply = (found : Option Bytes) × (reply ≡ Value found)
-IsOfKind (Page range back max) reply = (found : Vec (Bytes × Bytes) Global) × (reply ≡ Pairs found)
+abbrev pub IsAnswerTo : Query → Reply → Type 0
+IsAnswerTo (Get key) reply = (found : Option Bytes) × (reply ≡ Value found)
+IsAnswerTo (Page range back max) reply = (found : Vec (Bytes × Bytes) Global) × (reply ≡ Pairs found)
 
 -- What a read gives of a keyspace with these tables: without any, what stands in memory. Of what tables hold any disk may tell
 -- anything; one that returns what it holds tells what they hold.
 abbrev pub GivesRead : List Reader → Held → View → ℕ → Query → Reply → Type 0
 GivesRead [] old view id query reply = Tells query (pairs_in id (instant_in old.memory view) old.memory.trees) reply
-GivesRead (t ∷ tables) old view id query reply = IsOfKind query reply
+GivesRead (t ∷ tables) old view id query reply = IsAnswerTo query reply
 
 -- where nothing refuses it, a call gives such a reply, and leaves this
-abbrev pub Gives : Held → Shape → Reply → Held → Type 0
+abbrev pub Gives : Held → CallShape → Reply → Held → Type 0
 Gives old (OfChange change how) reply new = (reply ≡ Done) × OwesChange old change how new
 Gives old (OfIngestion id items) reply new = OwesIngestion id items old reply new
 Gives old (OfCreation name options) reply new = (id : ℕ) × (reply ≡ Number id) × OwesCreation old name options id new
@@ -580,7 +552,7 @@ Gives old (OfCount count) reply new = HeldCount old count reply × (new ≡ old)
 
 -- What a call owes whatever the disk is: each refusal for its cause, with what it leaves, and each answer from memory, but for what
 -- tables hold.
-abbrev pub Owes : Held → Shape → Reply → Held → Type 0
+abbrev pub Owes : Held → CallShape → Reply → Held → Type 0
 Owes old shape (Refused error) new = OwesRefusal (held_due old shape) old shape error new
 Owes old shape reply new = (held_due old shape ≡ None) × Gives old shape reply new
 
@@ -615,12 +587,12 @@ abbrev pub EvictionStopped : Remembered → Meaning → Meaning → Type 0
 EvictionStopped m old new = (left gone : List Sealed) × (stopped : StoppedBehind (flushed_by m.keyspaces m.records) m.journals.sealed left gone) × TookEvictions old new gone stopped.next
 
 -- Wherever the core stood, there was a moment of the call at which a crash left just what was pending, and from then on a crash leaves all of it.
-abbrev pub KeepsPending : Held → Shape → Held → Type 0
+abbrev pub KeepsPending : Held → CallShape → Held → Type 0
 KeepsPending old shape new = (s : State) (d : Durable) → StandsFor old s → StandsOn old s.parts.entries d → SafeSince d [] (asked s shape) new.disk
 
 -- What the disk took of a creation or a deletion that failed behind its sync of the journal: that sync, and then what changed in `keyspaces`
 -- alone. All that was pending is safe.
-pub record ChangeStopped (old : Held) (shape : Shape) (new : Held) : Type 0 where
+pub record ChangeStopped (old : Held) (shape : CallShape) (new : Held) : Type 0 where
   pub synced : Meaning
   pub sync : Took old.disk synced (persist_steps old.journal SyncAll)
   pub within : Within (codes "keyspaces") synced new.disk
@@ -646,7 +618,7 @@ pub record IngestionStopped (old : Held) (id : ℕ) (items : List KeyOp) (new : 
 
 -- What the disk took of a call where it failed: some of what it takes of one that was done, in the same order. So nothing that was in the
 -- journal is cut off it.
-abbrev pub DiskFailed : Held → Shape → Held → Type 0
+abbrev pub DiskFailed : Held → CallShape → Held → Type 0
 DiskFailed old (OfChange change how) new = BatchTook (mode_of old how) old.disk new.disk old.journal (text_of old change)
 DiskFailed old (OfIngestion id items) new = SyncFailed old new ⊎ IngestionStopped old id items new
 DiskFailed old (OfCreation name options) new = PersistFailed old SyncAll new ⊎ ChangeStopped old (OfCreation name options) new
@@ -666,7 +638,7 @@ DiskFailed old (OfPersist mode) new = PersistFailed old mode new
 DiskFailed old (OfCount count) new = ⊥
 
 -- the table that the catalog names is safe in tree 0's folder
-abbrev pub HasTable : disk.State → Catalog → Type 0
+abbrev pub HasTable : disk.DiskState → Catalog → Type 0
 HasTable state c = IfSome c.table (λ t. (bytes : List ℕ) × IsSafe state (table_name 0 t.id) bytes)
 
 -- Tree 0 has another table: the one of before stands there no more, and wherever the core stood, the one that the catalog
@@ -682,24 +654,11 @@ RemovesLast old id new = MatchBool (is_last old.memory id && not old.memory.pois
 
 -- what a disk took of a call that memory ran out in: nothing, though a release, a read of tables, or a merge that was to begin, has
 -- looked at it
-abbrev pub DiskLooked : Held → Shape → Held → Type 0
-DiskLooked old (OfChange change how) new = new.disk ≡ old.disk
-DiskLooked old (OfIngestion id items) new = new.disk ≡ old.disk
-DiskLooked old (OfCreation name options) new = new.disk ≡ old.disk
-DiskLooked old (OfDeletion id) new = new.disk ≡ old.disk
-DiskLooked old (OfHandle OneMore id) new = new.disk ≡ old.disk
+abbrev pub DiskLooked : Held → CallShape → Held → Type 0
 DiskLooked old (OfHandle OneLess id) new = Took old.disk new.disk []
-DiskLooked old (OfRotation id) new = new.disk ≡ old.disk
-DiskLooked old OfJournalRotation new = new.disk ≡ old.disk
-DiskLooked old (OfFlushBegin id) new = new.disk ≡ old.disk
-DiskLooked old (OfFlushFinish job) new = new.disk ≡ old.disk
 DiskLooked old (OfMergeBegin kind id) new = Took old.disk new.disk []
-DiskLooked old (OfMergeFinish job) new = new.disk ≡ old.disk
-DiskLooked old OfMaintenance new = new.disk ≡ old.disk
 DiskLooked old (OfRead view id query) new = DiskRead (tables_of old id) old new
-DiskLooked old (OfTickets call) new = new.disk ≡ old.disk
-DiskLooked old (OfPersist mode) new = new.disk ≡ old.disk
-DiskLooked old (OfCount count) new = new.disk ≡ old.disk
+DiskLooked old shape new = new.disk ≡ old.disk
 
 -- what the disk took of an eviction of all sealed journals that nobody wants
 abbrev pub EvictionTook : Remembered → Meaning → Meaning → Type 0
@@ -740,7 +699,7 @@ pub record IngestionTook (old : Held) (id : ℕ) (items : List KeyOp) (new : Hel
 -- one that is finished its table, its record and an eviction; of a merge that is finished its tables, its record and the removal of those
 -- that it took; of an ingestion all that a flush takes, with a sync; of a persist the buffer, and a sync where its mode asks for
 -- one; and else nothing.
-abbrev pub DiskTook : Held → Shape → Held → Type 0
+abbrev pub DiskTook : Held → CallShape → Held → Type 0
 DiskTook old (OfChange (Items []) how) new = new.disk ≡ old.disk
 DiskTook old (OfChange (Items (item ∷ items)) how) new = Took old.disk new.disk (batch_steps (mode_of old how) old.journal (text_of old (Items (item ∷ items))))
 DiskTook old (OfChange (Emptied id) how) new = Took old.disk new.disk (batch_steps (mode_of old how) old.journal (text_of old (Emptied id)))
@@ -764,7 +723,7 @@ DiskTook old (OfTickets call) new = new.disk ≡ old.disk
 DiskTook old (OfPersist mode) new = Took old.disk new.disk (persist_steps old.journal mode)
 DiskTook old (OfCount count) new = new.disk ≡ old.disk
 
-abbrev pub OnDisk : Held → Shape → Reply → Held → Type 0
+abbrev pub OnDisk : Held → CallShape → Reply → Held → Type 0
 OnDisk old shape (Refused (Io kind)) new = DiskFailed old shape new
 OnDisk old shape (Refused OutOfMemory) new = DiskLooked old shape new
 OnDisk old shape (Refused (Storage told)) new = DiskLooked old shape new
@@ -772,22 +731,22 @@ OnDisk old shape (Refused error) new = new.disk ≡ old.disk
 OnDisk old shape reply new = DiskTook old shape new
 
 -- Whichever state the core stood for, the call steps to one that it stands for now.
-abbrev pub Steps : Held → Shape → Reply → Held → Type 0
+abbrev pub Steps : Held → CallShape → Reply → Held → Type 0
 Steps old shape reply new = (s : State) → StandsFor old s → (t : State) × StandsFor new t × StepOf s shape reply t
 
 -- From that state, whatever base and pending the core stood on, a crash during the call or after it leaves what a step to this one
 -- may leave.
-abbrev pub LeadsOn : Held → State → Shape → Reply → Held → State → Type 0
+abbrev pub LeadsOn : Held → State → CallShape → Reply → Held → State → Type 0
 LeadsOn old s shape reply new t = (d : Durable) → StandsOn old s.parts.entries d → (e : Durable) × StandsOn new t.parts.entries e × CallPasses s d shape reply e
 
 -- One call over a disk that returns what it holds. The disk took what such a call writes. Whatever state the core stood for, whose
 -- tables its disk had, it goes on by a step of the machine, its disk has the tables still, and a crash leaves what it may.
-pub record Serves (old : Held) (shape : Shape) (reply : Reply) (new : Held) : Type 0 where
+pub record Serves (old : Held) (shape : CallShape) (reply : Reply) (new : Held) : Type 0 where
   pub disk : OnDisk old shape reply new
   pub goes_on : (s : State) → StandsFor old s → ReadsOn old s → (t : State) × StandsFor new t × ReadsOn new t × StepOf s shape reply t × LeadsOn old s shape reply new t
 
 -- The same of whatever state that meets this, of all those that the core stood for.
-pub record ServesWhere (Meets : State → Type 0) (old : Held) (shape : Shape) (reply : Reply) (new : Held) : Type 0 where
+pub record ServesWhere (Meets : State → Type 0) (old : Held) (shape : CallShape) (reply : Reply) (new : Held) : Type 0 where
   pub disk : OnDisk old shape reply new
   pub goes_on : (s : State) → StandsFor old s → ReadsOn old s → Meets s → (t : State) × StandsFor new t × ReadsOn new t × StepOf s shape reply t × LeadsOn old s shape reply new t
 
@@ -885,8 +844,8 @@ RunsSafely old calls replies new = (s : State) (d : Durable) → StandsFor old s
 
 -- The disk holds a folder of this store, whatever a crash leaves of it; where that folder's making was cut short, so is
 -- whatever may come back in a folder that is made anew.
-abbrev pub HoldsStore : disk.State → Store → Type 0
-HoldsStore state store = (folder : Option Contents) × Holds state folder × ComesBack state folder × (store ≡ store_held folder)
+abbrev pub HoldsStore : disk.DiskState → Store → Type 0
+HoldsStore state store = (folder : Option Contents) × Holds state folder × ComesBack state folder × (store ≡ store_of_folder folder)
 
 -- What closing owes whatever the disk is: the cause of each refusal; a poisoned core leaves the disk alone.
 abbrev pub OwesClosing : Held → Result Unit Error → Meaning → Type 0

@@ -2,8 +2,8 @@
 
 ghost use Rattle.std.specs.Prelude.{◌≡◌, ◌<◌, ◌^◌, IsTrue, true};
 ghost use Rattle.fjall_journal.specs.Changes.{Emptied};
-ghost use Rattle.fjall_state.specs.Machine.{is_living};
-ghost use Rattle.fjall_state.specs.Shapes.{of_clear};
+ghost use Rattle.fjall_machine.specs.Machine.{is_living};
+ghost use Rattle.fjall_machine.specs.Shapes.{of_clear};
 ghost use Rattle.fjall_core.specs.CallParts.{Writes};
 ghost use Rattle.fjall_core.specs.Standing.{Owes, Serves, reply_of, store_in};
 

@@ -1,7 +1,7 @@
 //! The core: one machine over a disk.
 
 ghost use Rattle.std.specs.Prelude.{◌≡◌, if◌then◌else◌};
-ghost use Rattle.fjall_state.specs.Remembered.{poisoned};
+ghost use Rattle.fjall_machine.specs.Remembered.{poisoned};
 ghost use Rattle.fjall_core.specs.Crashes.{is_io};
 
 use fjall_base::{Disk, Error};
@@ -24,8 +24,8 @@ pub struct Core<D: Disk> {
 impl<D: Disk> Model for Core<D> {
     ghost use Rattle.std.specs.Coded.{codes};
     ghost use Rattle.fjall_core.specs.Holding.{Held};
-    ghost use Rattle.fjall_loading.specs.Known.{records_code};
-    ghost use Rattle.fjall_state.specs.Remembered.{handles_code};
+    ghost use Rattle.fjall_recovery.specs.Known.{records_code};
+    ghost use Rattle.fjall_machine.specs.Remembered.{handles_code};
 
     ghost Value = { Held };
 

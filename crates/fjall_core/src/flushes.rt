@@ -2,11 +2,11 @@
 
 ghost use Rattle.std.specs.Prelude.{◌≡◌, ◌<◌, ◌-◌, ◌^◌, false, None, IfErr, IfNone, IfOk, IfSome, IsTrue, true};
 ghost use Rattle.fjall_jobs.specs.Flushes.{flush_task};
-ghost use Rattle.fjall_lsm.specs.Jobs.{IsFlushing};
-ghost use Rattle.fjall_state.specs.Finishing.{keyspace_of};
-ghost use Rattle.fjall_state.specs.Machine.{begins_flush, is_living};
-ghost use Rattle.fjall_state.specs.Remembered.{KnowsTask};
-ghost use Rattle.fjall_state.specs.Shapes.{OfCount, OfFlushBegin, OfFlushFinish, OfMaintenance, ToFlush};
+ghost use Rattle.fjall_tree.specs.Jobs.{IsFlushing};
+ghost use Rattle.fjall_machine.specs.Finishing.{keyspace_of};
+ghost use Rattle.fjall_machine.specs.Machine.{begins_flush, is_living};
+ghost use Rattle.fjall_machine.specs.Remembered.{KnowsTask};
+ghost use Rattle.fjall_machine.specs.Shapes.{OfCount, OfFlushBegin, OfFlushFinish, OfMaintenance, ToFlush};
 ghost use Rattle.fjall_trees.specs.Tables.{shape_in};
 ghost use Rattle.fjall_core.specs.CallParts.{Begins, Evicts, Finishes, Puts, SyncsAll};
 ghost use Rattle.fjall_core.specs.Standing.{IsDueToFinish, Owes, Serves, finish_reply, flag_reply, held_due, ids_reply, is_long, job_of, job_reply, reply_of, store_in};

@@ -2,22 +2,22 @@
 
 ghost use Rattle.std.specs.Prelude.{◌≡◌, ◌+◌, ◌<◌, ◌≤◌, ◌≢◌, ◌-◌, ◌^◌, [], ℕ, List, Some, true, IsTrue, length, vec_capacity};
 ghost use Rattle.std.specs.FinMap.{contains_key};
-ghost use Rattle.fjall_loading.specs.Known.{last_known};
-ghost use Rattle.fjall_lsm.specs.Trees.{clears_of};
+ghost use Rattle.fjall_recovery.specs.Known.{last_known};
+ghost use Rattle.fjall_tree.specs.Trees.{clears_of};
 ghost use Rattle.fjall_meta.specs.declared.living.LivingKeyspace.{LivingKeyspace};
 ghost use Rattle.fjall_meta.specs.Keyspaces.{keyspace_at};
 ghost use Rattle.fjall_trees.specs.Tables.{shape_in};
 ghost use Rattle.fjall_writes.specs.Ingestions.{KeyOp};
-ghost use Rattle.fjall_state.specs.Ingesting.{IsPlanned};
-ghost use Rattle.fjall_state.specs.Shapes.{OfIngestion};
+ghost use Rattle.fjall_machine.specs.Ingesting.{IsPlanned};
+ghost use Rattle.fjall_machine.specs.Shapes.{OfIngestion};
 ghost use Rattle.fjall_core.specs.CallParts.{PutsIngestion, SettlesIngestion, WritesIngestion};
 ghost use Rattle.fjall_core.specs.Standing.{Owes, Serves, is_long, reply_of};
 
 use crate::engine::Core;
 use crate::flushes::LONG_JOURNAL;
 use fjall_base::{Disk, Error, Result, UserKey};
+use fjall_compaction::{PlannedIngestion, write_ingestion};
 use fjall_journal::Op;
-use fjall_state::{PlannedIngestion, write_ingestion};
 
 impl<D: Disk> Core<D> {
     // Writes an ingestion that was planned.

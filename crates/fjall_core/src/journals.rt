@@ -1,7 +1,7 @@
 //! The rotation of the journal.
 
 ghost use Rattle.std.specs.Prelude.{◌<◌, ◌-◌, ◌^◌, IsTrue};
-ghost use Rattle.fjall_state.specs.Shapes.{OfJournalRotation};
+ghost use Rattle.fjall_machine.specs.Shapes.{OfJournalRotation};
 ghost use Rattle.fjall_core.specs.CallParts.{Turns};
 ghost use Rattle.fjall_core.specs.Standing.{Owes, Serves, reply_of};
 

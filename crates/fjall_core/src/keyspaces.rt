@@ -1,10 +1,10 @@
 //! Calls that make, delete and hold keyspaces.
 
 ghost use Rattle.std.specs.Prelude.{◌≡◌, ◌<◌, None, IsTrue, false, if◌then◌else◌, true};
-ghost use Rattle.fjall_state.specs.Machine.{handles_of, has_name, is_living};
-ghost use Rattle.fjall_state.specs.Shapes.{OfCreation, OfDeletion, OfHandle, OneLess, OneMore};
+ghost use Rattle.fjall_machine.specs.Machine.{handles_of, has_name, is_living};
+ghost use Rattle.fjall_machine.specs.Shapes.{OfCreation, OfDeletion, OfHandle, OneLess, OneMore};
 ghost use Rattle.fjall_meta.specs.Keyspaces.{id_of};
-ghost use Rattle.fjall_state.specs.Remembered.{IsLawful, poisoned, released};
+ghost use Rattle.fjall_machine.specs.Remembered.{IsLawful, poisoned, released};
 ghost use Rattle.fjall_core.specs.Crashes.{is_io};
 ghost use Rattle.fjall_core.specs.CallParts.{Makes, Removes, Unmakes};
 ghost use Rattle.fjall_core.specs.Standing.{held_due, Owes, Serves, number_reply, reply_of, store_in};

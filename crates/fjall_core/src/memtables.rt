@@ -3,8 +3,8 @@
 ghost use Rattle.std.specs.Prelude.{◌≡◌, IsTrue, length};
 ghost use Rattle.fjall_journal.specs.Writer.{counted};
 ghost use Rattle.fjall_trees.specs.Tables.{shape_in};
-ghost use Rattle.fjall_state.specs.Machine.{State, buffer_size, present, version_count, wants_rotation};
-ghost use Rattle.fjall_state.specs.Shapes.{OfRotation};
+ghost use Rattle.fjall_machine.specs.Machine.{State, buffer_size, present, version_count, wants_rotation};
+ghost use Rattle.fjall_machine.specs.Shapes.{OfRotation};
 ghost use Rattle.fjall_core.specs.Standing.{Owes, Serves, StandsFor, flag_reply, store_in};
 
 use crate::engine::Core;

@@ -2,20 +2,21 @@
 
 ghost use Rattle.std.specs.Prelude.{◌≡◌, false, IfErr, IfNone, IfOk, IfSome, IsTrue, true};
 ghost use Rattle.fjall_jobs.specs.Merges.{merge_task};
-ghost use Rattle.fjall_lsm.specs.Jobs.{is_merge_out};
-ghost use Rattle.fjall_state.specs.declared.merges.MergeKind.TheVariants.{Due, Major};
-ghost use Rattle.fjall_state.specs.Machine.{State, is_living, merge_count, merge_out};
-ghost use Rattle.fjall_state.specs.Merging.{KnowsMerge, keyspace_of};
-ghost use Rattle.fjall_state.specs.Shapes.{OfMergeBegin, OfMergeFinish};
+ghost use Rattle.fjall_tree.specs.Jobs.{is_merge_out};
+ghost use Rattle.fjall_machine.specs.declared.merge_kind.MergeKind.TheVariants.{Due, Major};
+ghost use Rattle.fjall_machine.specs.Machine.{State, is_living, merge_count, merge_out};
+ghost use Rattle.fjall_machine.specs.Merging.{KnowsMerge, keyspace_of};
+ghost use Rattle.fjall_machine.specs.Shapes.{OfMergeBegin, OfMergeFinish};
 ghost use Rattle.fjall_trees.specs.Tables.{shape_in};
 ghost use Rattle.fjall_core.specs.CallParts.{Merges, PutsMerge, TakesAway};
 ghost use Rattle.fjall_core.specs.Standing.{IsDueToMerge, Owes, ReadsOn, Serves, ServesWhere, StandsFor, flag_reply, job_of, merge_job_reply, merge_reply, store_in};
 
 use crate::engine::Core;
 use fjall_base::{Disk, Error, Refused, Result};
+use fjall_compaction::remove_taken;
 use fjall_history::JobId;
 use fjall_jobs::{MergeJob, MergeMade};
-use fjall_state::{MergeKind, remove_taken};
+use fjall_machine::MergeKind;
 
 impl<D: Disk> Core<D> {
     // Begins a merge of a keyspace, where one begins.

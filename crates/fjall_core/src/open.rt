@@ -9,12 +9,12 @@ ghost use Rattle.fjall_files.specs.Tidy.{IsTidy, StaysTidy};
 ghost use Rattle.fjall_core.specs.Openings.{IsDueTo, KeepsStore, Opens, OpensAs, OpensOn, OpensAmid, StaysAmid, ForHeld, RefusalBlames, RefusesFolder, Sweeps};
 ghost use Rattle.fjall_core.specs.Standing.{HoldsStore, store_with_tables};
 ghost use Rattle.fjall_table.specs.Blocks.{Entry};
-ghost use Rattle.fjall_state.specs.Remembered.{AreBeside};
+ghost use Rattle.fjall_machine.specs.Remembered.{AreBeside};
 
 use crate::config::Config;
 use crate::engine::Core;
 use fjall_base::{Disk, Refused, Result};
-use fjall_repair::open_folder;
+use fjall_opening::open_folder;
 use fjall_state::EngineState;
 use std::alloc::Global;
 

@@ -6,14 +6,14 @@ ghost use Rattle.fjall_manager.specs.Journals.{bytes_of};
 ghost use Rattle.std.specs.FinMap.{len};
 ghost use Rattle.fjall_history.specs.Histories.{number};
 ghost use Rattle.fjall_history.specs.Queries.{Get, Page};
-ghost use Rattle.fjall_state.specs.Machine.{State, has_name, present};
-ghost use Rattle.fjall_state.specs.Shapes.{Names, OfCount, OfRead};
+ghost use Rattle.fjall_machine.specs.Machine.{State, has_name, present};
+ghost use Rattle.fjall_machine.specs.Shapes.{Names, OfCount, OfRead};
 ghost use Rattle.fjall_core.specs.Standing.{StandsFor, Owes, Serves, names_reply, pairs_reply, store_in, value_reply};
 
 use crate::engine::Core;
 use fjall_base::{Disk, KvPair, Result, Slice, UserValue};
+use fjall_history::View;
 use fjall_reading::KeyRange;
-use fjall_state::View;
 
 impl<D: Disk> Core<D> {
     /// The value that a key of a keyspace has in a view. A key that no write can have has none.

@@ -4,7 +4,7 @@ ghost use Rattle.std.specs.Prelude.{◌≡◌};
 ghost use Rattle.fjall_core.specs.Standing.{flag_reply, ids_reply, names_reply, number_reply, pairs_reply, reply_of, ticket_reply, value_reply};
 
 use fjall_base::{KvPair, Result, Slice, UserValue};
-use fjall_state::{Reply, Ticket};
+use fjall_history::{Reply, Ticket};
 
 /// The reply to a change or to a sync.
 pub fn reply_of(done: Result<()>) -> Reply

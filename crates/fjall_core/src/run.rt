@@ -4,11 +4,11 @@ ghost use Rattle.std.specs.Prelude.{◌≡◌, ◌+◌, ◌-◌, ◌++◌, ◌�
 ghost use Rattle.fjall_history.specs.Queries.{Get, Page};
 ghost use Rattle.fjall_jobs.specs.Flushes.{flush_task};
 ghost use Rattle.fjall_jobs.specs.Merges.{merge_task};
-ghost use Rattle.fjall_state.specs.Machine.{State, is_flushing, is_merging, merge_out};
-ghost use Rattle.fjall_state.specs.Merging.{KnowsMerge};
-ghost use Rattle.fjall_state.specs.Places.{resolved, resolved_all};
-ghost use Rattle.fjall_state.specs.Remembered.{IsLawful, KnowsTask};
-ghost use Rattle.fjall_state.specs.Shapes.{Exists, OfCount, OfCreation, OfFlushBegin, OfFlushFinish, OfMergeBegin, OfMergeFinish, OfRead, shape_of};
+ghost use Rattle.fjall_machine.specs.Machine.{State, is_flushing, is_merging, merge_out};
+ghost use Rattle.fjall_machine.specs.Merging.{KnowsMerge};
+ghost use Rattle.fjall_machine.specs.Places.{resolved, resolved_all};
+ghost use Rattle.fjall_machine.specs.Remembered.{IsLawful, KnowsTask};
+ghost use Rattle.fjall_machine.specs.Shapes.{Exists, OfCount, OfCreation, OfFlushBegin, OfFlushFinish, OfMergeBegin, OfMergeFinish, OfRead, shape_of};
 ghost use Rattle.fjall_core.specs.Jobs.{IsGivenBack, IsMergeGivenBack, IsPlain, Keeps, KeepsJobs, KeepsMerge, KeepsMerges, KeepsOtherMerges, KeepsOthers, KnowsMerges, is_kept, is_merge_kept};
 ghost use Rattle.fjall_core.specs.Standing.{Owes, OwesAll, ReadsOn, Serves, ServesWhere, StandsFor, Runs, RunsSafely, job_of, merge_job_reply};
 
@@ -19,11 +19,11 @@ use crate::replies::{
     value_reply,
 };
 use fjall_base::{Disk, Error, Refused, Result, Slice, UserKey};
-use fjall_history::JobId;
+use fjall_history::{JobId, Reply, View};
 use fjall_jobs::{FlushJob, MergeJob};
+use fjall_machine::{Call, MergeKind};
 use fjall_options::KeyspaceCreateOptions;
 use fjall_reading::KeyRange;
-use fjall_state::{Call, MergeKind, Reply, View};
 
 impl<D: Disk> Core<D> {
     // What is in memory is lawful, whatever calls left it there.

@@ -3,13 +3,13 @@
 ghost use Rattle.std.specs.Prelude.{◌≡◌, IsTrue};
 ghost use Rattle.std.specs.FinMap.{get, len};
 ghost use Rattle.fjall_history.specs.declared.reply.Reply.TheVariants.{Number};
-ghost use Rattle.fjall_state.specs.Machine.{State};
-ghost use Rattle.fjall_state.specs.Shapes.{Clone, Close, Collect, OfTickets, Open};
+ghost use Rattle.fjall_machine.specs.Machine.{State};
+ghost use Rattle.fjall_machine.specs.Shapes.{Clone, Close, Collect, OfTickets, Open};
 ghost use Rattle.fjall_core.specs.Standing.{StandsFor, Owes, Serves, reply_of, ticket_reply};
 
 use crate::engine::Core;
 use fjall_base::{Disk, Result};
-use fjall_state::Ticket;
+use fjall_history::Ticket;
 
 impl<D: Disk> Core<D> {
     /// Opens a snapshot of all that was accepted so far: the ticket's view stays as it is until it is closed, whatever comes

@@ -1,9 +1,9 @@
 //! Counts of tables, and of what waits to be flushed.
 
 ghost use Rattle.std.specs.Prelude.{◌≡◌, None, Some, count_by, length};
-ghost use Rattle.fjall_lsm.specs.Trees.{is_l0};
+ghost use Rattle.fjall_tree.specs.Trees.{is_l0};
 ghost use Rattle.fjall_trees.specs.Tables.{shape_in};
-ghost use Rattle.fjall_state.specs.Machine.{State, flush_count, present, space_of, table_space};
+ghost use Rattle.fjall_machine.specs.Machine.{State, flush_count, present, space_of, table_space};
 ghost use Rattle.fjall_core.specs.Standing.{StandsFor, space_in, store_in};
 
 use crate::engine::Core;

@@ -4,8 +4,8 @@ ghost use Rattle.std.specs.Prelude.{◌≡◌, ◌<◌, ◌^◌, All, None, IsTr
 ghost use Rattle.fjall_journal.specs.Changes.{Items};
 ghost use Rattle.fjall_journal.specs.Ops.{items_refusal};
 ghost use Rattle.fjall_journal.specs.declared.op.Op.TheVariants as ops;
-ghost use Rattle.fjall_state.specs.Machine.{State, is_living};
-ghost use Rattle.fjall_state.specs.Shapes.{AsKeyspace, ByMode, OfChange, OfPersist, Persistence, of_write};
+ghost use Rattle.fjall_machine.specs.Machine.{State, is_living};
+ghost use Rattle.fjall_machine.specs.Shapes.{AsKeyspace, ByMode, OfChange, OfPersist, Persistence, of_write};
 ghost use Rattle.fjall_core.specs.Crashes.{BlamesDevice};
 ghost use Rattle.fjall_core.specs.Durables.{Durable};
 ghost use Rattle.fjall_core.specs.CallParts.{Writes};

@@ -1,1 +1,1 @@
-pub mod Writing
+mod Writing

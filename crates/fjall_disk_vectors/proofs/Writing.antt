@@ -1,5 +1,5 @@
 -- A part with one key more under the number of its last ones.
-use Rattle.std.proofs.Common.{◌≡◌, ◌≢◌, ℕ, ◌<◌, ◌≤◌, Option, List, [], ◌∷◌, ◌++◌, refl, sym, subst, ap, ◌∙◌, arith}
+use Rattle.std.proofs.Common.{◌≡◌, ◌≢◌, ℕ, Option, List, [], ◌∷◌, refl, sym, subst, ap, ◌∙◌}
 use Rattle.std.specs.List.{All}
 use Rattle.std.specs.Ordering.{match_ordering}
 use Rattle.std.specs.declared.cmp.Ordering.{Ordering}
@@ -10,9 +10,9 @@ use Rattle.fjall_base.specs.Pairs.{byte_order}
 use Rattle.fjall_table.specs.Blocks.{Entry}
 use Rattle.fjall_memtable.specs.Entries.{IsAbsent, inserted, stamp_of, version}
 use Rattle.fjall_memtable.specs.Stamps.{Stamp, stamp_cmp}
-use Rattle.fjall_sorted.proofs.Orders.{not_less}
-use Rattle.fjall_parts.specs.Parts.{Held, IsHeld, Memory, parts_of, with_version}
-use Rattle.fjall_lsm.specs.Trees.{Shape, written}
+use Rattle.fjall_memtable.proofs.SortedOrders.{not_less}
+use Rattle.fjall_memtable.specs.Parts.{HeldPart, with_version}
+use Rattle.fjall_tree.specs.Trees.{Shape, written}
 use Rattle.fjall_disk_vectors.specs.Writes.{IsWrittenTo}
 
 all_inserted : (P : Entry → Type 0) (e : Entry) (versions : List Entry) → P e → All P versions → All P (inserted e versions)
@@ -24,28 +24,12 @@ all_inserted P e (v ∷ versions) here each = by (stamp_cmp (stamp_of e) (stamp_
     by Equal more = All-cons P e versions here (All-tail P v versions each)
     by Greater more = All-cons P v (inserted e versions) (All-head P v versions each) more
 
--- the last part is held as all are
-last_held : (sealed : List Held) (active : Held) → All IsHeld (sealed ++ active ∷ []) → IsHeld active
-last_held [] active held = All-head IsHeld active [] held
-last_held (h ∷ sealed) active held = last_held sealed active (All-tail IsHeld h (sealed ++ active ∷ []) held)
-
-pub active_held : (memory : Memory) → All IsHeld (parts_of memory) → IsHeld memory.active
-active_held memory held = last_held memory.sealed memory.active held
-
--- a part that ends before the number
-pub begun : (number : ℕ) (h : Held) → IsHeld h → h.until ≤ number → IsWrittenTo number [] h
-begun number h held low = record {
-  from = let b = held.bounds in omega (arith, b);
-  keys = All-weaker (λ (v : Entry). v.number < h.until) (λ (v : Entry). v.number ≡ number → byte_order [] v.key ≢ Less)
-      (λ v k same. absurd (omega (arith, k, same))) h.versions held.high;
-}
-
 -- a key behind the last one has no version of the number
-pub absent_behind : (number : ℕ) (last key : List ℕ) (h : Held) → IsWrittenTo number last h → byte_order last key ≡ Less → IsAbsent key number h.versions
+pub absent_behind : (number : ℕ) (last key : List ℕ) (h : HeldPart) → IsWrittenTo number last h → byte_order last key ≡ Less → IsAbsent key number h.versions
 absent_behind number last key h w less = All-weaker (λ (v : Entry). v.number ≡ number → byte_order last v.key ≢ Less) (λ (v : Entry). stamp_of v ≢ record { key = key; number = number })
     (λ v k same. k (ap (λ (s : Stamp). s.number) same) (ap (λ (s : Stamp). byte_order last s.key) same ∙ less)) h.versions w.keys
 
-pub written_behind : (number : ℕ) (last key : List ℕ) (value : Option (List ℕ)) (h : Held) → IsWrittenTo number last h → byte_order last key ≡ Less
+pub written_behind : (number : ℕ) (last key : List ℕ) (value : Option (List ℕ)) (h : HeldPart) → IsWrittenTo number last h → byte_order last key ≡ Less
     → IsWrittenTo number key (with_version (version key number value) h)
 written_behind number last key value h w less = record {
   from = w.from;

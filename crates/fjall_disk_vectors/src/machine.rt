@@ -1,13 +1,15 @@
 //! What an engine holds in memory: keyspaces made, written, deleted and read, and tickets.
 
 use fjall_base::{Error, Result, Slice};
+use fjall_history::{Reply, Ticket, View};
 use fjall_journal::{BatchItem, Op, PersistMode, ValueType, Writer};
-use fjall_loading::LastRecords;
+use fjall_machine::Call;
 use fjall_manager::{ActiveWatermarks, JournalManager};
 use fjall_memory::MemoryDisk;
 use fjall_meta::MetaKeyspace;
 use fjall_options::KeyspaceCreateOptions;
-use fjall_state::{Call, EngineState, Reply, Ticket, View};
+use fjall_recovery::LastRecords;
+use fjall_state::EngineState;
 use fjall_trees::Trees;
 use std::alloc::Global;
 use std::ops::Bound::Unbounded;

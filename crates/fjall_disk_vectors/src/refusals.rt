@@ -3,9 +3,9 @@
 use crate::machine::{one_deleted, two};
 use fjall_base::{Error, Result, Slice, UserKey};
 use fjall_journal::{BatchItem, Op};
-use fjall_loading::LastRecords;
 use fjall_manager::{ActiveWatermarks, JournalManager};
 use fjall_meta::MetaKeyspace;
+use fjall_recovery::LastRecords;
 use fjall_state::EngineState;
 use fjall_trees::Trees;
 use std::alloc::Global;

@@ -2,11 +2,11 @@
 
 use crate::writes::{clear, write_keys};
 use fjall_base::{Disk, Result};
-use fjall_blocks::TableReader;
 use fjall_jobs::{FlushMade, MadeTable, MergeMade};
-use fjall_lsm::Tree;
 use fjall_memory::MemoryDisk;
 use fjall_table::Level;
+use fjall_table_reader::TableReader;
+use fjall_tree::Tree;
 use std::alloc::Global;
 
 /// A tree over a disk in memory, and what jobs made, those of earlier trees too.

@@ -1,11 +1,11 @@
 //! Writes of several keys under one number.
 
 ghost use Rattle.std.specs.Prelude.{◌<◌, ◌^◌, OnOk};
-ghost use Rattle.fjall_lsm.specs.Shapes.{shape_of};
+ghost use Rattle.fjall_tree.specs.Shapes.{shape_of};
 ghost use Rattle.fjall_disk_vectors.specs.Writes.{IsWrittenTo};
 
 use fjall_base::{Error, Result, check_item};
-use fjall_lsm::Tree;
+use fjall_tree::Tree;
 use std::cmp::Ordering;
 
 /// Gives a key a value, or removes it, under a number. The key has to be above the last one of that number.

@@ -2,7 +2,7 @@
 use Rattle.std.proofs.Common.{◌≡◌, inl, inr, ⊎_elim, ℕ, Bool, true, false, List, [], ◌∷◌, ◌++◌, take, length, refl, sym, ◌∙◌, ap, subst, arith, append_assoc}
 use Rattle.std.proofs.lemmas.List.{append-nil, take_all}
 use Rattle.std.specs.Str.{bytes_eq}
-use Rattle.fjall_base.specs.Disk.{Name, Entry, Missing, File, Folder, Place, State, Crash, Survives, Step, Put, Append, Sync, Loosen, Cut, SyncFolder, Meaning, state_in, Took, TookOrNot, TookPart, making, removing, change, after, all_synced, alter, settle, folder_of, appended, loosened, cut_to}
+use Rattle.fjall_base.specs.Disk.{Name, DiskEntry, Missing, File, Folder, Place, DiskState, Crash, Survives, DiskStep, Put, Append, Sync, Loosen, Cut, SyncFolder, Meaning, state_in, Took, TookOrNot, TookPart, making, removing, change, after, all_synced, alter, settle, folder_of, appended, loosened, cut_to}
 use Rattle.fjall_files.specs.Regions.{is_under, target, AreUnder, Within}
 use Rattle.fjall_base.proofs.Names.{bool_cases, same}
 use Rattle.fjall_base.proofs.States.{alter-same, alter-other, put-other, settle-in, settle-out}
@@ -11,7 +11,7 @@ use Rattle.fjall_base.proofs.Moments.{after-append}
 use Rattle.fjall_files.proofs.Under.{under_parent}
 
 -- the two states have the same at each name outside the region
-abbrev pub SameOutside : (Name → Bool) → State → State → Type 0
+abbrev pub SameOutside : (Name → Bool) → DiskState → DiskState → Type 0
 SameOutside region old new = (q : Name) → region q ≡ false → new q ≡ old q
 
 -- a name outside is not one inside
@@ -24,7 +24,7 @@ apart folder q name under out = elim (bool_cases (bytes_eq q name)) [
 ]
 
 -- a step under a folder changes nothing outside it
-pub step_within : (folder : Name) → (folder ≡ [] → ⊥) → (state : State) (step : Step) → is_under folder (target step) ≡ true → SameOutside (is_under folder) state (change step state)
+pub step_within : (folder : Name) → (folder ≡ [] → ⊥) → (state : DiskState) (step : DiskStep) → is_under folder (target step) ≡ true → SameOutside (is_under folder) state (change step state)
 step_within folder some state (Put name entry) under q out = put-other state name entry q (apart folder q name under out)
 step_within folder some state (Append name bytes) under q out = alter-other state name (appended bytes) q (apart folder q name under out)
 step_within folder some state (Sync name) under q out = alter-other state name all_synced q (apart folder q name under out)
@@ -37,14 +37,14 @@ step_within folder some state (SyncFolder inner) under q out = settle-out state 
   | inr not ↦ not
 ])
 
-pub steps_within : (folder : Name) → (folder ≡ [] → ⊥) → (state : State) (steps : List Step) → AreUnder folder steps → SameOutside (is_under folder) state (after state steps)
+pub steps_within : (folder : Name) → (folder ≡ [] → ⊥) → (state : DiskState) (steps : List DiskStep) → AreUnder folder steps → SameOutside (is_under folder) state (after state steps)
 steps_within folder some state [] under q out = refl
 steps_within folder some state (step ∷ steps) under q out = steps_within folder some (change step state) steps under.1 q out ∙ step_within folder some state step under.0 q out
 
 pub within_state : (folder : Name) → (folder ≡ [] → ⊥) → (old new : Meaning) → Within folder old new → SameOutside (is_under folder) (state_in old) (state_in new)
-within_state folder some old new run q out = ap (λ (s : State). s q) run.took.state ∙ steps_within folder some (state_in old) run.added run.under q out
+within_state folder some old new run q out = ap (λ (s : DiskState). s q) run.took.state ∙ steps_within folder some (state_in old) run.added run.under q out
 
-pub settle_less : (crash : Crash) (state : State) (folder q : Name) (left : Entry) → LeftAt crash (settle state folder q) left → LeftAt crash (state q) left
+pub settle_less : (crash : Crash) (state : DiskState) (folder q : Name) (left : DiskEntry) → LeftAt crash (settle state folder q) left → LeftAt crash (state q) left
 settle_less crash state folder q left some = elim (bool_cases (bytes_eq (folder_of q) folder)) [
   | inl at ↦
       let here : LeftAt crash (record { now = (state q).now; older = [] }) left = subst (λ (p : Place). LeftAt crash p left) (settle-in state folder q (same {q = folder_of q} {r = folder} at)) some in
@@ -52,7 +52,7 @@ settle_less crash state folder q left some = elim (bool_cases (bytes_eq (folder_
   | inr not ↦ subst (λ (p : Place). LeftAt crash p left) (settle-out state folder q not) some
 ]
 
-synced_survives : (entry left : Entry) → Survives (all_synced entry) left → Survives entry left
+synced_survives : (entry left : DiskEntry) → Survives (all_synced entry) left → Survives entry left
 synced_survives Missing left is = is
 synced_survives (File synced unsynced) left some = (
   length unsynced,
@@ -61,7 +61,7 @@ synced_survives (File synced unsynced) left some = (
 )
 synced_survives Folder left is = is
 
-pub sync_less : (state : State) (name q : Name) (left : Entry) → LeftAt Survives (alter state name all_synced q) left → LeftAt Survives (state q) left
+pub sync_less : (state : DiskState) (name q : Name) (left : DiskEntry) → LeftAt Survives (alter state name all_synced q) left → LeftAt Survives (state q) left
 sync_less state name q left some = elim (bool_cases (bytes_eq q name)) [
   | inl at ↦
       let is_name : q ≡ name = same {q = q} {r = name} at in
@@ -75,17 +75,17 @@ sync_less state name q left some = elim (bool_cases (bytes_eq q name)) [
 pub within_start : (folder : Name) (old : Meaning) → Within folder old old
 within_start folder old = record { added = []; took = record { state = refl; steps = sym (append-nil old.steps) }; under = tt }
 
-under_both : (folder : Name) (first more : List Step) → AreUnder folder first → AreUnder folder more → AreUnder folder (first ++ more)
+under_both : (folder : Name) (first more : List DiskStep) → AreUnder folder first → AreUnder folder more → AreUnder folder (first ++ more)
 under_both folder [] more one two = two
 under_both folder (step ∷ first) more one two = (one.0, under_both folder first more one.1 two)
 
 -- one call more
-pub within_on : (folder : Name) (old mid new : Meaning) (steps : List Step) → Within folder old mid → Took mid new steps → AreUnder folder steps → Within folder old new
+pub within_on : (folder : Name) (old mid new : Meaning) (steps : List DiskStep) → Within folder old mid → Took mid new steps → AreUnder folder steps → Within folder old new
 within_on folder old mid new steps so_far took under = record {
   added = so_far.added ++ steps;
   took = record {
-    state = took.state ∙ ap (λ (s : State). after s steps) so_far.took.state ∙ sym (after-append (state_in old) so_far.added steps);
-    steps = took.steps ∙ ap (λ (l : List Step). l ++ steps) so_far.took.steps ∙ append_assoc old.steps so_far.added steps;
+    state = took.state ∙ ap (λ (s : DiskState). after s steps) so_far.took.state ∙ sym (after-append (state_in old) so_far.added steps);
+    steps = took.steps ∙ ap (λ (l : List DiskStep). l ++ steps) so_far.took.steps ∙ append_assoc old.steps so_far.added steps;
   };
   under = under_both folder so_far.added steps so_far.under under;
 }
@@ -94,28 +94,28 @@ pub within_part : (folder : Name) (old mid new : Meaning) (name : Name) (bytes :
 within_part folder old mid new name bytes so_far (inl none) under = within_on folder old mid new [] so_far none tt
 within_part folder old mid new name bytes so_far (inr part) under = within_on folder old mid new (Append name (take part.0 bytes) ∷ []) so_far part.1 (under, tt)
 
-pub within_perhaps : (folder : Name) (old mid new : Meaning) (step : Step) → Within folder old mid → TookOrNot mid new (step ∷ []) → is_under folder (target step) ≡ true → Within folder old new
+pub within_perhaps : (folder : Name) (old mid new : Meaning) (step : DiskStep) → Within folder old mid → TookOrNot mid new (step ∷ []) → is_under folder (target step) ≡ true → Within folder old new
 within_perhaps folder old mid new step so_far (inl none) under = within_on folder old mid new [] so_far none tt
 within_perhaps folder old mid new step so_far (inr took) under = within_on folder old mid new (step ∷ []) so_far took (under, tt)
 
-pub making_under : (folder name : Name) (entry there : Entry) → is_under folder name ≡ true → AreUnder folder (making name entry there)
+pub making_under : (folder name : Name) (entry there : DiskEntry) → is_under folder name ≡ true → AreUnder folder (making name entry there)
 making_under folder name entry Missing under = (under, tt)
 making_under folder name entry (File synced unsynced) under = tt
 making_under folder name entry Folder under = tt
 
-pub settle-now : (state : State) (folder q : Name) → (settle state folder q).now ≡ (state q).now
+pub settle-now : (state : DiskState) (folder q : Name) → (settle state folder q).now ≡ (state q).now
 settle-now state folder q = elim (bool_cases (bytes_eq (folder_of q) folder)) [
   | inl at ↦ ap (λ (p : Place). p.now) (settle-in state folder q (same {q = folder_of q} {r = folder} at))
   | inr not ↦ ap (λ (p : Place). p.now) (settle-out state folder q not)
 ]
 
-pub alter-now : (state : State) (name : Name) (f : Entry → Entry) → (alter state name f name).now ≡ f (state name).now
+pub alter-now : (state : DiskState) (name : Name) (f : DiskEntry → DiskEntry) → (alter state name f name).now ≡ f (state name).now
 alter-now state name f = ap (λ (p : Place). p.now) (alter-same state name f)
 
-pub may_be_missing : (state : State) (name : Name) → (state name).now ≡ Missing → LeftAt Survives (state name) Missing
-may_be_missing state name gone = inl (subst (λ (e : Entry). Survives e Missing) (sym gone) refl)
+pub may_be_missing : (state : DiskState) (name : Name) → (state name).now ≡ Missing → LeftAt Survives (state name) Missing
+may_be_missing state name gone = inl (subst (λ (e : DiskEntry). Survives e Missing) (sym gone) refl)
 
-pub removing_under : (folder name : Name) (there : Entry) → is_under folder name ≡ true → AreUnder folder (removing name there)
+pub removing_under : (folder name : Name) (there : DiskEntry) → is_under folder name ≡ true → AreUnder folder (removing name there)
 removing_under folder name Missing under = tt
 removing_under folder name (File synced unsynced) under = (under, tt)
 removing_under folder name Folder under = (under, tt)

@@ -24,12 +24,6 @@ pub record Collected (Is : DirEntry → ℕ → Type 0) (listed : List DirEntry)
   pub sound : (id : ℕ) → Contains ids id → AnyBelow (λ entry. Is entry id) listed end
   pub full : (id : ℕ) → AnyBelow (λ entry. Is entry id) listed end → Contains ids id
 
-pub none_yet : (Is : DirEntry → ℕ → Type 0) (listed : List DirEntry) → Collected Is listed 0 []
-none_yet Is listed = record {
-  sound = λ id h. absurd (omega (arith, h.1));
-  full = λ id h. absurd (omega (arith, h.below));
-}
-
 -- an entry that was below stays below
 longer : (P : DirEntry → Type 0) (listed : List DirEntry) (end : ℕ) → AnyBelow P listed end → AnyBelow P listed (end + 1)
 longer P listed end h = record { place = h.place; entry = h.entry; below = omega (arith, h.below); at = h.at; is = h.is }

@@ -6,7 +6,7 @@ use Rattle.std.proofs.lemmas.Bool.{cases_lt}
 use Rattle.std.proofs.lemmas.Fmt.{decimal_injective, decimal_nonempty, digits_decimal}
 use Rattle.std.proofs.lemmas.Str.Parse.{not_in_digits}
 use Rattle.std.specs.Int.{IsInRange}
-use Rattle.fjall_files.specs.Names.{Kept, Lock, Version, Journal, AllKeyspaces, Keyspace, Current, Table, name_of, HasIds, journal_name, keyspace_folder, current_name, table_name}
+use Rattle.fjall_files.specs.Names.{KeptName, Lock, Version, Journal, AllKeyspaces, Keyspace, Current, Table, name_of, HasIds, journal_name, keyspace_folder, current_name, table_name}
 use Rattle.fjall_files.proofs.Numbers.{own}
 use Rattle.fjall_files.proofs.Partings.{Without, one_last, one_first}
 use Rattle.fjall_files.proofs.LastDots.{jnl_without}
@@ -64,7 +64,7 @@ by_first a b = if nat_lt a 58 then 2 else (if a == 108 then 0 else (if a == 118 
 kind : List ℕ → ℕ
 kind name = by_first (get_or name 0 0) (last name)
 
-abbrev tag : Kept → ℕ
+abbrev tag : KeptName → ℕ
 tag Lock = 0
 tag Version = 1
 tag (Journal id) = 2
@@ -79,7 +79,7 @@ low_first a b low = let t : nat_lt a 58 ≡ true = lt-ltb a 58 low in rw t refl
 low_last : (b : ℕ) → b < 58 → by_first 107 b ≡ 4
 low_last b low = let t : nat_lt b 58 ≡ true = lt-ltb b 58 low in rw t refl
 
-tagged : (kept : Kept) → HasIds kept → kind (name_of kept) ≡ tag kept
+tagged : (kept : KeptName) → HasIds kept → kind (name_of kept) ≡ tag kept
 unfolding kind last
 tagged Lock ids = refl
 tagged Version ids = refl
@@ -95,7 +95,7 @@ tagged (Keyspace id) ids =
 tagged (Current id) ids = ap (by_first 107) (last_of (keyspace_folder id) (codes "/current") (omega arith))
 tagged (Table id table) ids = ap (by_first 107) (last_of (keyspace_folder id ++ codes "/" ++ decimal table) (codes ".table") (omega arith))
 
-of_one_kind : (kept other : Kept) → HasIds kept → HasIds other → tag kept ≡ tag other → name_of kept ≡ name_of other → kept ≡ other
+of_one_kind : (kept other : KeptName) → HasIds kept → HasIds other → tag kept ≡ tag other → name_of kept ≡ name_of other → kept ≡ other
 of_one_kind Lock Lock ids ids' same e = refl
 of_one_kind Version Version ids ids' same e = refl
 of_one_kind AllKeyspaces AllKeyspaces ids ids' same e = refl
@@ -107,5 +107,5 @@ of_one_kind (Table id table) (Table other another) ids ids' same e =
     rw (both.0, both.1) refl
 of_one_kind kept other ids ids' same e = absurd (omega (arith, same))
 
-pub kept : (kept other : Kept) → HasIds kept → HasIds other → name_of kept ≡ name_of other → kept ≡ other
+pub kept : (kept other : KeptName) → HasIds kept → HasIds other → name_of kept ≡ name_of other → kept ≡ other
 kept one other ids ids' e = of_one_kind one other ids ids' (sym (tagged one ids) ∙ ap kind e ∙ tagged other ids') e

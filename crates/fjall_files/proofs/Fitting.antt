@@ -7,8 +7,8 @@ use Rattle.std.proofs.lemmas.Bool.Decides.{nat_tests}
 use Rattle.std.proofs.lemmas.Fmt.{digits_decimal}
 use Rattle.std.specs.Str.Parse.{AllDigits, digits_value}
 use Rattle.std.proofs.lemmas.Str.Parse.{IsNumeralModel, numerals_by_value, tells_digits, not_in_digits}
-use Rattle.fjall_base.specs.Disk.{Name, Entry, File, Folder, IsNoFile, IsNoFolder, State, folder_of}
-use Rattle.fjall_files.specs.Names.{HasIds, Kept, AllKeyspaces, Current, Journal, Keyspace, Table, Version, current_name, journal_name, keyspace_folder, name_of, table_name}
+use Rattle.fjall_base.specs.Disk.{Name, DiskEntry, File, Folder, IsNoFile, IsNoFolder, DiskState, folder_of}
+use Rattle.fjall_files.specs.Names.{HasIds, KeptName, AllKeyspaces, Current, Journal, Keyspace, Table, Version, current_name, journal_name, keyspace_folder, name_of, table_name}
 use Rattle.fjall_files.specs.Tidy.{FitsAt, IsOfKind, IsTidy}
 use Rattle.fjall_files.proofs.Distinct.{kept}
 use Rattle.fjall_files.specs.Regions.{join}
@@ -50,8 +50,8 @@ folder_of-table id n small = ap (λ (m : Name). folder_of m) (table_parts id n) 
 -- ---- what fits
 
 -- of one kind alone
-of_kept : (one : Kept) (entry : Entry) → HasIds one → IsOfKind one entry → (other : Kept) → HasIds other → name_of one ≡ name_of other → IsOfKind other entry
-of_kept one entry ids is other ids' same = subst (λ (k : Kept). IsOfKind k entry) (kept one other ids ids' same) is
+of_kept : (one : KeptName) (entry : DiskEntry) → HasIds one → IsOfKind one entry → (other : KeptName) → HasIds other → name_of one ≡ name_of other → IsOfKind other entry
+of_kept one entry ids is other ids' same = subst (λ (k : KeptName). IsOfKind k entry) (kept one other ids ids' same) is
 
 no_home : (id : ℕ) → [] ≡ keyspace_folder id → ⊥
 no_home id is = let no : [] ≡ 107 ∷ (codes "eyspaces/" ++ decimal id) = is in cc
@@ -100,8 +100,8 @@ fits_table id n fits small s u = record {
 -- ---- what stands where only what fits does
 
 -- a keyspace's folder is none of a file's, and the file of its records none of a folder's
-pub folder_kind : (state : State) (id : ℕ) → id < 2 ^ 64 → IsTidy state → IsNoFile (state (keyspace_folder id)).now
+pub folder_kind : (state : DiskState) (id : ℕ) → id < 2 ^ 64 → IsTidy state → IsNoFile (state (keyspace_folder id)).now
 folder_kind state id small tidy = (tidy (keyspace_folder id)).0.kind (Keyspace id) small refl
 
-pub current_kind : (state : State) (id : ℕ) → id < 2 ^ 64 → IsTidy state → IsNoFolder (state (current_name id)).now
+pub current_kind : (state : DiskState) (id : ℕ) → id < 2 ^ 64 → IsTidy state → IsNoFolder (state (current_name id)).now
 current_kind state id small tidy = (tidy (current_name id)).0.kind (Current id) small refl

@@ -14,7 +14,7 @@ pub mod Wider
 pub mod Changes
 pub mod Parts
 pub mod Made
-pub mod Removed
+mod Removed
 pub mod Fitting
 pub mod Serving
 pub mod FilesRead

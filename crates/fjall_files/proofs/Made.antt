@@ -3,7 +3,7 @@ use Rattle.std.proofs.Common.{◌≡◌, inl, inr, ⊎_elim, ℕ, true, false, L
 use Rattle.std.specs.Prelude.{OnOk, OnErr}
 use Rattle.std.specs.Str.{bytes_eq}
 use Rattle.fjall_base.specs.declared.error.Error.{Error}
-use Rattle.fjall_base.specs.Disk.{Name, Entry, Missing, File, Folder, Place, State, Step, Meaning, Took, TookOrNot, TookPart, Put, Append, Sync, SyncFolder, making, removing, CanCreate, IsNoFile, IsNoFolder, IsThere, standing, appended, all_synced, after, folder_of, state_in}
+use Rattle.fjall_base.specs.Disk.{Name, DiskEntry, Missing, File, Folder, Place, DiskState, DiskStep, Meaning, Took, TookOrNot, TookPart, Put, Append, Sync, SyncFolder, making, removing, CanCreate, IsNoFile, IsNoFolder, IsThere, standing, appended, all_synced, after, folder_of, state_in}
 use Rattle.fjall_base.proofs.Moments.{after-append}
 use Rattle.fjall_base.proofs.States.{differs, put-now, put-other, settle-in}
 use Rattle.fjall_files.specs.Regions.{is_under, Within, IsMade, IsSafe}
@@ -12,10 +12,10 @@ use Rattle.fjall_files.proofs.Changes.{within_start, within_on, within_part, wit
 
 -- ---- steps
 
-pub took_both : (old mid new : Meaning) (first more : List Step) → Took old mid first → Took mid new more → Took old new (first ++ more)
+pub took_both : (old mid new : Meaning) (first more : List DiskStep) → Took old mid first → Took mid new more → Took old new (first ++ more)
 took_both old mid new first more one two = record {
-  state = two.state ∙ ap (λ (s : State). after s more) one.state ∙ sym (after-append (state_in old) first more);
-  steps = two.steps ∙ ap (λ (l : List Step). l ++ more) one.steps ∙ append_assoc old.steps first more;
+  state = two.state ∙ ap (λ (s : DiskState). after s more) one.state ∙ sym (after-append (state_in old) first more);
+  steps = two.steps ∙ ap (λ (l : List DiskStep). l ++ more) one.steps ∙ append_assoc old.steps first more;
 }
 
 pub within_both : (folder : Name) (old mid new : Meaning) → Within folder old mid → Within folder mid new → Within folder old new
@@ -42,7 +42,7 @@ both_took file old mid new bytes (Err e) one two = tt
 
 -- ---- a file that is made
 
-pub making_within : (folder file : Name) (entry : Entry) (old new : Meaning) → is_under folder file ≡ true → Took old new (making file entry (state_in old file).now) → Within folder old new
+pub making_within : (folder file : Name) (entry : DiskEntry) (old new : Meaning) → is_under folder file ≡ true → Took old new (making file entry (state_in old file).now) → Within folder old new
 making_within folder file entry old new under took = within_on folder old old new _ (within_start folder old) took (making_under folder file entry (state_in old file).now under)
 
 pub removing_within : (folder file : Name) (old new : Meaning) → is_under folder file ≡ true → Took old new (removing file (state_in old file).now) → Within folder old new
@@ -51,21 +51,21 @@ removing_within folder file old new under took = within_on folder old old new _ 
 -- an empty file that gets bytes and is synced
 pub filled : (file : Name) (old new : Meaning) (bytes : List ℕ) → (state_in old file).now ≡ File [] [] → Took old new (Append file bytes ∷ Sync file ∷ []) → (state_in new file).now ≡ File bytes []
 filled file old new bytes empty took =
-    let appended_now = alter-now (state_in old) file (appended bytes) ∙ ap (λ (e : Entry). appended bytes e) empty in
-    ap (λ (s : State). (s file).now) took.state ∙ alter-now _ file all_synced ∙ ap (λ (e : Entry). all_synced e) appended_now
+    let appended_now = alter-now (state_in old) file (appended bytes) ∙ ap (λ (e : DiskEntry). appended bytes e) empty in
+    ap (λ (s : DiskState). (s file).now) took.state ∙ alter-now _ file all_synced ∙ ap (λ (e : DiskEntry). all_synced e) appended_now
 
 pub made_file : (file : Name) (old mid new : Meaning) (bytes : List ℕ) (r : Result Unit Error) → (state_in old file).now ≡ Missing → Took old mid (making file (File [] []) (state_in old file).now)
     → OnOk r (Took mid new (Append file bytes ∷ Sync file ∷ [])) → OnOk r ((state_in new file).now ≡ File bytes [])
 made_file file old mid new bytes (Ok done) none made filling =
-    let put : Took old mid (Put file (File [] []) ∷ []) = subst (λ (e : Entry). Took old mid (making file (File [] []) e)) none made in
+    let put : Took old mid (Put file (File [] []) ∷ []) = subst (λ (e : DiskEntry). Took old mid (making file (File [] []) e)) none made in
     filled file mid new bytes (put-now (state_in old) (state_in mid) file (File [] []) put.state) filling
 made_file file old mid new bytes (Err e) none made filling = tt
 
 -- making an entry leaves what stands at another name
-pub making_other : (old new : Meaning) (name q : Name) (entry there : Entry) → bytes_eq q name ≡ false → Took old new (making name entry there) → state_in new q ≡ state_in old q
-making_other old new name q entry Missing not took = ap (λ (s : State). s q) took.state ∙ put-other (state_in old) name entry q not
-making_other old new name q entry (File synced unsynced) not took = ap (λ (s : State). s q) took.state
-making_other old new name q entry Folder not took = ap (λ (s : State). s q) took.state
+pub making_other : (old new : Meaning) (name q : Name) (entry there : DiskEntry) → bytes_eq q name ≡ false → Took old new (making name entry there) → state_in new q ≡ state_in old q
+making_other old new name q entry Missing not took = ap (λ (s : DiskState). s q) took.state ∙ put-other (state_in old) name entry q not
+making_other old new name q entry (File synced unsynced) not took = ap (λ (s : DiskState). s q) took.state
+making_other old new name q entry Folder not took = ap (λ (s : DiskState). s q) took.state
 
 -- ---- a folder and its file
 
@@ -85,7 +85,7 @@ module _ (folder file : Name) (inside : folder_of file ≡ folder) where
 
   pub safe_file : (old mid new : Meaning) (bytes : List ℕ) (r : Result Unit Error) → (state_in mid file).now ≡ File bytes [] → OnOk r (Took mid new (SyncFolder folder ∷ [])) → OnOk r (IsSafe (state_in new) file bytes)
   safe_file old mid new bytes (Ok done) full took =
-      ap (λ (s : State). s file) took.state ∙ settle-in (state_in mid) folder file inside ∙ ap (λ (e : Entry). record { now = e; older = [] }) full
+      ap (λ (s : DiskState). s file) took.state ∙ settle-in (state_in mid) folder file inside ∙ ap (λ (e : DiskEntry). record { now = e; older = [] }) full
   safe_file old mid new bytes (Err e) full took = tt
 
   -- the file may be made in the folder that was just made
@@ -114,8 +114,8 @@ pub removed_within : (folder : Name) (old new : Meaning) (r : Result Unit Error)
 removed_within folder old new (Ok done) ok err = removing_within folder folder old new (under_self folder) ok
 removed_within folder old new (Err e) ok err = within_none folder old new err
 
-gone_by : (folder : Name) (old new : Meaning) (there : Entry) → (state_in old folder).now ≡ there → IsNoFile there → Took old new (removing folder there) → (state_in new folder).now ≡ Missing
-gone_by folder old new Missing is kind took = ap (λ (s : State). (s folder).now) took.state ∙ is
+gone_by : (folder : Name) (old new : Meaning) (there : DiskEntry) → (state_in old folder).now ≡ there → IsNoFile there → Took old new (removing folder there) → (state_in new folder).now ≡ Missing
+gone_by folder old new Missing is kind took = ap (λ (s : DiskState). (s folder).now) took.state ∙ is
 gone_by folder old new (File synced unsynced) is kind took = absurd kind
 gone_by folder old new Folder is kind took = put-now (state_in old) (state_in new) folder Missing took.state
 

@@ -8,7 +8,7 @@ use Rattle.std.proofs.lemmas.List.{append_cancel_left, get_or-map, length-map}
 use Rattle.std.proofs.lemmas.List.Elements.{All-map}
 use Rattle.std.proofs.lemmas.Str.Pattern.{drop_at_char, strip_prefix_char}
 use Rattle.fjall_base.specs.declared.disk.DirEntry.{DirEntry}
-use Rattle.fjall_base.specs.Disk.{Name, Entry, Missing, File, Folder, State, IsNoFile, IsNoFolder, Lists, Tells, folder_of}
+use Rattle.fjall_base.specs.Disk.{Name, DiskEntry, Missing, File, Folder, DiskState, IsNoFile, IsNoFolder, Lists, TellsEntry, folder_of}
 use Rattle.fjall_files.specs.Names.{keyspace_folder, name_in}
 use Rattle.fjall_files.specs.Own.{AreOwnFiles, HoldsOnlyOwn, IsOwn, IsOwnFile, IsOwnFileName, IsOwnIn}
 use Rattle.fjall_files.specs.Regions.{HoldsOnly}
@@ -59,18 +59,18 @@ abbrev Text : Type 0
 Text = String Global
 
 -- what isn't a folder is told as a file
-told_file : (e : Entry) (is_folder : Bool) → Tells e is_folder → IsNoFolder e → IsFalse is_folder
+told_file : (e : DiskEntry) (is_folder : Bool) → TellsEntry e is_folder → IsNoFolder e → IsFalse is_folder
 told_file Missing is_folder tells kind = absurd tells
 told_file (File synced unsynced) is_folder tells kind = tells
 told_file Folder is_folder tells kind = absurd kind
 
 -- what is told is there
-told_there : (e : Entry) (is_folder : Bool) → Tells e is_folder → e ≢ Missing
+told_there : (e : DiskEntry) (is_folder : Bool) → TellsEntry e is_folder → e ≢ Missing
 told_there Missing is_folder tells none = absurd tells
 told_there (File synced unsynced) is_folder tells none = cc
 told_there Folder is_folder tells none = cc
 
-module _ (state : State) (id : ℕ) (listed : List DirEntry) (lists : Lists state (keyspace_folder id) listed) where
+module _ (state : DiskState) (id : ℕ) (listed : List DirEntry) (lists : Lists state (keyspace_folder id) listed) where
   pub own_entries : HoldsOnlyOwn state id → All (IsOwnFile (keyspace_folder id)) listed
   own_entries holds i d lt =
       let entry = get_or listed i d in
@@ -98,13 +98,13 @@ module _ (state : State) (id : ℕ) (listed : List DirEntry) (lists : Lists stat
 
 -- ---- what is found
 
-kind_of : (e : Entry) → (e ≢ Missing → IsNoFolder e) → IsNoFolder e
+kind_of : (e : DiskEntry) → (e ≢ Missing → IsNoFolder e) → IsNoFolder e
 kind_of Missing kind = tt
 kind_of (File synced unsynced) kind = tt
 kind_of Folder kind = kind (λ none. let no : ⊥ = cc in no)
 
 -- such a folder holds these files and nothing else
-pub holds_own : (state : State) (id : ℕ) (own : OwnFiles) → AreOwnFiles state id own → HoldsOnlyOwn state id → IsNoFile (state (keyspace_folder id)).now
+pub holds_own : (state : DiskState) (id : ℕ) (own : OwnFiles) → AreOwnFiles state id own → HoldsOnlyOwn state id → IsNoFile (state (keyspace_folder id)).now
     → HoldsOnly state (keyspace_folder id) (map string_bytes own.files.items)
 holds_own state id own are holds kind = record {
   kind = kind;

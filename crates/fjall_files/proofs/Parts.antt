@@ -1,7 +1,7 @@
 -- Images at the names of a region.
 use Rattle.std.proofs.Common.{◌≡◌, inl, inr, Bool, true, false, List, [], ◌∷◌, refl, sym, ◌∙◌, subst}
 use Rattle.std.specs.Str.{bytes_eq}
-use Rattle.fjall_base.specs.Disk.{Name, Entry, Missing, Folder, Place, State, Image, Crash, Survives, SomeSurvivesBy, IsImageBy, IsThere, Step, Meaning, state_in, LeavesBy, LeavesOnlyBy, change, all_synced, alter, settle, folder_of}
+use Rattle.fjall_base.specs.Disk.{Name, DiskEntry, Missing, Folder, Place, DiskState, Image, Crash, Survives, SomeSurvivesBy, IsImageBy, IsThere, DiskStep, Meaning, state_in, LeavesBy, LeavesOnlyBy, change, all_synced, alter, settle, folder_of}
 use Rattle.fjall_files.specs.Regions.{is_under, AreUnder, Within, IsImageIn}
 use Rattle.fjall_base.proofs.Names.{bool_cases, same}
 use Rattle.fjall_base.proofs.Frames.{replaced, replaced-same, replaced-other}
@@ -9,27 +9,27 @@ use Rattle.fjall_base.proofs.Covers.{LeftAt}
 use Rattle.fjall_files.proofs.Changes.{SameOutside, step_within, settle_less, sync_less}
 
 module _ {crash : Crash} (region : Name → Bool) where
-  pub in_region : (state : State) (image : Image) → IsImageBy crash state image → IsImageIn crash region state image
+  pub in_region : (state : DiskState) (image : Image) → IsImageBy crash state image → IsImageIn crash region state image
   in_region state image is = record { kept = λ q at there. is.kept q there; lost = λ q at gone. is.lost q gone }
 
   -- the frame: what changes outside the region doesn't matter
-  pub region_along : (old new : State) (image : Image) → ((q : Name) → region q ≡ true → new q ≡ old q) → IsImageIn crash region new image → IsImageIn crash region old image
+  pub region_along : (old new : DiskState) (image : Image) → ((q : Name) → region q ≡ true → new q ≡ old q) → IsImageIn crash region new image → IsImageIn crash region old image
   region_along old new image agree is = record { kept = λ q at there. subst (λ (p : Place). LeftAt crash p (image q)) (agree q at) (is.kept q at there); lost = is.lost }
 
-  pub region_narrows : (old new : State) (image : Image) → ((q : Name) (left : Entry) → LeftAt crash (new q) left → LeftAt crash (old q) left) → IsImageIn crash region new image → IsImageIn crash region old image
+  pub region_narrows : (old new : DiskState) (image : Image) → ((q : Name) (left : DiskEntry) → LeftAt crash (new q) left → LeftAt crash (old q) left) → IsImageIn crash region new image → IsImageIn crash region old image
   region_narrows old new image less is = record { kept = λ q at there. less q (image q) (is.kept q at there); lost = is.lost }
 
-  pub region_settle : (state : State) (folder : Name) (image : Image) → IsImageIn crash region (settle state folder) image → IsImageIn crash region state image
+  pub region_settle : (state : DiskState) (folder : Name) (image : Image) → IsImageIn crash region (settle state folder) image → IsImageIn crash region state image
   region_settle state folder image is = region_narrows state (settle state folder) image (settle_less crash state folder) is
 
   -- what a crash leaves at a name that is synced, in a folder that is there
-  pub left_at : (state : State) (image : Image) (q : Name) (entry : Entry) → region q ≡ true → IsImageIn crash region state image → state q ≡ record { now = entry; older = [] } → IsThere image (folder_of q) → crash entry (image q)
+  pub left_at : (state : DiskState) (image : Image) (q : Name) (entry : DiskEntry) → region q ≡ true → IsImageIn crash region state image → state q ≡ record { now = entry; older = [] } → IsThere image (folder_of q) → crash entry (image q)
   left_at state image q entry in_it is at there =
       let some = subst (λ (p : Place). SomeSurvivesBy crash (p.now ∷ p.older) (image q)) at (is.kept q in_it there) in
       elim some [ inl here ↦ here | inr none ↦ absurd none ]
 
   -- each image of a run under a folder outside the region is an image of the state before
-  pub region_run : (folder : Name) → (folder ≡ [] → ⊥) → ((q : Name) → region q ≡ true → is_under folder q ≡ false) → (old state : State) (steps : List Step) (image : Image) → AreUnder folder steps
+  pub region_run : (folder : Name) → (folder ≡ [] → ⊥) → ((q : Name) → region q ≡ true → is_under folder q ≡ false) → (old state : DiskState) (steps : List DiskStep) (image : Image) → AreUnder folder steps
       → SameOutside (is_under folder) old state → LeavesBy crash state steps image → IsImageIn crash region old image
   region_run folder some apart old state [] image under outside left = region_along old state image (λ q at. outside q (apart q at)) (in_region state image left)
   region_run folder some apart old state (step ∷ steps) image under outside (inl now) = region_along old state image (λ q at. outside q (apart q at)) (in_region state image now)
@@ -45,7 +45,7 @@ module _ {crash : Crash} (region : Name → Bool) where
   }
 
   -- a file that is put back, where its folder is there
-  pub region_put_back : (old new : State) (image : Image) (name : Name) (entry : Entry) → SameOutside (λ q. bytes_eq q name) old new
+  pub region_put_back : (old new : DiskState) (image : Image) (name : Name) (entry : DiskEntry) → SameOutside (λ q. bytes_eq q name) old new
       → (image name ≡ Folder → ⊥) → (entry ≡ Folder → ⊥)
       → (IsThere image (folder_of name) → LeftAt crash (old name) entry)
       → ((IsThere image (folder_of name) → ⊥) → entry ≡ Missing)
@@ -78,8 +78,5 @@ module _ {crash : Crash} (region : Name → Bool) where
         | inr not ↦ inr (replaced-other image name entry folder not ∙ stands)
       ]
 
-pub region_less : {crash : Crash} (small big : Name → Bool) (state : State) (image : Image) → ((q : Name) → small q ≡ true → big q ≡ true) → IsImageIn crash big state image → IsImageIn crash small state image
-region_less small big state image more is = record { kept = λ q at there. is.kept q (more q at) there; lost = λ q at gone. is.lost q (more q at) gone }
-
-pub region_sync : (region : Name → Bool) (state : State) (name : Name) (image : Image) → IsImageIn Survives region (alter state name all_synced) image → IsImageIn Survives region state image
+pub region_sync : (region : Name → Bool) (state : DiskState) (name : Name) (image : Image) → IsImageIn Survives region (alter state name all_synced) image → IsImageIn Survives region state image
 region_sync region state name image is = region_narrows region state (alter state name all_synced) image (sync_less state name) is

@@ -4,10 +4,10 @@ use Rattle.fjall_base.specs.declared.disk.DirEntry.{DirEntry}
 use Rattle.fjall_base.specs.declared.error.Error.{Error}
 use Rattle.fjall_base.specs.declared.error.Error.TheVariants.{OutOfMemory}
 use Rattle.fjall_files.specs.declared.lists.Sought.{Sought}
-use Rattle.fjall_files.specs.Sought.{AnyRefuses, Refuses}
+use Rattle.fjall_files.specs.Sought.{AnyRefuses, RefusesList}
 
 -- the entry at that place is one of the list
-pub refused_at : {T : Type 0} (sought : Sought) (listed : List DirEntry) (place : ℕ) (entry : DirEntry) (error : Error) (result : Result T Error) → place < length listed → entry ≡ get_or listed place entry → Refuses sought entry error → result ≡ Err error → IfErr result (AnyRefuses sought listed)
+pub refused_at : {T : Type 0} (sought : Sought) (listed : List DirEntry) (place : ℕ) (entry : DirEntry) (error : Error) (result : Result T Error) → place < length listed → entry ≡ get_or listed place entry → RefusesList sought entry error → result ≡ Err error → IfErr result (AnyRefuses sought listed)
 refused_at sought listed place entry error result inside at refuses is = rw is (place, entry, inside, sym at, refuses)
 
 pub refused_or_full : {T : Type 0} (sought : Sought) (listed : List DirEntry) (result : Result T Error) → IfErr result (AnyRefuses sought listed) → IfErr result (λ error. (error ≡ OutOfMemory) ⊎ AnyRefuses sought listed error)

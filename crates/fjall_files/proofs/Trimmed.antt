@@ -7,7 +7,7 @@ use Rattle.std.proofs.Math.Seq.{take-add}
 use Rattle.std.specs.Prelude.{nat_le, OnOk, OnErr}
 use Rattle.std.specs.Str.{bytes_eq}
 use Rattle.fjall_base.specs.declared.error.Error.{Error}
-use Rattle.fjall_base.specs.Disk.{Name, Entry, Missing, File, Folder, Place, State, Image, Survives, SomeSurvives, IsImage, IsThere, Sync, Loosen, Cut, Meaning, Took, TookOrNot, TookCut, LeavesOnly, change, alter, all_synced, loosened, cut_to, folder_of, state_in}
+use Rattle.fjall_base.specs.Disk.{Name, DiskEntry, Missing, File, Folder, Place, DiskState, Image, Survives, SomeSurvives, IsImage, IsThere, Sync, Loosen, Cut, Meaning, Took, TookOrNot, TookCut, LeavesOnly, change, alter, all_synced, loosened, cut_to, folder_of, state_in}
 use Rattle.fjall_base.proofs.States.{differs, alter-same, alter-other}
 use Rattle.fjall_base.proofs.Frames.{replaced, replaced-same, replaced-other}
 use Rattle.fjall_base.proofs.Covers.{LeftAt, loosens, cut_failed}
@@ -23,25 +23,25 @@ use Rattle.fjall_files.proofs.Parts.{in_region, region_sync, region_put_back}
 abbrev everywhere : Name → Bool
 everywhere q = true
 
-to_region : (state : State) (image : Image) → IsImage state image → IsImageIn Survives everywhere state image
+to_region : (state : DiskState) (image : Image) → IsImage state image → IsImageIn Survives everywhere state image
 to_region state image is = in_region everywhere state image is
 
-from_region : (state : State) (image : Image) → IsImageIn Survives everywhere state image → IsImage state image
+from_region : (state : DiskState) (image : Image) → IsImageIn Survives everywhere state image → IsImage state image
 from_region state image is = record { kept = λ q there. is.kept q refl there; lost = λ q gone. is.lost q refl gone }
 
 -- what a crash leaves of a synced file it might have left before the sync
-pub synced_image : (state : State) (name : Name) (image : Image) → IsImage (change (Sync name) state) image → IsImage state image
+pub synced_image : (state : DiskState) (name : Name) (image : Image) → IsImage (change (Sync name) state) image → IsImage state image
 synced_image state name image is = from_region state image (region_sync everywhere state name image (to_region (alter state name all_synced) image is))
 
 -- ---- the whole image stands beside itself
 
-pub untrimmed : (state : State) (name : Name) (len : ℕ) (image : Image) → IsImage state image → IsTrimmed state name len image
+pub untrimmed : (state : DiskState) (name : Name) (len : ℕ) (image : Image) → IsImage state image → IsTrimmed state name len image
 untrimmed state name len image is = record { whole = image; is = is; elsewhere = λ q not. refl; here = inl refl }
 
 -- ---- a file that is loosened
 
 -- of a loosened file a crash leaves its first bytes and more of them, or what it left of it before
-left_loosened : (len : ℕ) (entry left : Entry) → Survives (loosened len entry) left
+left_loosened : (len : ℕ) (entry left : DiskEntry) → Survives (loosened len entry) left
     → Survives entry left ⊎ ((bytes : List ℕ) × (k : ℕ) × (len ≤ k) × Survives entry (File bytes []) × (left ≡ File (take k bytes) []))
 left_loosened len Missing left is = inl is
 left_loosened len Folder left is = inl is
@@ -67,14 +67,11 @@ left_loosened len (File synced unsynced) left (n, is) = elim (bool_cases (nat_le
     all_survives synced unsynced = (length unsynced, ap (λ (l : List ℕ). File (synced ++ l) []) (sym (take_all (length unsynced) unsynced (omega arith))))
 
 -- the place of a loosened file
-loosened_place : (state : State) (name : Name) (len : ℕ) → alter state name (loosened len) name ≡ record { now = loosened len (state name).now; older = (state name).older }
+loosened_place : (state : DiskState) (name : Name) (len : ℕ) → alter state name (loosened len) name ≡ record { now = loosened len (state name).now; older = (state name).older }
 loosened_place state name len = alter-same state name (loosened len)
 
-outside_alter : (state : State) (name : Name) (f : Entry → Entry) (q : Name) → bytes_eq q name ≡ false → alter state name f q ≡ state q
-outside_alter state name f q not = alter-other state name f q not
-
 -- an image of a loosened file that is one of the file as it was, where what stands at the name might have been left
-as_before : (state : State) (name : Name) (len : ℕ) (image : Image) → IsImage (alter state name (loosened len)) image → (IsThere image (folder_of name) → LeftAt Survives (state name) (image name)) → IsImage state image
+as_before : (state : DiskState) (name : Name) (len : ℕ) (image : Image) → IsImage (alter state name (loosened len)) image → (IsThere image (folder_of name) → LeftAt Survives (state name) (image name)) → IsImage state image
 as_before state name len image is here = record {
   kept = λ q there. elim (bool_cases (bytes_eq q name)) [
     | inl at ↦ let is_name : q ≡ name = same {q = q} {r = name} at in
@@ -84,7 +81,7 @@ as_before state name len image is here = record {
   lost = is.lost;
 }
 
-pub loosened_image : (state : State) (name : Name) (len : ℕ) (image : Image) → IsImage (change (Loosen name len) state) image → IsTrimmed state name len image
+pub loosened_image : (state : DiskState) (name : Name) (len : ℕ) (image : Image) → IsImage (change (Loosen name len) state) image → IsTrimmed state name len image
 loosened_image state name len image is = ⊎_elim (λ there. by_place there (subst (λ (p : Place). LeftAt Survives p (image name)) (loosened_place state name len) (is.kept name there))) (λ gone. untrimmed state name len image (as_before state name len image is (λ there. absurd (gone there)))) (there_or_not image (folder_of name))
   where
     older_left : (was : SomeSurvives (state name).older (image name)) → IsTrimmed state name len image
@@ -107,7 +104,7 @@ loosened_image state name len image is = ⊎_elim (λ there. by_place there (sub
     by_place there (inr was) = older_left was
 
 -- a file that was loosened is cut as it would have been before
-cut_loosened : (len : ℕ) (entry : Entry) → cut_to len (loosened len entry) ≡ cut_to len entry
+cut_loosened : (len : ℕ) (entry : DiskEntry) → cut_to len (loosened len entry) ≡ cut_to len entry
 cut_loosened len Missing = refl
 cut_loosened len Folder = refl
 cut_loosened len (File synced unsynced) = ap (λ (l : List ℕ). File (take len l) []) (sym (append_assoc (take len synced) (drop len synced) unsynced) ∙ ap (λ (l : List ℕ). l ++ unsynced) (take-append-drop len synced))
@@ -134,9 +131,9 @@ module _ (old new : Meaning) (file : Name) (len : ℕ) where
 
   pub cut_place : (result : Result Unit Error) → OnOk result (Took old new (Loosen file len ∷ Cut file len ∷ [])) → OnOk result (state_in new file ≡ ended_place true len (state_in old file))
   cut_place (Ok done) took =
-      ap (λ (s : State). s file) took.state ∙ alter-same (alter (state_in old) file (loosened len)) file (cut_to len)
+      ap (λ (s : DiskState). s file) took.state ∙ alter-same (alter (state_in old) file (loosened len)) file (cut_to len)
       ∙ ap (λ (p : Place). record { now = cut_to len p.now; older = p.older }) (alter-same (state_in old) file (loosened len))
-      ∙ ap (λ (e : Entry). record { now = e; older = (state_in old file).older }) (cut_loosened len (state_in old file).now)
+      ∙ ap (λ (e : DiskEntry). record { now = e; older = (state_in old file).older }) (cut_loosened len (state_in old file).now)
   cut_place (Err e) took = tt
 
   pub cut_place_as : (cut : Bool) → cut ≡ true → (result : Result Unit Error) → OnOk result (Took old new (Loosen file len ∷ Cut file len ∷ [])) → OnOk result (state_in new file ≡ ended_place cut len (state_in old file))
@@ -144,7 +141,7 @@ module _ (old new : Meaning) (file : Name) (len : ℕ) where
   cut_place_as false is result took = absurd (true≢false (sym is))
 
   pub sync_place : (result : Result Unit Error) → OnOk result (Took old new (Sync file ∷ [])) → OnOk result (state_in new file ≡ ended_place false len (state_in old file))
-  sync_place (Ok done) took = ap (λ (s : State). s file) took.state ∙ alter-same (state_in old) file all_synced
+  sync_place (Ok done) took = ap (λ (s : DiskState). s file) took.state ∙ alter-same (state_in old) file all_synced
   sync_place (Err e) took = tt
 
   pub sync_place_as : (cut : Bool) → cut ≡ false → (result : Result Unit Error) → OnOk result (Took old new (Sync file ∷ [])) → OnOk result (state_in new file ≡ ended_place cut len (state_in old file))
@@ -152,13 +149,13 @@ module _ (old new : Meaning) (file : Name) (len : ℕ) where
   sync_place_as true is result took = absurd (true≢false is)
 
   sync_other : (q : Name) → q ≢ file → TookOrNot old new (Sync file ∷ []) → state_in new q ≡ state_in old q
-  sync_other q not (inl none) = ap (λ (s : State). s q) none.state
-  sync_other q not (inr took) = ap (λ (s : State). s q) took.state ∙ alter-other (state_in old) file all_synced q (differs q file not)
+  sync_other q not (inl none) = ap (λ (s : DiskState). s q) none.state
+  sync_other q not (inr took) = ap (λ (s : DiskState). s q) took.state ∙ alter-other (state_in old) file all_synced q (differs q file not)
 
   cut_other : (q : Name) → q ≢ file → TookCut old new file len → state_in new q ≡ state_in old q
-  cut_other q not (inl none) = ap (λ (s : State). s q) none.state
-  cut_other q not (inr (inl loose)) = ap (λ (s : State). s q) loose.state ∙ alter-other (state_in old) file (loosened len) q (differs q file not)
-  cut_other q not (inr (inr (k, le, cut))) = ap (λ (s : State). s q) cut.state ∙ alter-other (alter (state_in old) file (loosened len)) file (cut_to k) q (differs q file not) ∙ alter-other (state_in old) file (loosened len) q (differs q file not)
+  cut_other q not (inl none) = ap (λ (s : DiskState). s q) none.state
+  cut_other q not (inr (inl loose)) = ap (λ (s : DiskState). s q) loose.state ∙ alter-other (state_in old) file (loosened len) q (differs q file not)
+  cut_other q not (inr (inr (k, le, cut))) = ap (λ (s : DiskState). s q) cut.state ∙ alter-other (alter (state_in old) file (loosened len)) file (cut_to k) q (differs q file not) ∙ alter-other (state_in old) file (loosened len) q (differs q file not)
 
   pub after_sync : (result : Result Unit Error) → OnOk result (Took old new (Sync file ∷ [])) → OnErr result (TookOrNot old new (Sync file ∷ [])) → (q : Name) → q ≢ file → state_in new q ≡ state_in old q
   after_sync (Ok done) ok err q not = sync_other q not (inr ok)

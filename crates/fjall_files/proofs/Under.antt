@@ -32,10 +32,6 @@ pub folder_of-join : (folder name : Name) → IsPlain name → folder_of (join f
 folder_of-join [] name plain = rw plain refl
 folder_of-join (f ∷ fs) name plain = rw (slash_inside fs name) (ap (λ (l : Name). f ∷ l) (folder_of-join fs name plain))
 
--- names that are joined are equal only part by part
-pub join_folder : (a b x y : Name) → IsPlain x → IsPlain y → join a x ≡ join b y → a ≡ b
-join_folder a b x y plain_x plain_y is = sym (folder_of-join a x plain_x) ∙ ap (λ (n : Name). folder_of n) is ∙ folder_of-join b y plain_y
-
 tail_of : Name → Name
 tail_of [] = []
 tail_of (c ∷ cs) = cs
@@ -101,23 +97,6 @@ under_inner (f ∷ fs) (c ∷ cs) is not = elim (bool_cases (f == c)) [
       let equal : f ≡ c = grind (arith, nat_tests) in
       let other : cs ≢ fs = λ e. not (ap (λ (l : Name). c ∷ l) e ∙ ap (λ (x : ℕ). x ∷ fs) (sym equal)) in
       rw (has_slash fs cs rest other, at) (under_inner fs cs rest other)
-  | inr differ ↦ let no : false ≡ true = rw differ at is in cc
-]
-
--- under a folder with a plain name lies no other one
-pub under_plain : (xs ys : Name) → IsPlain ys → is_under xs ys ≡ true → xs ≡ ys
-under_plain [] [] plain is = refl
-under_plain [] (c ∷ cs) plain is = let at : slash c ≡ true = is in let no : true ≡ false = rw at at plain in cc
-under_plain (f ∷ fs) [] plain is = let no : false ≡ true = is in cc
-under_plain (f ∷ fs) (c ∷ cs) plain is = elim (bool_cases (f == c)) [
-  | inl at ↦
-      let rest : is_under fs cs ≡ true = rw at at is in
-      let equal : f ≡ c = grind (arith, nat_tests) in
-      elim (bool_cases (slash c)) [
-        | inl is_slash ↦ let no : true ≡ false = rw is_slash at plain in cc
-        | inr no_slash ↦ let more : list_any slash cs ≡ false = rw no_slash at plain in
-            ap (λ (x : ℕ). x ∷ fs) equal ∙ ap (λ (l : Name). c ∷ l) (under_plain fs cs more rest)
-      ]
   | inr differ ↦ let no : false ≡ true = rw differ at is in cc
 ]
 

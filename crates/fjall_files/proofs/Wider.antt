@@ -1,7 +1,7 @@
 -- Wider folders: what lies under a folder lies under the one that this lies under.
 use Rattle.std.proofs.Common.{◌≡◌, inl, inr, ℕ, true, false, ◌==◌, List, [], ◌∷◌, sym, ◌∙◌, ap, arith}
 use Rattle.std.proofs.lemmas.Bool.Decides.{nat_tests}
-use Rattle.fjall_base.specs.Disk.{Name, Step, Meaning}
+use Rattle.fjall_base.specs.Disk.{Name, DiskStep, Meaning}
 use Rattle.fjall_base.proofs.Names.{bool_cases}
 use Rattle.fjall_files.specs.Regions.{AreUnder, Within, is_under}
 
@@ -24,7 +24,7 @@ under_deeper (f ∷ fs) (c ∷ cs) (d ∷ ds) one two =
     let test : (f == d) ≡ true = grind (arith, nat_tests) in
     rw test (under_deeper fs cs ds first.1 then.1)
 
-are_under_wider : (outer inner : Name) (steps : List Step) → is_under outer inner ≡ true → AreUnder inner steps → AreUnder outer steps
+are_under_wider : (outer inner : Name) (steps : List DiskStep) → is_under outer inner ≡ true → AreUnder inner steps → AreUnder outer steps
 are_under_wider outer inner [] is under = tt
 are_under_wider outer inner (step ∷ steps) is under = (under_deeper outer inner _ is under.0, are_under_wider outer inner steps is under.1)
 

@@ -47,17 +47,17 @@ abbrev pub IsMisnamed : Name → Type 0
 IsMisnamed name = LooksLikeJournal name × ((id : ℕ) → IsJournalName name id → ⊥)
 
 -- the files and folders that the engine keeps, and the file that holds the lock
-pub data Kept : Type 0 where
-  Lock : Kept
-  Version : Kept
-  Journal : ℕ → Kept
-  AllKeyspaces : Kept
-  Keyspace : ℕ → Kept
-  Current : ℕ → Kept
-  Table : ℕ → ℕ → Kept
+pub data KeptName : Type 0 where
+  Lock : KeptName
+  Version : KeptName
+  Journal : ℕ → KeptName
+  AllKeyspaces : KeptName
+  Keyspace : ℕ → KeptName
+  Current : ℕ → KeptName
+  Table : ℕ → ℕ → KeptName
 
 -- the name of each, from the root on
-abbrev pub name_of : Kept → Name
+abbrev pub name_of : KeptName → Name
 name_of Lock = codes "lock"
 name_of Version = codes "version"
 name_of (Journal id) = journal_name id
@@ -67,7 +67,7 @@ name_of (Current id) = current_name id
 name_of (Table id table) = table_name id table
 
 -- its ids have 64 bits
-abbrev pub HasIds : Kept → Type 0
+abbrev pub HasIds : KeptName → Type 0
 HasIds (Journal id) = id < 2 ^ 64
 HasIds (Keyspace id) = id < 2 ^ 64
 HasIds (Current id) = id < 2 ^ 64

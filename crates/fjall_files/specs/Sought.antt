@@ -15,11 +15,11 @@ Is Keyspaces entry id = IsKeyspace entry id
 Is (TablesIn folder) entry id = IsTableIn folder.now entry id
 
 -- the entry has the whole list refused, for this error
-abbrev pub Refuses : Sought → DirEntry → Error → Type 0
-Refuses Journals entry error = IsMisnamedFile entry × (error ≡ JournalRecovery InvalidFileName)
-Refuses Keyspaces entry error = IsStrayFolder entry × (error ≡ Unrecoverable)
-Refuses (TablesIn folder) entry error = ⊥
+abbrev pub RefusesList : Sought → DirEntry → Error → Type 0
+RefusesList Journals entry error = IsMisnamedFile entry × (error ≡ JournalRecovery InvalidFileName)
+RefusesList Keyspaces entry error = IsStrayFolder entry × (error ≡ Unrecoverable)
+RefusesList (TablesIn folder) entry error = ⊥
 
 -- some entry of the list has it refused
 abbrev pub AnyRefuses : Sought → List DirEntry → Error → Type 0
-AnyRefuses sought listed error = Any (λ entry. Refuses sought entry error) listed
+AnyRefuses sought listed error = Any (λ entry. RefusesList sought entry error) listed

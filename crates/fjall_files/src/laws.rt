@@ -1,7 +1,7 @@
 //! What holds of the names, and of changes within a folder.
 
 ghost use Rattle.std.specs.Prelude.{◌≡◌, ◌<◌, ◌^◌, ℕ, [], true, false, Bool};
-ghost use Rattle.fjall_files.specs.Names.{HasIds, Kept, journal_name, keyspace_folder, name_of, table_name};
+ghost use Rattle.fjall_files.specs.Names.{HasIds, KeptName, journal_name, keyspace_folder, name_of, table_name};
 ghost use Rattle.fjall_base.specs.Disk.{Name, Image, Meaning, Survives, Leaves, state_in};
 ghost use Rattle.fjall_files.specs.Regions.{IsImageIn, Within, is_under};
 
@@ -23,7 +23,7 @@ pub fn table_names_differ()
 
 /// No two of the files and folders that are kept have one name: no journal's is another file's.
 pub fn kept_names_differ()
-    ensures { (kept other : Kept) → HasIds kept → HasIds other → name_of kept ≡ name_of other → kept ≡ other }
+    ensures { (kept other : KeptName) → HasIds kept → HasIds other → name_of kept ≡ name_of other → kept ≡ other }
 {}
 
 /// What stands outside the folder is as it was.

@@ -4,7 +4,7 @@ ghost use Rattle.std.specs.Prelude.{◌≡◌, ◌↔◌, ◌⊎◌, ℕ, Any, C
 ghost use Rattle.fjall_base.specs.declared.error.Error.{Error};
 ghost use Rattle.fjall_files.specs.Lists.{AreIds, IsJournal, IsKeyspace, IsMisnamedFile, IsStrayFolder, IsTableIn};
 ghost use Rattle.fjall_files.specs.Names.{keyspace_folder as folder_of};
-ghost use Rattle.fjall_files.specs.Sought.{AnyRefuses, Is, Refuses};
+ghost use Rattle.fjall_files.specs.Sought.{AnyRefuses, Is, RefusesList};
 
 use crate::names::{keyspace_folder, parse_journal_name, parse_keyspace_folder, parse_table_name};
 use fjall_base::{DirEntry, Error, JournalRecoveryError, Result};
@@ -23,8 +23,8 @@ enum Sought<'a> {
 fn id_of(entry: &DirEntry, sought: Sought) -> Result<Option<u64>>
     ensures spelled { IfOk result (λ found. IfSome found (Is sought.entry entry.now)) }
     ensures all_found { (id : ℕ) → Is sought.entry entry.now id → result ≡ Ok (Some id) }
-    ensures refused { IfErr result (Refuses sought.entry entry.now) }
-    ensures all_refused { (error : Error) → Refuses sought.entry entry.now error → result ≡ Err error }
+    ensures refused { IfErr result (RefusesList sought.entry entry.now) }
+    ensures all_refused { (error : Error) → RefusesList sought.entry entry.now error → result ≡ Err error }
 {
     let name = entry.name.as_str();
     match (sought, entry.is_folder) {

@@ -47,8 +47,8 @@ abbrev pub FailsUnless : {T : Type 0} → Bool → Result T io.Error → Type 0
 FailsUnless usable answer = IsFalse usable → IsErrAnd answer (λ error. error_kind error ≡ kind.InvalidInput)
 
 -- why a folder isn't opened
-abbrev pub IsOpeningRefusal : Error → Type 0
-IsOpeningRefusal (Io kind) = Unit {0}
-IsOpeningRefusal Locked = Unit {0}
-IsOpeningRefusal OutOfMemory = Unit {0}
-IsOpeningRefusal error = ⊥
+abbrev pub IsFolderRefusal : Error → Type 0
+IsFolderRefusal (Io kind) = Unit {0}
+IsFolderRefusal Locked = Unit {0}
+IsFolderRefusal OutOfMemory = Unit {0}
+IsFolderRefusal error = ⊥

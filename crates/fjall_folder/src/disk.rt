@@ -3,7 +3,7 @@
 ghost use Rattle.std.specs.Prelude.{◌≡◌, false, refl, IfErr, IfOk};
 ghost use Rattle.fjall_base.specs.Disk.{HasCause, OnlyFaults};
 ghost use Rattle.fjall_folder.specs.Names.{AreEntries, is_usable, is_usable_folder};
-ghost use Rattle.fjall_folder.specs.Refusals.{CountsChange, CountsRead, IsOpeningRefusal, RefusesUnless, meaning_of};
+ghost use Rattle.fjall_folder.specs.Refusals.{CountsChange, CountsRead, IsFolderRefusal, RefusesUnless, meaning_of};
 
 use crate::faults::{Faults, refusal};
 use crate::folder::Folder;
@@ -50,7 +50,7 @@ impl FolderDisk {
     /// having been asked for three times, with `Error::Io` where the system fails, as for an empty path or
     /// that of a file, and with `Error::OutOfMemory`.
     pub fn open(rt: &HostRuntime, alloc: Global, path: &str) -> Result<FolderDisk>
-        ensures cause { IfErr result IsOpeningRefusal }
+        ensures cause { IfErr result IsFolderRefusal }
         ensures faults { IfOk result (λ disk. disk.faults.count ≡ 0) }
     {
         let path = make_folders(rt, path).map_err(refusal)?;

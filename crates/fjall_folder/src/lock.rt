@@ -1,7 +1,7 @@
 //! The lock that keeps a folder to one owner.
 
 ghost use Rattle.std.specs.Prelude.{◌≡◌, ◌+◌, ◌<◌, ◌≤◌, false, IfErr, IfOk};
-ghost use Rattle.fjall_folder.specs.Refusals.{IsOpeningRefusal};
+ghost use Rattle.fjall_folder.specs.Refusals.{IsFolderRefusal};
 
 use crate::faults::refusal;
 use crate::paths::{open_file, refuse_link};
@@ -59,7 +59,7 @@ impl LockedFileGuard {
     /// It fails with `Error::Locked` where another owner has the lock, in this process or in another one,
     /// and with `Error::Io` where the system fails, or a link stands there.
     pub fn lock(rt: &HostRuntime, path: Path<'_>) -> Result<LockedFileGuard>
-        ensures cause { IfErr result IsOpeningRefusal }
+        ensures cause { IfErr result IsFolderRefusal }
     {
         let mut options = OpenOptions::new();
         options.read(true).write(true).create(true);

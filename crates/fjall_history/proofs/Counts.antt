@@ -11,9 +11,9 @@ use Rattle.std.specs.FinMap.Entries.{below_all, by_order}
 use Rattle.std.specs.List.{All}
 use Rattle.std.specs.Ordering.{eq_by_cmp, is_eq, is_lt, nat_cmp}
 use Rattle.std.specs.declared.cmp.Ordering.TheVariants.{Less, Equal, Greater}
-use Rattle.fjall_meta.specs.Trackers.{IsSoundTracker, Tracker, is_open, oldest}
-use Rattle.fjall_meta.proofs.TrackerOpenings.{open-count}
-use Rattle.fjall_meta.proofs.TrackerSound.{at_open, oldest_le}
+use Rattle.fjall_history.specs.Trackers.{IsSoundTracker, Tracker, is_open, oldest}
+use Rattle.fjall_history.proofs.TrackerOpenings.{open-count}
+use Rattle.fjall_history.proofs.TrackerSound.{at_open, oldest_le}
 use Rattle.fjall_history.specs.Tickets.{least, times_among}
 use Rattle.fjall_history.proofs.Maps.{none_left, put_back}
 

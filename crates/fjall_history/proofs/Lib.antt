@@ -1,6 +1,13 @@
+mod TrackerEntries
+mod TrackerOpenings
+mod TrackerSound
 pub mod Maps
-pub mod Counts
+mod Counts
 pub mod Tracking
 pub mod Views
 pub mod Moving
 pub mod Values
+mod Items
+pub mod Serials
+pub mod Growing
+pub mod Resting

@@ -8,9 +8,9 @@ use Rattle.std.specs.FinMap.{FinMap, empty, get, insert, len, len-entries, remov
 use Rattle.std.specs.Ordering.{nat_cmp}
 use Rattle.fjall_base.specs.declared.error.Error.{Error}
 use Rattle.fjall_base.specs.declared.error.Error.TheVariants.{NumbersUsedUp, OutOfMemory, SnapshotClosed}
-use Rattle.fjall_meta.specs.Trackers.{IsCloningRefusal, IsSoundTracker, Tracker, after_closing, after_gc, after_opening, after_raise, fresh_tracker, is_open, without_instant}
-use Rattle.fjall_meta.proofs.TrackerOpenings.{count-with_instant, count-without_instant, length-with_instant, length-without_instant}
-use Rattle.fjall_meta.proofs.TrackerSound.{at_open, closing-collects, closing-counted, sound-after_gc, sound-after_raise, sound-closed, sound-fresh_tracker}
+use Rattle.fjall_history.specs.Trackers.{IsCloningRefusal, IsSoundTracker, Tracker, after_closing, after_gc, after_opening, after_raise, fresh_tracker, is_open, without_instant}
+use Rattle.fjall_history.proofs.TrackerOpenings.{count-with_instant, count-without_instant, length-with_instant, length-without_instant}
+use Rattle.fjall_history.proofs.TrackerSound.{at_open, closing-collects, closing-counted, sound-after_gc, sound-after_raise, sound-closed, sound-fresh_tracker}
 use Rattle.fjall_history.specs.Tickets.{AreTracked, Tickets, Tracked, closed, closing_refusal, cloning_refusal, collected, ids_used_up, opening_refusal, tickets_of, times_among, tracked}
 use Rattle.fjall_history.proofs.Counts.{oldest_is, open_value, same_open, times_inserted, times_more, times_removed}
 use Rattle.fjall_history.proofs.Maps.{found_after, found_before}

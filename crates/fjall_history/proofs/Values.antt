@@ -9,8 +9,8 @@ use Rattle.std.specs.FinMap.{FinMap, empty, entries, entries-insert, len-empty, 
 use Rattle.std.specs.FinMap.Entries.{by_order}
 use Rattle.std.specs.Ordering.{eq_by_cmp, is_eq, nat_cmp}
 use Rattle.std.specs.declared.cmp.Ordering.TheVariants.{Less, Equal, Greater}
-use Rattle.fjall_meta.specs.Trackers.{IsSoundTracker, Tracker, is_open}
-use Rattle.fjall_meta.proofs.TrackerSound.{at_open}
+use Rattle.fjall_history.specs.Trackers.{IsSoundTracker, Tracker, is_open}
+use Rattle.fjall_history.proofs.TrackerSound.{at_open}
 use Rattle.fjall_history.specs.Tickets.{AreTracked}
 use Rattle.fjall_history.proofs.Counts.{open_value, same_open}
 use Rattle.fjall_history.proofs.Maps.{none_left, put_back}

@@ -6,7 +6,7 @@ use Rattle.std.specs.Ordering.{nat_cmp}
 use Rattle.std.specs.FinMap.{FinMap, code, contains_key, empty, get, insert, len, remove, values}
 use Rattle.fjall_base.specs.declared.error.Error.{Error}
 use Rattle.fjall_base.specs.declared.error.Error.TheVariants.{NumbersUsedUp, OutOfMemory, SnapshotClosed}
-use Rattle.fjall_meta.specs.Trackers.{IsSoundTracker, Tracker}
+use Rattle.fjall_history.specs.Trackers.{IsSoundTracker, Tracker}
 
 -- The open tickets by their ids, each with the instant at which it reads; the id of the next one, so that none is given
 -- twice; the watermark, below which no open ticket reads; and how many were closed since the last ten-thousandth closing.

@@ -1,12 +1,16 @@
-//! The history of an engine: what was accepted since it was opened, the tickets of snapshots that read at its instants, and
-//! what is asked of a view.
+//! The history of an engine: what was accepted since it was opened, the tickets of snapshots that read at its instants and the
+//! tracker of these; and that optimistic transactions act one after another.
 #![tactic(auto)]
 
+mod instants;
 mod job;
 mod laws;
 mod reply;
+mod serial_laws;
+mod snapshot_tracker;
 mod ticket;
 mod tickets;
+mod tracker_laws;
 
 pub use job::JobId;
 pub use laws::{
@@ -14,5 +18,15 @@ pub use laws::{
     the_watermark_never_falls, the_watermark_spares, views_stay,
 };
 pub use reply::Reply;
+pub use serial_laws::{
+    a_checked_history_grows, a_marked_query, answers_rest_on_marks,
+    checked_transactions_are_serial, conflicts_rest_on_commits, each_answer_is_of_those_before,
+    the_outcome_is_serial, what_meets_none_is_of_the_present,
+};
+pub use snapshot_tracker::{SeqNo, SnapshotTracker};
 pub use ticket::{Ticket, View};
 pub use tickets::Tickets;
+pub use tracker_laws::{
+    closings_are_counted, instants_are_counted, open_instants_are_bounded,
+    the_watermark_follows_the_oldest, trackers_stay_sound,
+};

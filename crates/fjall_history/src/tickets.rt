@@ -4,9 +4,9 @@ ghost use Rattle.std.specs.Prelude.{◌≡◌, ◌+◌, ◌-◌, ◌<◌, ◌≤
 ghost use Rattle.std.specs.FinMap.{get, len, values};
 ghost use Rattle.fjall_history.specs.Tickets.{IsDueOrMemory, Tracked, closed, closing_refusal, cloning_refusal, collected, ids_used_up, is_open, no_tickets, opened, opening_refusal};
 
+use crate::snapshot_tracker::SnapshotTracker;
 use crate::ticket::Ticket;
 use fjall_base::{Error, Result};
-use fjall_meta::SnapshotTracker;
 use std::alloc::Global;
 use std::collections::BTreeMap;
 use std::marker::Model;

@@ -3,7 +3,7 @@ use Rattle.std.proofs.Common.{◌≡◌, ◌∙◌, ℕ, ◌+◌, ◌-◌, ◌^�
 use Rattle.std.proofs.lemmas.List.Sums.{sum_by-append}
 use Rattle.fjall_table.specs.Blocks.{Entry}
 use Rattle.fjall_memtable.specs.Entries.{size_of}
-use Rattle.fjall_sorted.specs.Kept.{size_of_all}
+use Rattle.fjall_memtable.specs.Kept.{size_of_all}
 use Rattle.fjall_jobs.specs.declared.sequence.TableSequence.{TableSequence}
 use Rattle.fjall_jobs.specs.Sequences.{AreParted, last_key, with_open}
 use Rattle.fjall_jobs.proofs.Parting.{last_key_behind}

@@ -3,7 +3,7 @@ use Rattle.std.proofs.Common.{◌≡◌, ◌∙◌, ℕ, zero, suc, ◌-◌, ◌
 use Rattle.std.specs.declared.sync.Arc.{Arc}
 use Rattle.std.proofs.Math.Seq.{drop-length}
 use Rattle.fjall_table.specs.Blocks.{Entry}
-use Rattle.fjall_sorted.specs.Sorted.{flat}
+use Rattle.fjall_memtable.specs.Sorted.{flat}
 use Rattle.fjall_jobs.specs.Blocks.{IsLeft, entries_in, still_left}
 
 -- what stands at a place is the first of what is left from there
@@ -27,12 +27,6 @@ first_left (x ∷ blocks) left b block n e here value len is =
     let block_is : block ≡ x.value = value ∙ ap (λ (a : Arc (List Entry) Global). a.value) same in
     first_of_rest x.value (flat (entries_in blocks)) (length x.value - left) e
     (subst (λ (l : List Entry). slice_get l (length l - left) ≡ Some e) block_is (subst (λ (k : ℕ). slice_get block (k - left) ≡ Some e) len is))
-
--- the place of the first that is left lies within its block
-pub first_within : (blocks : List (Arc (List Entry) Global)) (left : ℕ) (b : Arc (List Entry) Global) → IsLeft left (entries_in blocks) → Some b ≡ slice_get blocks 0
-    → (0 < left) × (left ≤ length b.value)
-first_within [] left b are here = absurd cc
-first_within (x ∷ blocks) left b are here = let same : x ≡ b = cc in subst (λ (a : Arc (List Entry) Global). (0 < left) × (left ≤ length a.value)) same are
 
 -- passed within a block
 pub passed_within : (blocks : List (List Entry)) (left : ℕ) → IsLeft left blocks → 1 < left → still_left (left - 1) blocks ≡ drop 1 (still_left left blocks)

@@ -3,8 +3,8 @@ use Rattle.std.proofs.Common.{◌≡◌, ◌≢◌, ◌∙◌, ◌⊎◌, inl, i
 use Rattle.std.specs.Str.{bytes_eq}
 use Rattle.fjall_base.proofs.Lists.{last_behind}
 use Rattle.fjall_table.specs.Blocks.{Entry}
-use Rattle.fjall_sorted.specs.Kept.{EndsBefore, size_of_all}
-use Rattle.fjall_jobs.specs.Sequences.{IsDue, last_key}
+use Rattle.fjall_memtable.specs.Kept.{EndsBefore, size_of_all}
+use Rattle.fjall_jobs.specs.Sequences.{IsClosingDue, last_key}
 use Rattle.fjall_views.proofs.Sameness.{keys_tie, same_key}
 use Rattle.fjall_jobs.proofs.Finishing.{some_apart}
 use Rattle.fjall_jobs.proofs.Parting.{ended, HasLast}
@@ -21,7 +21,7 @@ ends_where vs key some = by (ended vs)
         here front e = rw (last_behind front e) ((λ apart. apart), (λ apart. apart))
 
 pub due_where : (target size : ℕ) (vs : List Entry) (last key : List ℕ) → size ≡ min (size_of_all vs) (2 ^ 64 - 1) → last ≡ last_key vs → vs ≢ [] → target ≤ size
-    → (last ≢ key → IsDue (Some target) vs key) × (IsDue (Some target) vs key → last ≢ key)
+    → (last ≢ key → IsClosingDue (Some target) vs key) × (IsClosingDue (Some target) vs key → last ≢ key)
 due_where target size vs last key size_is last_is some reached =
     let p = ends_where vs key some in
     ((λ apart. (omega arith, p.1 (λ e. apart (last_is ∙ e)))), (λ due e. p.0 due.1 (sym last_is ∙ e)))
@@ -36,12 +36,12 @@ is_apart a b differs is = by (bytes_eq a b) refl
 
 -- so the open table is to be closed where its last key isn't this one
 pub due_told : (target size : ℕ) (vs : List Entry) (last key : List ℕ) (differs : Bool) → size ≡ min (size_of_all vs) (2 ^ 64 - 1) → last ≡ last_key vs
-    → 0 < length vs → target ≤ size → differs ≡ not (bytes_eq last key) → (IsTrue differs → IsDue (Some target) vs key) × (IsDue (Some target) vs key → IsTrue differs)
+    → 0 < length vs → target ≤ size → differs ≡ not (bytes_eq last key) → (IsTrue differs → IsClosingDue (Some target) vs key) × (IsClosingDue (Some target) vs key → IsTrue differs)
 due_told target size vs last key differs size_is last_is some reached is =
     let p = due_where target size vs last key size_is last_is (some_apart vs some) reached in
     let q = is_apart last key differs is in
     ((λ yes. p.0 (q.0 yes)), (λ due. q.1 (p.1 due)))
 
 -- nor is it due below the target
-pub not_due : (target size : ℕ) (vs : List Entry) (key : List ℕ) → target < 2 ^ 64 → size ≡ min (size_of_all vs) (2 ^ 64 - 1) → size < target → IsDue (Some target) vs key → ⊥
+pub not_due : (target size : ℕ) (vs : List Entry) (key : List ℕ) → target < 2 ^ 64 → size ≡ min (size_of_all vs) (2 ^ 64 - 1) → size < target → IsClosingDue (Some target) vs key → ⊥
 not_due target size vs key fits size_is low due = let r : target ≤ size_of_all vs = due.0 in omega arith

@@ -6,23 +6,23 @@ use Rattle.std.proofs.lemmas.List.{append-nil, append_assoc, take_more}
 use Rattle.std.proofs.lemmas.List.Elements.{All-nil, All-cons, recursion_from_All}
 use Rattle.fjall_table.specs.Blocks.{Entry, IsEntry, IsOrdered}
 use Rattle.fjall_views.specs.Jobs.{OnceEach, Same, flushed}
-use Rattle.fjall_sorted.specs.Kept.{kept_of}
-use Rattle.fjall_sorted.specs.Pages.{barrier}
-use Rattle.fjall_sorted.specs.Sorted.{IsInTurn, flat, sorted}
-use Rattle.fjall_sorted.proofs.Keeping.{flush_kept, kept_ordered}
+use Rattle.fjall_memtable.specs.Kept.{kept_of}
+use Rattle.fjall_memtable.specs.SortedPages.{barrier}
+use Rattle.fjall_memtable.specs.Sorted.{IsInTurn, flat, sorted}
+use Rattle.fjall_memtable.proofs.Keeping.{flush_kept, kept_ordered}
 use Rattle.fjall_runs.proofs.Heads.{taken_run}
-use Rattle.fjall_parts.specs.declared.part.Part.{Part}
-use Rattle.fjall_parts.specs.Held.{held_of}
-use Rattle.fjall_parts.specs.Parts.{AreApart, Held, IsHeld, clears_in, versions_in}
-use Rattle.fjall_parts.specs.Shares.{shared}
-use Rattle.fjall_parts.proofs.Apart.{all_held}
-use Rattle.fjall_parts.proofs.Onces.{once_in}
+use Rattle.fjall_memtable.specs.declared.part.Part.{Part}
+use Rattle.fjall_memtable.specs.Held.{held_of}
+use Rattle.fjall_memtable.specs.Parts.{AreApart, HeldPart, IsHeld, clears_in, versions_in}
+use Rattle.fjall_memtable.specs.Shares.{shared}
+use Rattle.fjall_memtable.proofs.Apart.{all_held}
+use Rattle.fjall_memtable.proofs.Onces.{once_in}
 use Rattle.fjall_jobs.specs.declared.keeper.Rule.{Rule}
 use Rattle.fjall_jobs.specs.declared.made_table.MadeTable.{MadeTable}
 use Rattle.fjall_jobs.proofs.Keeping.{same_runs}
 use Rattle.fjall_jobs.specs.Inputs.{runs_of}
 use Rattle.fjall_jobs.specs.Keeping.{AreSorted, kept_by}
-use Rattle.fjall_jobs.specs.Sequences.{Makes}
+use Rattle.fjall_jobs.specs.Sequences.{MakesTables}
 use Rattle.fjall_jobs.specs.Tasks.{IsFlushed, Task}
 
 -- ---- clears one by one
@@ -58,7 +58,7 @@ run_more parts i part runs run lt is so_far here =
     composed [] = refl
     composed (p ∷ ps) = ap (λ (l : List (List Entry)). (held_of p.value).versions ∷ l) (composed ps)
 
-clears_behind : (front : List Held) (h : Held) → clears_in (front ++ h ∷ []) ≡ clears_in front ++ h.clears
+clears_behind : (front : List HeldPart) (h : HeldPart) → clears_in (front ++ h ∷ []) ≡ clears_in front ++ h.clears
 clears_behind [] h = append-nil h.clears
 clears_behind (g ∷ front) h = ap (λ (l : List ℕ). g.clears ++ l) (clears_behind front h) ∙ sym (append_assoc g.clears (clears_in front) h.clears)
 
@@ -70,7 +70,7 @@ clears_more parts i part clears more lt is so_far here =
 
 -- ---- all of them
 
-pub flat_runs : (hs : List Held) → flat (map (λ (h : Held). h.versions) hs) ≡ versions_in hs
+pub flat_runs : (hs : List HeldPart) → flat (map (λ (h : HeldPart). h.versions) hs) ≡ versions_in hs
 flat_runs [] = refl
 flat_runs (h ∷ hs) = ap (λ (l : List Entry). h.versions ++ l) (flat_runs hs)
 
@@ -84,16 +84,16 @@ both_entries (x ∷ xs) ys a b = (a.0, both_entries xs ys a.1 b)
 input_entries : (parts : List (Arc Part Global)) → AllByRecursion IsEntry (flat (runs_of parts))
 input_entries parts = by (shared parts) (recursion_from_All IsHeld (shared parts) (all_held parts))
   where
-    by : (hs : List Held) → AllByRecursion IsHeld hs → AllByRecursion IsEntry (flat (map (λ (h : Held). h.versions) hs))
+    by : (hs : List HeldPart) → AllByRecursion IsHeld hs → AllByRecursion IsEntry (flat (map (λ (h : HeldPart). h.versions) hs))
     by [] held = tt
-    by (h ∷ hs) held = both_entries h.versions (flat (map (λ (h : Held). h.versions) hs)) (recursion_from_All IsEntry h.versions held.0.each) (by hs held.1)
+    by (h ∷ hs) held = both_entries h.versions (flat (map (λ (h : HeldPart). h.versions) hs)) (recursion_from_All IsEntry h.versions held.0.each) (by hs held.1)
 
 input_ordered : (parts : List (Arc Part Global)) → All (IsInTurn false) (runs_of parts)
 input_ordered parts = by (shared parts) (recursion_from_All IsHeld (shared parts) (all_held parts))
   where
-    by : (hs : List Held) → AllByRecursion IsHeld hs → All (IsInTurn false) (map (λ (h : Held). h.versions) hs)
+    by : (hs : List HeldPart) → AllByRecursion IsHeld hs → All (IsInTurn false) (map (λ (h : HeldPart). h.versions) hs)
     by [] held = All-nil (IsInTurn false)
-    by (h ∷ hs) held = All-cons (IsInTurn false) h.versions (map (λ (h : Held). h.versions) hs) held.0.ordered (by hs held.1)
+    by (h ∷ hs) held = All-cons (IsInTurn false) h.versions (map (λ (h : HeldPart). h.versions) hs) held.0.ordered (by hs held.1)
 
 -- runs that are seen as what they have left
 pub runs_are : (runs : List (List Entry)) (parts : List (Arc Part Global)) → runs ≡ runs_of parts → map (λ (run : List Entry). run) runs ≡ runs_of parts
@@ -107,7 +107,7 @@ input_sorted runs parts is apart =
 -- ---- what was made of it
 
 pub flushed_is : (task : Task) (rule : Rule) (tables : List MadeTable) (clears : List ℕ) → OnceEach (flat task.runs) → rule.watermark ≡ task.watermark → rule.spends ≡ false
-    → rule.bound ≡ barrier (task.watermark + 1) clears → clears ≡ task.clears → Makes None tables (kept_by rule None (sorted (flat task.runs))) → IsFlushed task tables clears
+    → rule.bound ≡ barrier (task.watermark + 1) clears → clears ≡ task.clears → MakesTables None tables (kept_by rule None (sorted (flat task.runs))) → IsFlushed task tables clears
 flushed_is task rule tables clears once watermark spends bound clears_are made =
     let vs = flat task.runs in
     let rules : kept_by rule None (sorted vs) ≡ kept_of false task.watermark (barrier (task.watermark + 1) task.clears) None (sorted vs) =

@@ -5,28 +5,28 @@ use Rattle.fjall_base.proofs.Lists.{last_behind}
 use Rattle.std.specs.Option.{option_map}
 use Rattle.fjall_table.specs.declared.table_entry.TableEntry.{TableEntry}
 use Rattle.fjall_table.specs.Blocks.{Entry, IsBefore, IsOrdered, seen}
-use Rattle.fjall_table.specs.Writing.{Follows}
+use Rattle.fjall_table.specs.Writing.{FollowsEntries}
 use Rattle.fjall_table.proofs.BlockParts.{ordered_at}
-use Rattle.fjall_sorted.specs.Kept.{is_kept}
+use Rattle.fjall_memtable.specs.Kept.{is_kept}
 use Rattle.fjall_jobs.specs.declared.keeper.Rule.{Rule}
 use Rattle.fjall_jobs.specs.Keeping.{before_of, kept_by}
 use Rattle.fjall_jobs.proofs.Parting.{HasLast, ended}
 
 -- the last of two lists is that of the second, where it has one
-last_of_both : (xs ys : List Entry) (v : Entry) → Follows (xs ++ ys) v → Follows ys v
+last_of_both : (xs ys : List Entry) (v : Entry) → FollowsEntries (xs ++ ys) v → FollowsEntries ys v
 last_of_both xs ys v follows = by (ended ys)
   where
-    by : (ys ≡ []) ⊎ HasLast ys → Follows ys v
-    by (inl none) = subst (λ (l : List Entry). Follows l v) (sym none) tt
+    by : (ys ≡ []) ⊎ HasLast ys → FollowsEntries ys v
+    by (inl none) = subst (λ (l : List Entry). FollowsEntries l v) (sym none) tt
     by (inr h) =
         let joined : xs ++ ys ≡ (xs ++ h.front) ++ h.last ∷ [] = ap (λ (l : List Entry). xs ++ l) h.is ∙ sym (append_assoc xs h.front (h.last ∷ [])) in
-        let here : Follows ((xs ++ h.front) ++ h.last ∷ []) v = subst (λ (l : List Entry). Follows l v) joined follows in
+        let here : FollowsEntries ((xs ++ h.front) ++ h.last ∷ []) v = subst (λ (l : List Entry). FollowsEntries l v) joined follows in
         let is : IsBefore h.last v = subst (λ (o : Option Entry). IfSome o (λ w. IsBefore w v)) (last_behind (xs ++ h.front) h.last) here in
-        subst (λ (l : List Entry). Follows l v) (sym h.is) (subst (λ (o : Option Entry). IfSome o (λ w. IsBefore w v)) (sym (last_behind h.front h.last)) is)
+        subst (λ (l : List Entry). FollowsEntries l v) (sym h.is) (subst (λ (o : Option Entry). IfSome o (λ w. IsBefore w v)) (sym (last_behind h.front h.last)) is)
 
 -- a version that is kept stands behind what was written
 pub kept_follows : (rule : Rule) (before : Option Entry) (written writer rest whole : List Entry) (v : Entry) → is_kept rule.spends rule.watermark rule.bound before v ≡ true
-    → (written ++ writer) ++ kept_by rule before (v ∷ rest) ≡ whole → IsOrdered whole → Follows writer v
+    → (written ++ writer) ++ kept_by rule before (v ∷ rest) ≡ whole → IsOrdered whole → FollowsEntries writer v
 kept_follows rule before written writer rest whole v kept all ordered =
     let next : kept_by rule before (v ∷ rest) ≡ v ∷ kept_by rule (Some v) rest = by (is_kept rule.spends rule.watermark rule.bound before v) refl in
     last_of_both written writer v (ordered_at (written ++ writer) (kept_by rule (Some v) rest) v

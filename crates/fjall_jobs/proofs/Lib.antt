@@ -1,13 +1,13 @@
-pub mod Adding
-pub mod Blocks
-pub mod Closing
-pub mod Dues
-pub mod Finishing
+mod Adding
+mod Blocks
+mod Closing
+mod Dues
+mod Finishing
 pub mod Flushing
-pub mod Holding
-pub mod Keeping
-pub mod Looping
-pub mod Merging
-pub mod Parting
-pub mod Rooms
-pub mod Reading
+mod Holding
+mod Keeping
+mod Looping
+mod Merging
+mod Parting
+mod Rooms
+mod Reading

@@ -4,17 +4,17 @@ use Rattle.std.proofs.lemmas.List.{append-nil, length-append, map-set}
 use Rattle.std.specs.List.{AllByRecursion}
 use Rattle.fjall_base.specs.declared.error.Error.{Error}
 use Rattle.fjall_table.specs.Blocks.{Entry, IsEntry}
-use Rattle.fjall_sorted.proofs.Taking.{first_taken, others_once, runs_in_turn, taken}
-use Rattle.fjall_sorted.specs.Sorted.{IsFirstOf, flat, sorted}
+use Rattle.fjall_memtable.proofs.Taking.{first_taken, others_once, runs_in_turn, taken}
+use Rattle.fjall_memtable.specs.Sorted.{IsFirstOf, flat, sorted}
 use Rattle.fjall_jobs.specs.declared.keeper.Keeper.{Keeper}
 use Rattle.fjall_jobs.specs.declared.made_table.MadeTable.{MadeTable}
-use Rattle.fjall_jobs.specs.Keeping.{AreSorted, Keeps}
-use Rattle.fjall_jobs.specs.Sequences.{IsSequence, Makes}
+use Rattle.fjall_jobs.specs.Keeping.{AreSorted, KeepsVersions}
+use Rattle.fjall_jobs.specs.Sequences.{IsSequence, MakesTables}
 
 -- between two versions: what is left of the runs is in order, and is what is still to come
 pub record IsInLoop (runs : List (List Entry)) (k : Keeper) (target : Option ℕ) (whole : List Entry) : Type 0 where
   pub are : AreSorted runs
-  pub keeps : Keeps k (sorted (flat runs)) whole
+  pub keeps : KeepsVersions k (sorted (flat runs)) whole
   pub target_is : k.tables.target ≡ target
 
 -- ---- entries in parts
@@ -48,12 +48,12 @@ first_entry runs at v rest here all = (all_here runs at (v ∷ rest) here all).0
 
 -- it is the next one to be looked at
 pub now_keeps : (runs : List (List Entry)) (at : ℕ) (v : Entry) (rest whole : List Entry) (target : Option ℕ) (k : Keeper) → IsInLoop runs k target whole → IsFirstOf false runs at v rest
-    → Keeps k (v ∷ sorted (flat (slice_set runs at rest))) whole
-now_keeps runs at v rest whole target k loop first = subst (λ (vs : List Entry). Keeps k vs whole) (first_taken false runs at v rest loop.are.ordered loop.are.once first) loop.keeps
+    → KeepsVersions k (v ∷ sorted (flat (slice_set runs at rest))) whole
+now_keeps runs at v rest whole target k loop first = subst (λ (vs : List Entry). KeepsVersions k vs whole) (first_taken false runs at v rest loop.are.ordered loop.are.once first) loop.keeps
 
 -- what was made of the first version, and what is left
 pub next_in_loop : {X : Type 0} (f : X → List Entry) (xs : List X) (at : ℕ) (x : X) (v : Entry) (rest whole : List Entry) (target : Option ℕ) (old new : Keeper)
-    → IsInLoop (map f xs) old target whole → IsFirstOf false (map f xs) at v rest → f x ≡ rest → Keeps new (sorted (flat (slice_set (map f xs) at rest))) whole
+    → IsInLoop (map f xs) old target whole → IsFirstOf false (map f xs) at v rest → f x ≡ rest → KeepsVersions new (sorted (flat (slice_set (map f xs) at rest))) whole
     → new.tables.target ≡ old.tables.target → IsInLoop (map f (slice_set xs at x)) new target whole
 next_in_loop f xs at x v rest whole target old new loop first left keeps target_is =
     let runs = map f xs in
@@ -82,10 +82,10 @@ fewer_left f xs at x v rest first left =
 
 -- where nothing is left all was made
 pub made_all : (runs : List (List Entry)) (k : Keeper) (target : Option ℕ) (whole : List Entry) (result : Result (Vec MadeTable Global) Error) → IsInLoop runs k target whole → flat runs ≡ []
-    → ((closed : List (List Entry)) → IsSequence k.tables closed → IfOk result (λ tables. Makes k.tables.target tables.items (flat closed ++ k.tables.writer)))
-    → IfOk result (λ tables. Makes target tables.items whole)
+    → ((closed : List (List Entry)) → IsSequence k.tables closed → IfOk result (λ tables. MakesTables k.tables.target tables.items (flat closed ++ k.tables.writer)))
+    → IfOk result (λ tables. MakesTables target tables.items whole)
 made_all runs k target whole (Err e) loop none made = tt
 made_all runs k target whole (Ok tables) loop none made =
-    let end : Keeps k [] whole = subst (λ (vs : List Entry). Keeps k (sorted vs) whole) none loop.keeps in
+    let end : KeepsVersions k [] whole = subst (λ (vs : List Entry). KeepsVersions k (sorted vs) whole) none loop.keeps in
     let all : flat end.closed ++ k.tables.writer ≡ whole = sym (append-nil (flat end.closed ++ k.tables.writer)) ∙ end.all in
-    subst (λ (t : Option ℕ). Makes t tables.items whole) loop.target_is (subst (λ (vs : List Entry). Makes k.tables.target tables.items vs) all (made end.closed end.sequence))
+    subst (λ (t : Option ℕ). MakesTables t tables.items whole) loop.target_is (subst (λ (vs : List Entry). MakesTables k.tables.target tables.items vs) all (made end.closed end.sequence))

@@ -3,10 +3,10 @@ use Rattle.std.proofs.Common.{◌≡◌, ◌∙◌, ℕ, ◌+◌, ◌<◌, Bool,
 use Rattle.std.specs.declared.sync.Arc.{Arc}
 use Rattle.fjall_table.specs.Blocks.{Entry, IsOrdered}
 use Rattle.fjall_views.specs.Jobs.{Same, merged, merged_clears}
-use Rattle.fjall_sorted.specs.Kept.{kept_of}
-use Rattle.fjall_sorted.specs.Pages.{barrier}
-use Rattle.fjall_sorted.specs.Sorted.{flat, sorted}
-use Rattle.fjall_sorted.proofs.Keeping.{kept_ordered, merge_kept}
+use Rattle.fjall_memtable.specs.Kept.{kept_of}
+use Rattle.fjall_memtable.specs.SortedPages.{barrier}
+use Rattle.fjall_memtable.specs.Sorted.{flat, sorted}
+use Rattle.fjall_memtable.proofs.Keeping.{kept_ordered, merge_kept}
 use Rattle.fjall_runs.proofs.Heads.{taken_run}
 use Rattle.fjall_jobs.specs.declared.keeper.Rule.{Rule}
 use Rattle.fjall_jobs.specs.declared.made_table.MadeTable.{MadeTable}
@@ -14,7 +14,7 @@ use Rattle.fjall_jobs.specs.Blocks.{entries_in}
 use Rattle.fjall_jobs.specs.Keeping.{AreSorted, kept_by}
 use Rattle.fjall_jobs.specs.MergeInputs.{table_runs}
 use Rattle.fjall_jobs.specs.Merges.{IsMerged}
-use Rattle.fjall_jobs.specs.Sequences.{Makes}
+use Rattle.fjall_jobs.specs.Sequences.{MakesTables}
 use Rattle.fjall_jobs.specs.Tasks.{Task}
 
 -- one table more
@@ -27,7 +27,7 @@ table_more tables i table runs run lt is so_far here =
 -- what is kept of an input that a job can go through
 pub merged_is : (target : ℕ) (task : Task) (rule : Rule) (tables : List MadeTable) (clears : List ℕ) → AreSorted task.runs → rule.watermark ≡ task.watermark → rule.spends ≡ true
     → rule.bound ≡ barrier (task.watermark + 1) task.clears → clears ≡ merged_clears task.watermark task.clears
-    → Makes (Some target) tables (kept_by rule None (sorted (flat task.runs))) → IsMerged target task tables clears
+    → MakesTables (Some target) tables (kept_by rule None (sorted (flat task.runs))) → IsMerged target task tables clears
 merged_is target task rule tables clears are watermark spends bound clears_are made =
     let vs = flat task.runs in
     let rules : kept_by rule None (sorted vs) ≡ kept_of true task.watermark (barrier (task.watermark + 1) task.clears) None (sorted vs) =

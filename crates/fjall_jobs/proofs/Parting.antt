@@ -4,10 +4,10 @@ use Rattle.std.proofs.lemmas.List.{append_assoc, append-nil}
 use Rattle.fjall_base.proofs.Lists.{last_behind}
 use Rattle.fjall_table.specs.Blocks.{Entry}
 use Rattle.fjall_table.specs.Tables.{first_key}
-use Rattle.fjall_sorted.specs.Kept.{AreClosedAt, EndsBefore, IsClosedInTime, size_of_all}
-use Rattle.fjall_sorted.specs.Sorted.{flat}
+use Rattle.fjall_memtable.specs.Kept.{AreClosedAt, EndsBefore, IsClosedInTime, size_of_all}
+use Rattle.fjall_memtable.specs.Sorted.{flat}
 use Rattle.fjall_jobs.specs.declared.made_table.MadeTable.{MadeTable}
-use Rattle.fjall_jobs.specs.Sequences.{AreMadeTables, AreParted, IsDue, IsMadeTable, with_open, last_key}
+use Rattle.fjall_jobs.specs.Sequences.{AreMadeTables, AreParted, IsClosingDue, IsMadeTable, with_open, last_key}
 
 -- ---- ends of lists
 
@@ -129,7 +129,7 @@ none_closed (c ∷ d ∷ closed) vs are = absurd are
 
 -- one more entry in the open table, where no other is due
 pub parted_more : (target : Option ℕ) (closed : List (List Entry)) (vs : List Entry) (e : Entry) → AreParted target (with_open closed vs)
-    → (vs ≡ [] → closed ≡ []) → (IsDue target vs e.key → ⊥) → AreParted target (with_open closed (vs ++ e ∷ []))
+    → (vs ≡ [] → closed ≡ []) → (IsClosingDue target vs e.key → ⊥) → AreParted target (with_open closed (vs ++ e ∷ []))
 parted_more None closed [] e are begun free = subst (λ (l : List (List Entry)). AreParted None (l ++ (e ∷ []) ∷ [])) (sym (begun refl)) (λ none. cc)
 parted_more (Some target) closed [] e are begun free =
     subst (λ (l : List (List Entry)). AreClosedAt target (l ++ (e ∷ []) ∷ [])) (sym (begun refl)) (λ none. cc, one_in_time target e)
@@ -139,7 +139,7 @@ parted_more (Some target) closed (v ∷ vs) e are begun free = closed_more targe
 
 -- the first entry of the next table, where that is due
 pub parted_next : (target : Option ℕ) (closed : List (List Entry)) (vs : List Entry) (e : Entry) → AreParted target (with_open closed vs)
-    → IsDue target vs e.key → AreParted target ((closed ++ vs ∷ []) ++ (e ∷ []) ∷ [])
+    → IsClosingDue target vs e.key → AreParted target ((closed ++ vs ∷ []) ++ (e ∷ []) ∷ [])
 parted_next None closed vs e are due = absurd due
 parted_next (Some target) closed [] e are due = absurd due.1
 parted_next (Some target) closed (v ∷ vs) e are due = closed_next target closed (v ∷ vs) e are due

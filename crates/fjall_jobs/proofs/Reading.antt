@@ -4,12 +4,12 @@ use Rattle.fjall_base.specs.declared.error.Error.{Error}
 use Rattle.fjall_base.specs.declared.error.Error.TheVariants.{OutOfMemory, Storage}
 use Rattle.fjall_base.specs.declared.error.StorageError.TheVariants.{TableDamaged}
 use Rattle.fjall_table.specs.Blocks.{Entry}
-use Rattle.fjall_table.specs.Files.{IsTableOf}
+use Rattle.fjall_table_reader.specs.Files.{IsTableOf}
 use Rattle.fjall_table.specs.Reading.{DamagedWhere}
 use Rattle.fjall_table.specs.TableReading.{HasNoIndex}
 use Rattle.fjall_table.specs.declared.level.Level.{Level}
 use Rattle.fjall_table.specs.declared.table_info.TableInfo.{TableInfo}
-use Rattle.fjall_table.proofs.TableFiles.{has_an_index}
+use Rattle.fjall_table_reader.proofs.TableFiles.{has_an_index}
 use Rattle.fjall_jobs.specs.declared.made_table.MadeTable.{MadeTable}
 use Rattle.fjall_jobs.specs.Sequences.{IsMadeTable}
 

@@ -3,7 +3,7 @@ use Rattle.std.specs.Prelude.{◌≡◌, ℕ, ◌-◌, ◌<◌, ◌≤◌, List,
 use Rattle.std.specs.declared.alloc.Global.{Global}
 use Rattle.std.specs.declared.sync.Arc.{Arc}
 use Rattle.fjall_table.specs.Blocks.{Entry}
-use Rattle.fjall_sorted.specs.Sorted.{flat}
+use Rattle.fjall_memtable.specs.Sorted.{flat}
 
 -- the entries of each of these blocks
 abbrev pub entries_in : List (Arc (List Entry) Global) → List (List Entry)

@@ -1,6 +1,6 @@
 -- Flushes.
-use Rattle.fjall_parts.specs.Parts.{clears_in}
-use Rattle.fjall_parts.specs.Shares.{shared}
+use Rattle.fjall_memtable.specs.Parts.{clears_in}
+use Rattle.fjall_memtable.specs.Shares.{shared}
 use Rattle.fjall_jobs.specs.declared.flush_job.FlushJob.{FlushJob}
 use Rattle.fjall_jobs.specs.Inputs.{runs_of}
 use Rattle.fjall_jobs.specs.Tasks.{Task}

@@ -3,8 +3,8 @@ use Rattle.std.specs.Prelude.{List, map}
 use Rattle.std.specs.declared.alloc.Global.{Global}
 use Rattle.std.specs.declared.sync.Arc.{Arc}
 use Rattle.fjall_table.specs.Blocks.{Entry}
-use Rattle.fjall_parts.specs.declared.part.Part.{Part}
-use Rattle.fjall_parts.specs.Shares.{shared}
+use Rattle.fjall_memtable.specs.declared.part.Part.{Part}
+use Rattle.fjall_memtable.specs.Shares.{shared}
 
 -- the versions of each of these parts
 abbrev pub runs_of : List (Arc Part Global) → List (List Entry)

@@ -3,8 +3,8 @@ use Rattle.std.specs.Prelude.{◌≡◌, ℕ, false, List, ◌++◌, Option, Som
 use Rattle.std.specs.List.{All, AllByRecursion}
 use Rattle.fjall_table.specs.Blocks.{Entry, IsEntry, IsOrdered}
 use Rattle.fjall_views.specs.Jobs.{OnceEach}
-use Rattle.fjall_sorted.specs.Kept.{kept_of}
-use Rattle.fjall_sorted.specs.Sorted.{IsInTurn, flat}
+use Rattle.fjall_memtable.specs.Kept.{kept_of}
+use Rattle.fjall_memtable.specs.Sorted.{IsInTurn, flat}
 use Rattle.fjall_jobs.specs.declared.keeper.Keeper.{Keeper}
 use Rattle.fjall_jobs.specs.declared.keeper.Rule.{Rule}
 use Rattle.fjall_jobs.specs.Sequences.{IsSequence}
@@ -19,7 +19,7 @@ abbrev pub kept_by : Rule → Option Entry → List Entry → List Entry
 kept_by rule before versions = kept_of rule.spends rule.watermark rule.bound before versions
 
 -- What was written, and what is kept of the versions that are still to come, are all of these in order.
-pub record Keeps (k : Keeper) (rest whole : List Entry) : Type 0 where
+pub record KeepsVersions (k : Keeper) (rest whole : List Entry) : Type 0 where
   pub closed : List (List Entry)
   pub sequence : IsSequence k.tables closed
   pub all : (flat closed ++ k.tables.writer) ++ kept_by k.rule (before_of k.last_key.items k.last_number) rest ≡ whole

@@ -3,7 +3,7 @@ use Rattle.std.specs.Prelude.{List, map, Vec}
 use Rattle.std.specs.declared.alloc.Global.{Global}
 use Rattle.std.specs.declared.sync.Arc.{Arc}
 use Rattle.fjall_table.specs.Blocks.{Entry}
-use Rattle.fjall_sorted.specs.Sorted.{flat}
+use Rattle.fjall_memtable.specs.Sorted.{flat}
 use Rattle.fjall_jobs.specs.Blocks.{entries_in}
 
 -- the versions of each of these tables, by its blocks

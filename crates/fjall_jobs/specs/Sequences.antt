@@ -3,8 +3,8 @@ use Rattle.std.specs.Prelude.{◌≡◌, ℕ, ◌≤◌, ◌^◌, ◌-◌, List,
 use Rattle.fjall_base.specs.Lists.{last_of}
 use Rattle.fjall_table.specs.Blocks.{Entry}
 use Rattle.fjall_table.specs.Tables.{IsTable}
-use Rattle.fjall_sorted.specs.Sorted.{flat}
-use Rattle.fjall_sorted.specs.Kept.{AreClosedAt, EndsBefore, size_of_all}
+use Rattle.fjall_memtable.specs.Sorted.{flat}
+use Rattle.fjall_memtable.specs.Kept.{AreClosedAt, EndsBefore, size_of_all}
 use Rattle.fjall_jobs.specs.declared.sequence.TableSequence.{TableSequence}
 use Rattle.fjall_jobs.specs.declared.made_table.MadeTable.{MadeTable}
 
@@ -44,9 +44,9 @@ last_key entries = by (last_of entries)
     by (Some e) = e.key
 
 -- Whether the open table is to be closed before an entry of this key.
-abbrev pub IsDue : Option ℕ → List Entry → List ℕ → Type 0
-IsDue None open_entries key = ⊥
-IsDue (Some target) open_entries key = (target ≤ size_of_all open_entries) × EndsBefore open_entries key
+abbrev pub IsClosingDue : Option ℕ → List Entry → List ℕ → Type 0
+IsClosingDue None open_entries key = ⊥
+IsClosingDue (Some target) open_entries key = (target ≤ size_of_all open_entries) × EndsBefore open_entries key
 
 -- These tables were closed, and with the open one they are parted as they must be.
 pub record IsSequence (s : TableSequence) (closed : List (List Entry)) : Type 0 where
@@ -57,11 +57,11 @@ pub record IsSequence (s : TableSequence) (closed : List (List Entry)) : Type 0 
   pub begun : s.writer ≡ [] → closed ≡ []
 
 -- The open table may get an entry of this key.
-pub record HasRoom (s : TableSequence) (closed : List (List Entry)) (key : List ℕ) : Type 0 where
+pub record HasRoomForEntry (s : TableSequence) (closed : List (List Entry)) (key : List ℕ) : Type 0 where
   pub made : AreMadeTables s.closed.items closed
   pub size_is : s.size ≡ min (size_of_all s.writer) (2 ^ 64 - 1)
   pub extends : (e : Entry) → e.key ≡ key → AreParted s.target (with_open closed (s.writer ++ e ∷ []))
 
 -- these tables were made, parted as they must be, of these entries
-abbrev pub Makes : Option ℕ → List MadeTable → List Entry → Type 0
-Makes target tables entries = (lists : List (List Entry)) × AreMadeTables tables lists × AreParted target lists × (flat lists ≡ entries)
+abbrev pub MakesTables : Option ℕ → List MadeTable → List Entry → Type 0
+MakesTables target tables entries = (lists : List (List Entry)) × AreMadeTables tables lists × AreParted target lists × (flat lists ≡ entries)

@@ -3,12 +3,12 @@
 ghost use Rattle.std.specs.Prelude.{◌≡◌, drop, slice_get};
 ghost use Rattle.std.specs.Option.{option_map};
 ghost use Rattle.fjall_table.specs.Blocks.{seen};
-ghost use Rattle.fjall_sorted.specs.Sorted.{flat};
+ghost use Rattle.fjall_memtable.specs.Sorted.{flat};
 ghost use Rattle.fjall_jobs.specs.Blocks.{IsLeft, entries_in, still_left};
 
-use fjall_blocks::Block;
 use fjall_runs::Run;
 use fjall_table::TableEntry;
+use fjall_table_reader::Block;
 use std::alloc::Global;
 use std::marker::Model;
 use std::sync::Arc;

@@ -1,7 +1,7 @@
 //! What clears hide.
 
 ghost use Rattle.std.specs.Prelude.{◌≡◌, max, nat_lt, if◌then◌else◌};
-ghost use Rattle.fjall_sorted.specs.Pages.{barrier};
+ghost use Rattle.fjall_memtable.specs.SortedPages.{barrier};
 
 // The greater of a bound and a clear, where that is below an instant.
 fn raised(bound: u64, number: u64, instant: u64) -> u64

@@ -3,8 +3,8 @@
 ghost use Rattle.std.specs.Prelude.{◌≡◌, ◌<◌, ◌^◌, List, None, IfErr, IfOk, IsOkUnless, map, length, slice_get};
 ghost use Rattle.std.proofs.Props.{props};
 ghost use Rattle.fjall_base.specs.declared.error.Error.TheVariants.{OutOfMemory};
-ghost use Rattle.fjall_parts.specs.Parts.{AreApart, apart_prop, clears_in};
-ghost use Rattle.fjall_parts.specs.Shares.{shared};
+ghost use Rattle.fjall_memtable.specs.Parts.{AreApart, apart_prop, clears_in};
+ghost use Rattle.fjall_memtable.specs.Shares.{shared};
 ghost use Rattle.fjall_jobs.specs.Inputs.{runs_of};
 
 use crate::bound::bound_of;
@@ -12,7 +12,7 @@ use crate::flush_made::FlushMade;
 use crate::keeper::{Rule, keep};
 use crate::made_table::MadeTable;
 use fjall_base::{Error, Refused, Result};
-use fjall_parts::Part;
+use fjall_memtable::Part;
 use fjall_runs::MemtableRun;
 use std::alloc::Global;
 use std::sync::Arc;

@@ -53,12 +53,4 @@ impl FlushMade {
         let FlushMade { job, .. } = self;
         job
     }
-
-    /// Gives the tables, and lets go of the job.
-    pub fn into_tables(self) -> Vec<MadeTable>
-        ensures { result ≡ self.tables }
-    {
-        let FlushMade { tables, .. } = self;
-        tables
-    }
 }

@@ -3,10 +3,10 @@
 ghost use Rattle.std.specs.Prelude.{◌≡◌, ◌∷◌, List, None, IfOk, OnOk, IsOkUnless, drop, map};
 ghost use Rattle.fjall_table.specs.Blocks.{Entry, IsEntry, IsOrdered, seen};
 ghost use Rattle.fjall_views.specs.Jobs.{is_old_removal};
-ghost use Rattle.fjall_sorted.specs.Kept.{is_behind, is_followed, is_kept};
-ghost use Rattle.fjall_sorted.specs.Sorted.{flat, sorted};
-ghost use Rattle.fjall_jobs.specs.Sequences.{Makes};
-ghost use Rattle.fjall_jobs.specs.Keeping.{AreSorted, HasLooked, Keeps, before_of, kept_by};
+ghost use Rattle.fjall_memtable.specs.Kept.{is_behind, is_followed, is_kept};
+ghost use Rattle.fjall_memtable.specs.Sorted.{flat, sorted};
+ghost use Rattle.fjall_jobs.specs.Sequences.{MakesTables};
+ghost use Rattle.fjall_jobs.specs.Keeping.{AreSorted, HasLooked, KeepsVersions, before_of, kept_by};
 
 use crate::made_table::MadeTable;
 use crate::sequence::TableSequence;
@@ -78,7 +78,7 @@ impl Rule {
 
 impl Keeper {
     pub(crate) fn new(alloc: Global, rule: Rule, target: Option<u64>) -> Keeper
-        ensures keeps { (versions : List Entry) → IsOrdered (kept_by rule None versions) → Keeps result versions (kept_by rule None versions) }
+        ensures keeps { (versions : List Entry) → IsOrdered (kept_by rule None versions) → KeepsVersions result versions (kept_by rule None versions) }
         ensures target { result.tables.target ≡ target }
     {
         Keeper {
@@ -91,9 +91,9 @@ impl Keeper {
 
     // Writes the version where it is kept.
     fn write(&mut self, version: &TableEntry<'_>) -> Result<()>
-        ensures ok { (rest whole : List Entry) → Keeps self.old (seen version.now ∷ rest) whole → OnOk result (HasLooked self.new (seen version.now) rest whole) }
+        ensures ok { (rest whole : List Entry) → KeepsVersions self.old (seen version.now ∷ rest) whole → OnOk result (HasLooked self.new (seen version.now) rest whole) }
         ensures target { self.new.tables.target ≡ self.old.tables.target }
-        ensures only { (rest whole : List Entry) → IsEntry (seen version.now) → Keeps self.old (seen version.now ∷ rest) whole → IsOkUnless result Error.OutOfMemory }
+        ensures only { (rest whole : List Entry) → IsEntry (seen version.now) → KeepsVersions self.old (seen version.now ∷ rest) whole → IsOkUnless result Error.OutOfMemory }
     {
         let key = self.last_key.as_slice();
         if self.rule.keeps(key, self.last_number, version) {
@@ -104,9 +104,9 @@ impl Keeper {
 
     /// Looks at the next version.
     fn take(&mut self, version: &TableEntry<'_>) -> Result<()>
-        ensures ok { (rest whole : List Entry) → Keeps self.old (seen version.now ∷ rest) whole → OnOk result (Keeps self.new rest whole) }
+        ensures ok { (rest whole : List Entry) → KeepsVersions self.old (seen version.now ∷ rest) whole → OnOk result (KeepsVersions self.new rest whole) }
         ensures target { self.new.tables.target ≡ self.old.tables.target }
-        ensures only { (rest whole : List Entry) → IsEntry (seen version.now) → Keeps self.old (seen version.now ∷ rest) whole → IsOkUnless result Error.OutOfMemory }
+        ensures only { (rest whole : List Entry) → IsEntry (seen version.now) → KeepsVersions self.old (seen version.now ∷ rest) whole → IsOkUnless result Error.OutOfMemory }
     {
         self.write(version)?;
         self.last_key.clear();
@@ -117,10 +117,10 @@ impl Keeper {
 
     /// Takes the first version off a run.
     fn take_from<R: Run>(&mut self, run: &mut R) -> Result<()>
-        ensures ok { (v : Entry) (left rest whole : List Entry) → R.left run.old ≡ v ∷ left → Keeps self.old (v ∷ rest) whole → OnOk result (Keeps self.new rest whole) }
+        ensures ok { (v : Entry) (left rest whole : List Entry) → R.left run.old ≡ v ∷ left → KeepsVersions self.old (v ∷ rest) whole → OnOk result (KeepsVersions self.new rest whole) }
         ensures passed { OnOk result (R.left run.new ≡ drop 1 (R.left run.old)) }
         ensures target { self.new.tables.target ≡ self.old.tables.target }
-        ensures only { (v : Entry) (left rest whole : List Entry) → R.left run.old ≡ v ∷ left → IsEntry v → Keeps self.old (v ∷ rest) whole → IsOkUnless result Error.OutOfMemory }
+        ensures only { (v : Entry) (left rest whole : List Entry) → R.left run.old ≡ v ∷ left → IsEntry v → KeepsVersions self.old (v ∷ rest) whole → IsOkUnless result Error.OutOfMemory }
     {
         let Some(version) = run.first() else {
             return Ok(());
@@ -139,7 +139,7 @@ pub(crate) fn keep<R: Run>(
     rule: Rule,
     target: Option<u64>,
 ) -> Result<Vec<MadeTable>>
-    ensures made { AreSorted (map R.left runs.old) → IfOk result (λ tables. Makes target tables.items (kept_by rule None (sorted (flat (map R.left runs.old))))) }
+    ensures made { AreSorted (map R.left runs.old) → IfOk result (λ tables. MakesTables target tables.items (kept_by rule None (sorted (flat (map R.left runs.old))))) }
     ensures only { AreSorted (map R.left runs.old) → IsOkUnless result Error.OutOfMemory }
 {
     let mut keeper = Keeper::new(alloc, rule, target);

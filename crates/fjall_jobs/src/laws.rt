@@ -6,7 +6,7 @@ ghost use Rattle.fjall_base.specs.Pairs.{Bytes};
 ghost use Rattle.fjall_table.specs.Blocks.{Entry};
 ghost use Rattle.fjall_views.specs.Jobs.{AreBelow, AreFrom, IsAbove, OnceEach};
 ghost use Rattle.fjall_views.specs.Views.{value_at};
-ghost use Rattle.fjall_sorted.specs.Sorted.{flat};
+ghost use Rattle.fjall_memtable.specs.Sorted.{flat};
 ghost use Rattle.fjall_jobs.specs.declared.made_table.MadeTable.{MadeTable};
 ghost use Rattle.fjall_jobs.specs.Merges.{IsMerged};
 ghost use Rattle.fjall_jobs.specs.Tasks.{IsFlushed, Task};

@@ -3,12 +3,12 @@
 ghost use Rattle.std.specs.Prelude.{◌≡◌, ◌<◌, ◌^◌, List, length, IfOk, IsOkUnless};
 ghost use Rattle.fjall_base.specs.Disk.{IsFile, Meaning};
 ghost use Rattle.fjall_table.specs.Blocks.{Entry};
-ghost use Rattle.fjall_table.specs.Files.{bytes_in, entry_at};
-ghost use Rattle.fjall_blocks.specs.Readers.{Reads};
+ghost use Rattle.fjall_table_reader.specs.Files.{bytes_in, entry_at};
+ghost use Rattle.fjall_table_reader.specs.Readers.{Reads};
 
 use fjall_base::{Error, Result};
-use fjall_blocks::TableReader;
-use fjall_table::{Level, TableFile, TableInfo};
+use fjall_table::{Level, TableInfo};
+use fjall_table_reader::{TableFile, TableReader};
 use std::alloc::Global;
 
 /// The bytes of a table that is to be written, and how many entries it has.

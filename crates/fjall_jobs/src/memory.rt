@@ -1,9 +1,9 @@
 //! A flush of all that a keyspace has in memory, the active memtable too, which is not shared with a job.
 
 ghost use Rattle.std.specs.Prelude.{◌≡◌, ◌<◌, ◌^◌, ◌++◌, ◌∷◌, [], ℕ, IfOk, IsOkUnless, map};
-ghost use Rattle.fjall_parts.specs.Held.{held_of};
-ghost use Rattle.fjall_parts.specs.Parts.{AreApart, clears_in};
-ghost use Rattle.fjall_parts.specs.Shares.{shared};
+ghost use Rattle.fjall_memtable.specs.Held.{held_of};
+ghost use Rattle.fjall_memtable.specs.Parts.{AreApart, clears_in};
+ghost use Rattle.fjall_memtable.specs.Shares.{shared};
 ghost use Rattle.fjall_jobs.specs.Tasks.{IsFlushed};
 
 use crate::bound::bound_of;
@@ -11,7 +11,7 @@ use crate::flush_job::{clears_of, memtable_runs};
 use crate::keeper::{Rule, keep};
 use crate::made_table::MadeTable;
 use fjall_base::{Error, Result};
-use fjall_parts::Part;
+use fjall_memtable::Part;
 use fjall_runs::MemtableRun;
 use std::alloc::Global;
 use std::sync::Arc;

@@ -12,7 +12,7 @@ use crate::keeper::{Rule, keep};
 use crate::made_table::MadeTable;
 use crate::merge_made::MergeMade;
 use fjall_base::{Error, Refused, Result};
-use fjall_blocks::Block;
+use fjall_table_reader::Block;
 use std::alloc::Global;
 use std::sync::Arc;
 

@@ -55,12 +55,4 @@ impl MergeMade {
         let MergeMade { job, .. } = self;
         job
     }
-
-    /// Gives the tables, and lets go of the job.
-    pub fn into_tables(self) -> Vec<MadeTable>
-        ensures { result ≡ self.tables }
-    {
-        let MergeMade { tables, .. } = self;
-        tables
-    }
 }

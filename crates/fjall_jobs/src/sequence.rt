@@ -2,9 +2,9 @@
 
 ghost use Rattle.std.specs.Prelude.{◌-◌, ◌^◌, min, ◌≡◌, ◌≢◌, ◌⊎◌, ◌↔◌, ◌++◌, ◌∷◌, [], List, IfOk, OnOk, IsTrue, IsOkUnless, Some};
 ghost use Rattle.fjall_table.specs.Blocks.{Entry, IsEntry, seen};
-ghost use Rattle.fjall_table.specs.Writing.{Follows};
+ghost use Rattle.fjall_table.specs.Writing.{FollowsEntries};
 ghost use Rattle.fjall_memtable.specs.Entries.{size_of};
-ghost use Rattle.fjall_sorted.specs.Sorted.{flat};
+ghost use Rattle.fjall_memtable.specs.Sorted.{flat};
 
 use crate::made_table::MadeTable;
 use fjall_base::{Error, Result};
@@ -38,7 +38,7 @@ pub(crate) struct TableSequence {
 }
 
 impl TableSequence {
-    ghost use Rattle.fjall_jobs.specs.Sequences.{AreMadeTables, HasRoom, IsDue, IsSequence, Makes};
+    ghost use Rattle.fjall_jobs.specs.Sequences.{AreMadeTables, HasRoomForEntry, IsClosingDue, IsSequence, MakesTables};
 
     pub(crate) fn new(alloc: Global, target: Option<u64>) -> TableSequence
         ensures begun { IsSequence result [] }
@@ -57,7 +57,7 @@ impl TableSequence {
 
     /// Whether the open table has reached this target and ends before a key.
     fn has_reached(&self, target: u64, key: &[u8]) -> bool
-        ensures { (closed : List (List Entry)) → IsSequence self.now closed → IsTrue result ↔ IsDue (Some target) self.now.writer key.now }
+        ensures { (closed : List (List Entry)) → IsSequence self.now closed → IsTrue result ↔ IsClosingDue (Some target) self.now.writer key.now }
     {
         if self.writer.entry_count() == 0 {
             return false;
@@ -70,7 +70,7 @@ impl TableSequence {
 
     /// Whether the open table is to be closed before an entry of this key.
     fn is_due(&self, key: &[u8]) -> bool
-        ensures { (closed : List (List Entry)) → IsSequence self.now closed → IsTrue result ↔ IsDue self.now.target self.now.writer key.now }
+        ensures { (closed : List (List Entry)) → IsSequence self.now closed → IsTrue result ↔ IsClosingDue self.now.target self.now.writer key.now }
     {
         match self.target {
             Some(target) => self.has_reached(target, key),
@@ -99,7 +99,7 @@ impl TableSequence {
     /// Closes the open table where that is due before an entry of this key.
     fn make_room(&mut self, key: &[u8]) -> Result<()>
         ensures room { (closed : List (List Entry)) → IsSequence self.old closed
-            → OnOk result ((more : List (List Entry)) × HasRoom self.new more key.now × (flat more ++ self.new.writer ≡ flat closed ++ self.old.writer)) }
+            → OnOk result ((more : List (List Entry)) × HasRoomForEntry self.new more key.now × (flat more ++ self.new.writer ≡ flat closed ++ self.old.writer)) }
         ensures writer { OnOk result ((self.new.writer ≡ []) ⊎ (self.new.writer ≡ self.old.writer)) }
         ensures target { self.new.target ≡ self.old.target }
         ensures only { IsOkUnless result Error.OutOfMemory }
@@ -112,10 +112,10 @@ impl TableSequence {
 
     /// Adds an entry to the open table.
     fn add(&mut self, entry: &TableEntry<'_>) -> Result<()>
-        ensures ok { (closed : List (List Entry)) → HasRoom self.old closed entry.now.key.now → OnOk result (IsSequence self.new closed) }
+        ensures ok { (closed : List (List Entry)) → HasRoomForEntry self.old closed entry.now.key.now → OnOk result (IsSequence self.new closed) }
         ensures writer { OnOk result (self.new.writer ≡ self.old.writer ++ seen entry.now ∷ []) }
         ensures target { self.new.target ≡ self.old.target }
-        ensures only { IsEntry (seen entry.now) → Follows self.old.writer (seen entry.now) → IsOkUnless result Error.OutOfMemory }
+        ensures only { IsEntry (seen entry.now) → FollowsEntries self.old.writer (seen entry.now) → IsOkUnless result Error.OutOfMemory }
     {
         self.writer.write(entry)?;
         self.size = self.size.saturating_add(size_of(entry));
@@ -130,7 +130,7 @@ impl TableSequence {
         ensures ok { (closed : List (List Entry)) → IsSequence self.old closed
             → OnOk result ((more : List (List Entry)) × IsSequence self.new more × (flat more ++ self.new.writer ≡ (flat closed ++ self.old.writer) ++ seen entry.now ∷ [])) }
         ensures target { self.new.target ≡ self.old.target }
-        ensures only { IsEntry (seen entry.now) → Follows self.old.writer (seen entry.now) → IsOkUnless result Error.OutOfMemory }
+        ensures only { IsEntry (seen entry.now) → FollowsEntries self.old.writer (seen entry.now) → IsOkUnless result Error.OutOfMemory }
     {
         self.make_room(entry.key)?;
         self.add(entry)
@@ -139,7 +139,7 @@ impl TableSequence {
     /// The tables, the open one closed too.
     pub(crate) fn finish(mut self) -> Result<Vec<MadeTable>>
         ensures tables { (closed : List (List Entry)) → IsSequence self closed
-            → IfOk result (λ tables. Makes self.target tables.items (flat closed ++ self.writer)) }
+            → IfOk result (λ tables. MakesTables self.target tables.items (flat closed ++ self.writer)) }
         ensures only { IsOkUnless result Error.OutOfMemory }
     {
         if self.writer.entry_count() > 0 {

@@ -8,11 +8,11 @@ use Rattle.fjall_base.specs.declared.error.JournalRecoveryError.TheVariants.{Ins
 use Rattle.fjall_journal.specs.declared.batch.Tail.{Tail}
 use Rattle.fjall_journal.specs.declared.batch.Tail.TheVariants.{Clean, Torn, Damaged}
 use Rattle.fjall_journal.specs.declared.batch.ReadBatchItem.{ReadBatchItem}
-use Rattle.fjall_journal.specs.Spelling.{spelling, IsEntry}
+use Rattle.fjall_journal.specs.Spelling.{spelling, HasSpelling}
 use Rattle.fjall_base.specs.Results.{◌>>=◌}
 use Rattle.fjall_base.specs.Check.{check}
 use Rattle.fjall_base.proofs.Checks.{check_len}
-use Rattle.fjall_journal.specs.Batches.{Written, IsChange, begun, checked, batch_text, IsWritten, NoneAt, IsWhole, EndsEarly, GoesOn, HasOtherCheck, IsTail, Shown, items_of, clears_of, shown}
+use Rattle.fjall_journal.specs.Batches.{Written, IsChange, begun, checked, batch_text, IsWritten, NoneAt, IsWhole, EndsEarly, HasChangeForEnd, HasOtherCheck, IsTail, Shown, items_of, clears_of, shown}
 use Rattle.fjall_journal.specs.Steps.{opening_at, changes_at, closing_at, unclosed_at, some_batch_at, batch_at, known_at}
 use Rattle.fjall_base.proofs.Codecs.{IsBytes, one_behind, each_more}
 use Rattle.fjall_base.proofs.Results.{bind_ok}
@@ -97,7 +97,7 @@ opened_front : (count number : ℕ) (changes : List Entry) (tail : List ℕ) →
 opened_front count number changes tail = append_assoc (spelling (Start count number)) (flat_map spelling changes) tail
 
 -- up to its End
-unclosed_again : (b : Written) (tail : List ℕ) → IsEntry (Start (length b.changes) b.number) → AllByRecursion IsChange b.changes → unclosed_at (checked b ++ tail) ≡ Ok (shown b, tail)
+unclosed_again : (b : Written) (tail : List ℕ) → HasSpelling (Start (length b.changes) b.number) → AllByRecursion IsChange b.changes → unclosed_at (checked b ++ tail) ≡ Ok (shown b, tail)
 unfolding unclosed_at
 unclosed_again b tail start each =
     let count = length b.changes in
@@ -105,13 +105,13 @@ unclosed_again b tail start each =
     (ap opening_at (opened_front count b.number b.changes tail) ∙ opening_again count b.number (flat_map spelling b.changes ++ tail) start)
     (bind_is _ _ ((items_of b.changes, clears_of b.changes), tail) _ (changes_again b.changes tail each) refl)
 
-some_front : (b : Written) (tail : List ℕ) → IsEntry (Start (length b.changes) b.number) → AllByRecursion IsChange b.changes
+some_front : (b : Written) (tail : List ℕ) → HasSpelling (Start (length b.changes) b.number) → AllByRecursion IsChange b.changes
     → some_batch_at (checked b ++ tail) ≡ (closing_at (check (checked b)) tail >>= λ rest. Ok (shown b, rest))
 some_front b tail start each =
     bind_is _ _ (shown b, tail) _ (unclosed_again b tail start each)
     (ap (λ (s : List ℕ). closing_at (check s) tail >>= λ rest. Ok (shown b, rest)) (front_is (checked b ++ tail) (checked b) tail refl))
 
-some_again : (b : Written) (rest : List ℕ) → IsWritten b → IsEntry (End (check (checked b))) → some_batch_at (batch_text b ++ rest) ≡ Ok (shown b, rest)
+some_again : (b : Written) (rest : List ℕ) → IsWritten b → HasSpelling (End (check (checked b))) → some_batch_at (batch_text b ++ rest) ≡ Ok (shown b, rest)
 some_again b rest is end =
     ap some_batch_at (append_assoc (checked b) (spelling (End (check (checked b)))) rest)
     ∙ some_front b (spelling (End (check (checked b))) ++ rest) (is.count, is.number) is.each
@@ -124,7 +124,7 @@ some_early bytes h =
     some_steps bytes ∙ bind_is _ (opened bytes) ((h.count, h.number), flat_map spelling h.changes ++ tail) _ (ap opening_at regrouped ∙ opening_again h.count h.number (flat_map spelling h.changes ++ tail) h.start)
     (ap (λ (r : Result ((List ReadBatchItem × List ℕ) × List ℕ) Tail). r >>= closed bytes h.number) (changes_early h.changes h.count h.found h.more h.each h.fewer h.end))
 
-pub some_goes_on : (bytes : List ℕ) → GoesOn bytes → some_batch_at bytes ≡ Err (Damaged TooManyItems)
+pub some_goes_on : (bytes : List ℕ) → HasChangeForEnd bytes → some_batch_at bytes ≡ Err (Damaged TooManyItems)
 some_goes_on bytes h =
     let b : Written = record { number = h.number; changes = h.changes } in
     ap some_batch_at h.text ∙ some_front b (spelling h.another ++ h.more) h.start h.each
@@ -139,7 +139,7 @@ some_other bytes h =
 -- ---- the tail that was told
 
 abbrev Told : List ℕ → Tail → Type 0
-Told bytes t = (t ≡ Torn) ⊎ (((t ≡ Damaged InsufficientLength) × EndsEarly bytes) ⊎ (((t ≡ Damaged TooManyItems) × GoesOn bytes) ⊎ ((t ≡ Damaged ChecksumMismatch) × HasOtherCheck bytes)))
+Told bytes t = (t ≡ Torn) ⊎ (((t ≡ Damaged InsufficientLength) × EndsEarly bytes) ⊎ (((t ≡ Damaged TooManyItems) × HasChangeForEnd bytes) ⊎ ((t ≡ Damaged ChecksumMismatch) × HasOtherCheck bytes)))
 
 some_err : (bytes : List ℕ) (t : Tail) → IsBytes bytes → some_batch_at bytes ≡ Err t → Told bytes t
 some_err bytes t fits e =
@@ -172,7 +172,7 @@ some_err bytes t fits e =
                 let counted = Takes-then bytes (spelling (Start a.0.0.0 a.0.0.1)) a.0.1 (flat_map spelling r.changes) b.0.1 t0.0 r.takes in
                 let front : Takes bytes (checked batch) b.0.1 = subst (λ (n : ℕ). Takes bytes (begun n a.0.0.1 r.changes) b.0.1) (sym r.count) counted in
                 let sum-is : take (length bytes - length b.0.1) bytes ≡ checked batch = front_is bytes (checked batch) b.0.1 front.parts in
-                let start' : IsEntry (Start (length r.changes) a.0.0.1) = subst (λ (n : ℕ). IsEntry (Start n a.0.0.1)) (sym r.count) t0.1 in
+                let start' : HasSpelling (Start (length r.changes) a.0.0.1) = subst (λ (n : ℕ). HasSpelling (Start n a.0.0.1)) (sym r.count) t0.1 in
                 elim (bind_err (closing_at (check (take (length bytes - length b.0.1) bytes)) b.0.1) (λ rest. Ok (made a.0.0.1 b.0.0 rest)) t b.2) [
                   | inr g ↦ absurd (let e' = g.2 in cc)
                   | inl h ↦ elim (closing_err (check (take (length bytes - length b.0.1) bytes)) b.0.1 t front.rest_fits h) [

@@ -10,7 +10,7 @@ use Rattle.fjall_base.specs.declared.error.JournalRecoveryError.TheVariants.{Ins
 use Rattle.fjall_journal.specs.declared.batch.Tail.{Tail}
 use Rattle.fjall_journal.specs.declared.batch.Tail.TheVariants.{Torn, Damaged}
 use Rattle.fjall_journal.specs.declared.batch.ReadBatchItem.{ReadBatchItem}
-use Rattle.fjall_journal.specs.Spelling.{spelling, IsEntry}
+use Rattle.fjall_journal.specs.Spelling.{spelling, HasSpelling}
 use Rattle.fjall_base.specs.Results.{◌>>=◌}
 use Rattle.fjall_journal.specs.Reading.{Fault, entry_at}
 use Rattle.fjall_journal.specs.Batches.{IsChange, items_of, clears_of}
@@ -34,10 +34,10 @@ or_torn_err (Ok y) t e = absurd cc
 or_torn_err (Err f) t e = cc
 
 -- an entry, where one is wanted
-or_torn_takes : (bytes : List ℕ) (x : Entry × List ℕ) → IsBytes bytes → or_torn (entry_at bytes) ≡ Ok x → Takes bytes (spelling x.0) x.1 × IsEntry x.0
+or_torn_takes : (bytes : List ℕ) (x : Entry × List ℕ) → IsBytes bytes → or_torn (entry_at bytes) ≡ Ok x → Takes bytes (spelling x.0) x.1 × HasSpelling x.0
 or_torn_takes bytes x fits e = entry_takes bytes x fits (or_torn_ok (entry_at bytes) x e)
 
-or_torn_again : (entry : Entry) (rest : List ℕ) → IsEntry entry → or_torn (entry_at (spelling entry ++ rest)) ≡ Ok (entry, rest)
+or_torn_again : (entry : Entry) (rest : List ℕ) → HasSpelling entry → or_torn (entry_at (spelling entry ++ rest)) ≡ Ok (entry, rest)
 or_torn_again entry rest fits = ap or_torn (entry_again entry rest fits)
 
 -- ---- the Start
@@ -54,13 +54,13 @@ start_err (Item id key value kind compression) rest t e = cc
 start_err (End found) rest t e = cc
 start_err (Clear id) rest t e = cc
 
-pub opening_takes : (bytes : List ℕ) (x : (ℕ × ℕ) × List ℕ) → IsBytes bytes → opening_at bytes ≡ Ok x → Takes bytes (spelling (Start x.0.0 x.0.1)) x.1 × IsEntry (Start x.0.0 x.0.1)
+pub opening_takes : (bytes : List ℕ) (x : (ℕ × ℕ) × List ℕ) → IsBytes bytes → opening_at bytes ≡ Ok x → Takes bytes (spelling (Start x.0.0 x.0.1)) x.1 × HasSpelling (Start x.0.0 x.0.1)
 unfolding opening_at
 opening_takes bytes x fits e =
     let a = bind_ok (or_torn (entry_at bytes)) (λ y. as_start y.0 y.1) x e in
     let t = or_torn_takes bytes a.0 fits a.1 in
     let s = start_is a.0.0 a.0.1 x a.2 in
-    let t' : Takes bytes (spelling (Start x.0.0 x.0.1)) a.0.1 × IsEntry (Start x.0.0 x.0.1) = subst (λ (y : Entry). Takes bytes (spelling y) a.0.1 × IsEntry y) s.0 t in
+    let t' : Takes bytes (spelling (Start x.0.0 x.0.1)) a.0.1 × HasSpelling (Start x.0.0 x.0.1) = subst (λ (y : Entry). Takes bytes (spelling y) a.0.1 × HasSpelling y) s.0 t in
     (subst (λ (r : List ℕ). Takes bytes (spelling (Start x.0.0 x.0.1)) r) s.1 t'.0, t'.1)
 
 pub opening_err : (bytes : List ℕ) (t : Tail) → opening_at bytes ≡ Err t → t ≡ Torn
@@ -71,13 +71,13 @@ opening_err bytes t e =
       | inr h ↦ start_err h.0.0 h.0.1 t h.2
     ]
 
-pub opening_again : (count number : ℕ) (rest : List ℕ) → IsEntry (Start count number) → opening_at (spelling (Start count number) ++ rest) ≡ Ok ((count, number), rest)
+pub opening_again : (count number : ℕ) (rest : List ℕ) → HasSpelling (Start count number) → opening_at (spelling (Start count number) ++ rest) ≡ Ok ((count, number), rest)
 unfolding opening_at
 opening_again count number rest fits = bind_is _ _ (Start count number, rest) _ (or_torn_again (Start count number) rest fits) refl
 
 -- ---- a change
 
-change_is : (entry : Entry) (rest : List ℕ) (x : Entry × List ℕ) → as_change entry rest ≡ Ok x → ((entry, rest) ≡ x) × (IsEntry entry → IsChange entry)
+change_is : (entry : Entry) (rest : List ℕ) (x : Entry × List ℕ) → as_change entry rest ≡ Ok x → ((entry, rest) ≡ x) × (HasSpelling entry → IsChange entry)
 change_is (Start count number) rest x e = absurd cc
 change_is (Item id key value kind compression) rest x e = (cc, λ h. h)
 change_is (End found) rest x e = absurd cc
@@ -95,10 +95,10 @@ change_takes bytes x fits e =
 pub record EndsHere (bytes : List ℕ) : Type 0 where
   pub found : List ℕ
   pub more : List ℕ
-  pub end : IsEntry (End found)
+  pub end : HasSpelling (End found)
   pub text : Takes bytes (spelling (End found)) more
 
-change_fails : (bytes : List ℕ) (entry : Entry) (rest : List ℕ) (t : Tail) → Takes bytes (spelling entry) rest → IsEntry entry → as_change entry rest ≡ Err t → (t ≡ Torn) ⊎ ((t ≡ Damaged InsufficientLength) × EndsHere bytes)
+change_fails : (bytes : List ℕ) (entry : Entry) (rest : List ℕ) (t : Tail) → Takes bytes (spelling entry) rest → HasSpelling entry → as_change entry rest ≡ Err t → (t ≡ Torn) ⊎ ((t ≡ Damaged InsufficientLength) × EndsHere bytes)
 change_fails bytes (Start count number) rest t takes is e = inl cc
 change_fails bytes (Item id key value kind compression) rest t takes is e = absurd cc
 change_fails bytes (End found) rest t takes is e = inr (cc, record { found = found; more = rest; end = is; text = takes })
@@ -112,7 +112,7 @@ change_err bytes t fits e =
       | inr h ↦ let k = or_torn_takes bytes h.0 fits h.1 in change_fails bytes h.0.0 h.0.1 t k.0 k.1 h.2
     ]
 
-as_change_again : (entry : Entry) (rest : List ℕ) → IsChange entry → (as_change entry rest ≡ Ok (entry, rest)) × IsEntry entry
+as_change_again : (entry : Entry) (rest : List ℕ) → IsChange entry → (as_change entry rest ≡ Ok (entry, rest)) × HasSpelling entry
 as_change_again (Start count number) rest h = absurd h
 as_change_again (Item id key value kind compression) rest h = (refl, h)
 as_change_again (End found) rest h = absurd h
@@ -124,7 +124,7 @@ change_again entry rest h =
     let a = as_change_again entry rest h in
     bind_is _ _ (entry, rest) _ (or_torn_again entry rest a.1) a.0
 
-pub change_early : (found more : List ℕ) → IsEntry (End found) → change_at (spelling (End found) ++ more) ≡ Err (Damaged InsufficientLength)
+pub change_early : (found more : List ℕ) → HasSpelling (End found) → change_at (spelling (End found) ++ more) ≡ Err (Damaged InsufficientLength)
 unfolding change_at
 change_early found more is = bind_is _ _ (End found, more) _ (or_torn_again (End found) more is) refl
 
@@ -187,7 +187,7 @@ pub record EndsAmong (n : ℕ) (bytes : List ℕ) : Type 0 where
   pub more : List ℕ
   pub each : AllByRecursion IsChange changes
   pub fewer : length changes < n
-  pub end : IsEntry (End found)
+  pub end : HasSpelling (End found)
   pub text : bytes ≡ flat_map spelling changes ++ (spelling (End found) ++ more)
 
 pub changes_err : (n : ℕ) (bytes : List ℕ) (t : Tail) → IsBytes bytes → changes_at n bytes ≡ Err t → (t ≡ Torn) ⊎ ((t ≡ Damaged InsufficientLength) × EndsAmong n bytes)
@@ -235,7 +235,7 @@ changes_again (change ∷ changes) rest each =
     (bind_is _ _ ((items_of changes, clears_of changes), rest) _ (changes_again changes rest each.1)
     (rw (items_first change changes, clears_first change changes) refl))
 
-pub changes_early : (changes : List Entry) (n : ℕ) (found more : List ℕ) → AllByRecursion IsChange changes → length changes < n → IsEntry (End found)
+pub changes_early : (changes : List Entry) (n : ℕ) (found more : List ℕ) → AllByRecursion IsChange changes → length changes < n → HasSpelling (End found)
     → changes_at n (flat_map spelling changes ++ (spelling (End found) ++ more)) ≡ Err (Damaged InsufficientLength)
 unfolding changes_at
 changes_early changes zero found more each fewer is = absurd (omega arith)
@@ -249,7 +249,7 @@ changes_early (change ∷ changes) (suc n) found more each fewer is =
 -- ---- the End
 
 -- An End is read whatever its check.
-pub ending_again : (found rest : List ℕ) → IsEntry (End found) → ending_at (spelling (End found) ++ rest) ≡ Ok (found, rest)
+pub ending_again : (found rest : List ℕ) → HasSpelling (End found) → ending_at (spelling (End found) ++ rest) ≡ Ok (found, rest)
 unfolding ending_at
 ending_again found rest is = bind_is _ _ (End found, rest) _ (or_torn_again (End found) rest is) refl
 
@@ -265,10 +265,6 @@ closing_is sum bytes = then_closes (or_torn (entry_at bytes))
     then_closes (Ok y) = refl
     then_closes (Err t) = refl
 
-pub record ClosesOn (sum bytes : List ℕ) (entry : Entry) (rest : List ℕ) : Type 0 where
-  pub takes : Takes bytes (spelling entry) rest
-  pub is : IsEntry entry
-
 end_is : (sum : List ℕ) (entry : Entry) (rest after : List ℕ) → closes sum entry rest ≡ Ok after → (entry ≡ End sum) × (rest ≡ after)
 end_is sum (Start count number) rest after e = absurd cc
 end_is sum (Item id key value kind compression) rest after e = absurd cc
@@ -279,12 +275,12 @@ end_is sum (End found) rest after e = right (bytes_eq found sum) refl e
     right true t e = (ap End ((bytes_eq-Decides found sum).0 t), cc)
     right false t e = absurd cc
 
-pub closing_takes : (sum bytes rest : List ℕ) → IsBytes bytes → closing_at sum bytes ≡ Ok rest → Takes bytes (spelling (End sum)) rest × IsEntry (End sum)
+pub closing_takes : (sum bytes rest : List ℕ) → IsBytes bytes → closing_at sum bytes ≡ Ok rest → Takes bytes (spelling (End sum)) rest × HasSpelling (End sum)
 closing_takes sum bytes rest fits e =
     let a = bind_ok (or_torn (entry_at bytes)) (λ y. closes sum y.0 y.1) rest (sym (closing_is sum bytes) ∙ e) in
     let t = or_torn_takes bytes a.0 fits a.1 in
     let s = end_is sum a.0.0 a.0.1 rest a.2 in
-    let t' : Takes bytes (spelling (End sum)) a.0.1 × IsEntry (End sum) = subst (λ (y : Entry). Takes bytes (spelling y) a.0.1 × IsEntry y) s.0 t in
+    let t' : Takes bytes (spelling (End sum)) a.0.1 × HasSpelling (End sum) = subst (λ (y : Entry). Takes bytes (spelling y) a.0.1 × HasSpelling y) s.0 t in
     (subst (λ (r : List ℕ). Takes bytes (spelling (End sum)) r) s.1 t'.0, t'.1)
 
 pub record AnotherHere (bytes : List ℕ) : Type 0 where
@@ -296,14 +292,14 @@ pub record AnotherHere (bytes : List ℕ) : Type 0 where
 pub record OtherHere (sum bytes : List ℕ) : Type 0 where
   pub found : List ℕ
   pub more : List ℕ
-  pub end : IsEntry (End found)
+  pub end : HasSpelling (End found)
   pub other : found ≢ sum
   pub text : bytes ≡ spelling (End found) ++ more
 
 abbrev pub ClosingFails : Tail → List ℕ → List ℕ → Type 0
 ClosingFails t sum bytes = (t ≡ Torn) ⊎ (((t ≡ Damaged TooManyItems) × AnotherHere bytes) ⊎ ((t ≡ Damaged ChecksumMismatch) × OtherHere sum bytes))
 
-end_fails : (sum bytes : List ℕ) (entry : Entry) (rest : List ℕ) (t : Tail) → Takes bytes (spelling entry) rest → IsEntry entry → closes sum entry rest ≡ Err t → ClosingFails t sum bytes
+end_fails : (sum bytes : List ℕ) (entry : Entry) (rest : List ℕ) (t : Tail) → Takes bytes (spelling entry) rest → HasSpelling entry → closes sum entry rest ≡ Err t → ClosingFails t sum bytes
 end_fails sum bytes (Start count number) rest t takes is e = inl cc
 end_fails sum bytes (Item id key value kind compression) rest t takes is e = inr (inl (cc, record { another = Item id key value kind compression; more = rest; change = is; text = takes.parts }))
 end_fails sum bytes (Clear id) rest t takes is e = inr (inl (cc, record { another = Clear id; more = rest; change = is; text = takes.parts }))
@@ -320,11 +316,11 @@ closing_err sum bytes t fits e =
       | inr h ↦ let k = or_torn_takes bytes h.0 fits h.1 in end_fails sum bytes h.0.0 h.0.1 t k.0 k.1 h.2
     ]
 
-pub closing_again : (sum rest : List ℕ) → IsEntry (End sum) → closing_at sum (spelling (End sum) ++ rest) ≡ Ok rest
+pub closing_again : (sum rest : List ℕ) → HasSpelling (End sum) → closing_at sum (spelling (End sum) ++ rest) ≡ Ok rest
 unfolding closing_at
 closing_again sum rest is = bind_is _ _ (sum, rest) _ (ending_again sum rest is) (let yes : bytes_eq sum sum ≡ true = (bytes_eq-Decides sum sum).1 refl in rw yes refl)
 
-pub closing_other : (sum found more : List ℕ) → IsEntry (End found) → found ≢ sum → closing_at sum (spelling (End found) ++ more) ≡ Err (Damaged ChecksumMismatch)
+pub closing_other : (sum found more : List ℕ) → HasSpelling (End found) → found ≢ sum → closing_at sum (spelling (End found) ++ more) ≡ Err (Damaged ChecksumMismatch)
 unfolding closing_at
 closing_other sum found more is other = bind_is _ _ (found, more) _ (ending_again found more is) (not_same (bytes_eq found sum) refl)
   where
@@ -332,7 +328,7 @@ closing_other sum found more is other = bind_is _ _ (found, more) _ (ending_agai
     not_same true t = absurd (other ((bytes_eq-Decides found sum).0 t))
     not_same false t = refl
 
-closes_another : (sum : List ℕ) (another : Entry) (more : List ℕ) → IsChange another → (closes sum another more ≡ Err (Damaged TooManyItems)) × IsEntry another
+closes_another : (sum : List ℕ) (another : Entry) (more : List ℕ) → IsChange another → (closes sum another more ≡ Err (Damaged TooManyItems)) × HasSpelling another
 closes_another sum (Start count number) more h = absurd h
 closes_another sum (Item id key value kind compression) more h = (refl, h)
 closes_another sum (End found) more h = absurd h

@@ -10,7 +10,7 @@ use Rattle.fjall_base.specs.declared.error.JournalRecoveryError.TheVariants.{Ins
 use Rattle.fjall_journal.specs.declared.batch.Tail.{Tail}
 use Rattle.fjall_journal.specs.declared.batch.Tail.TheVariants.{Clean, Torn, Damaged}
 use Rattle.fjall_journal.specs.Spelling.{spelling}
-use Rattle.fjall_journal.specs.Batches.{Written, begun, checked, batch_text, IsWritten, EndsEarly, GoesOn, HasOtherCheck, IsTail, Shown, shown, NoneAt, Kept}
+use Rattle.fjall_journal.specs.Batches.{Written, begun, checked, batch_text, IsWritten, EndsEarly, HasChangeForEnd, HasOtherCheck, IsTail, Shown, shown, NoneAt, KeptBatches}
 use Rattle.fjall_journal.specs.Steps.{batch_at}
 use Rattle.fjall_base.proofs.Codecs.{IsBytes}
 use Rattle.fjall_journal.proofs.Entries.{text_some}
@@ -27,7 +27,7 @@ nonempty bytes count number changes x e =
 early_at : (bytes : List ℕ) → EndsEarly bytes → batch_at bytes ≡ Err (Damaged InsufficientLength)
 early_at bytes h = as_some bytes (nonempty bytes h.count h.number h.changes _ h.text) ∙ some_early bytes h
 
-goes_on_at : (bytes : List ℕ) → GoesOn bytes → batch_at bytes ≡ Err (Damaged TooManyItems)
+goes_on_at : (bytes : List ℕ) → HasChangeForEnd bytes → batch_at bytes ≡ Err (Damaged TooManyItems)
 goes_on_at bytes h = as_some bytes (nonempty bytes (length h.changes) h.number h.changes _ h.text) ∙ some_goes_on bytes h
 
 other_at : (bytes : List ℕ) → HasOtherCheck bytes → batch_at bytes ≡ Err (Damaged ChecksumMismatch)
@@ -70,7 +70,7 @@ regroup a b c q = append_assoc a (b ++ c) q ∙ ap (λ (v : List ℕ). a ++ v) (
 early_more : (bytes q : List ℕ) → EndsEarly bytes → EndsEarly (bytes ++ q)
 early_more bytes q h = record { count = h.count; number = h.number; changes = h.changes; found = h.found; more = h.more ++ q; start = h.start; each = h.each; fewer = h.fewer; end = h.end; text = ap (λ (v : List ℕ). v ++ q) h.text ∙ regroup (begun h.count h.number h.changes) (spelling (End h.found)) h.more q }
 
-goes_on_more : (bytes q : List ℕ) → GoesOn bytes → GoesOn (bytes ++ q)
+goes_on_more : (bytes q : List ℕ) → HasChangeForEnd bytes → HasChangeForEnd (bytes ++ q)
 goes_on_more bytes q h = record { number = h.number; changes = h.changes; another = h.another; more = h.more ++ q; start = h.start; each = h.each; change = h.change; text = ap (λ (v : List ℕ). v ++ q) h.text ∙ regroup (begun (length h.changes) h.number h.changes) (spelling h.another) h.more q }
 
 other_more : (bytes q : List ℕ) → HasOtherCheck bytes → HasOtherCheck (bytes ++ q)
@@ -145,7 +145,7 @@ cut (b ∷ bs) text lost each e =
         let t = cut_is_torn b text (drop (length text) (batch_text b)) is split (λ nothing. absurd cc) (λ nothing. let l = ap length split in let m = length-append text (drop (length text) (batch_text b)) in let z = ap length nothing in omega arith) in
         record { kept = []; gone = b ∷ bs; part = text; all = refl; each = tt; text_is = refl; none = t.0; tail = inr t.1 }
 
-pub cut_reads : (bs : List Written) (text lost : List ℕ) → AllByRecursion IsWritten bs → text ++ lost ≡ flat_map batch_text bs → Kept bs text
+pub cut_reads : (bs : List Written) (text lost : List ℕ) → AllByRecursion IsWritten bs → text ++ lost ≡ flat_map batch_text bs → KeptBatches bs text
 cut_reads bs text lost each e =
     let c = cut bs text lost each e in
     let n = length (flat_map batch_text c.kept) in

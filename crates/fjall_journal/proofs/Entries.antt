@@ -15,7 +15,7 @@ use Rattle.fjall_journal.specs.declared.entry.ValueType.{ValueType}
 use Rattle.fjall_journal.specs.declared.entry.ValueType.TheVariants.{Value, Tombstone, WeakTombstone, Indirection}
 use Rattle.fjall_base.specs.declared.error.CompressionType.{CompressionType}
 use Rattle.fjall_base.specs.declared.error.CompressionType.TheVariants as compressions
-use Rattle.fjall_journal.specs.Spelling.{tag_byte, value_type_byte, compression_byte, trailer, item_header, spelling, IsEntry, IsSpelling, StandsFirst}
+use Rattle.fjall_journal.specs.Spelling.{tag_byte, value_type_byte, compression_byte, trailer, item_header, spelling, HasSpelling, IsSpelling, StandsFirst}
 use Rattle.fjall_journal.specs.Reading.{Fault, Invalid, NoTrailer, byte_at, number_at, bytes_at, tag_of, value_type_of, compression_of, start_at, item_at, end_at, clear_at, behind, entry_at, Fails}
 use Rattle.fjall_base.specs.declared.error.Error.{Error}
 use Rattle.fjall_base.specs.declared.error.Error.TheVariants as errors
@@ -24,7 +24,7 @@ use Rattle.fjall_base.proofs.Codecs.{IsBytes, wide2, wide4, wide8}
 use Rattle.fjall_base.proofs.Results.{bind_ok}
 use Rattle.fjall_journal.proofs.Fields.{guard_ok, pass_ok, ok_is, Takes, Takes-then, byte_takes, number_takes, number_again, bytes_take, bytes_again}
 
-start_takes : (bytes : List ℕ) (x : Entry × List ℕ) → IsBytes bytes → start_at bytes ≡ Ok x → (text : List ℕ) × Takes bytes text x.1 × (1 ∷ text ≡ spelling x.0) × IsEntry x.0
+start_takes : (bytes : List ℕ) (x : Entry × List ℕ) → IsBytes bytes → start_at bytes ≡ Ok x → (text : List ℕ) × Takes bytes text x.1 × (1 ∷ text ≡ spelling x.0) × HasSpelling x.0
 unfolding start_at spelling
 start_takes bytes x fits e =
     let a = bind_ok (number_at 4 bytes) (λ count. number_at 8 count.1 >>= λ number. Ok (Start count.0 number.0, number.1)) x e in
@@ -33,16 +33,16 @@ start_takes bytes x fits e =
     let t1 = number_takes 8 (2 ^ 64) wide8 a.0.1 b.0.0 b.0.1 t0.0.rest_fits b.1 in
     let both = Takes-then bytes (little_bytes 4 a.0.0) a.0.1 (little_bytes 8 b.0.0) b.0.1 t0.0 t1.0 in
     let made : Entry × List ℕ = (Start a.0.0 b.0.0, b.0.1) in
-    subst (λ (y : Entry × List ℕ). (text : List ℕ) × Takes bytes text y.1 × (1 ∷ text ≡ spelling y.0) × IsEntry y.0) (ok_is made x b.2)
+    subst (λ (y : Entry × List ℕ). (text : List ℕ) × Takes bytes text y.1 × (1 ∷ text ≡ spelling y.0) × HasSpelling y.0) (ok_is made x b.2)
     (little_bytes 4 a.0.0 ++ little_bytes 8 b.0.0, both, refl, (t0.1, t1.1))
 
-clear_takes : (bytes : List ℕ) (x : Entry × List ℕ) → IsBytes bytes → clear_at bytes ≡ Ok x → (text : List ℕ) × Takes bytes text x.1 × (4 ∷ text ≡ spelling x.0) × IsEntry x.0
+clear_takes : (bytes : List ℕ) (x : Entry × List ℕ) → IsBytes bytes → clear_at bytes ≡ Ok x → (text : List ℕ) × Takes bytes text x.1 × (4 ∷ text ≡ spelling x.0) × HasSpelling x.0
 unfolding clear_at spelling
 clear_takes bytes x fits e =
     let a = bind_ok (number_at 8 bytes) (λ id. Ok (Clear id.0, id.1)) x e in
     let t0 = number_takes 8 (2 ^ 64) wide8 bytes a.0.0 a.0.1 fits a.1 in
     let made : Entry × List ℕ = (Clear a.0.0, a.0.1) in
-    subst (λ (y : Entry × List ℕ). (text : List ℕ) × Takes bytes text y.1 × (4 ∷ text ≡ spelling y.0) × IsEntry y.0) (ok_is made x a.2)
+    subst (λ (y : Entry × List ℕ). (text : List ℕ) × Takes bytes text y.1 × (4 ∷ text ≡ spelling y.0) × HasSpelling y.0) (ok_is made x a.2)
     (little_bytes 8 a.0.0, t0.0, refl, t0.1)
 
 -- a slice that begins as four bytes and has four is those
@@ -52,7 +52,7 @@ four_are xs len e =
     let nothing : drop 4 xs ≡ [] = nil_from_length _ (omega (arith, length-drop 4 xs)) in
     split ∙ ap (λ (r : List ℕ). trailer ++ r) nothing
 
-end_takes : (bytes : List ℕ) (x : Entry × List ℕ) → IsBytes bytes → end_at bytes ≡ Ok x → (text : List ℕ) × Takes bytes text x.1 × (3 ∷ text ≡ spelling x.0) × IsEntry x.0
+end_takes : (bytes : List ℕ) (x : Entry × List ℕ) → IsBytes bytes → end_at bytes ≡ Ok x → (text : List ℕ) × Takes bytes text x.1 × (3 ∷ text ≡ spelling x.0) × HasSpelling x.0
 unfolding end_at spelling
 end_takes bytes x fits e =
     let a = bind_ok (bytes_at 8 bytes) (λ check. bytes_at 4 check.1 >>= λ mark. cond (starts_with nat_eq mark.0 trailer) (Ok (End check.0, mark.1)) (Err NoTrailer)) x e in
@@ -63,7 +63,7 @@ end_takes bytes x fits e =
     let mark : b.0.0 ≡ trailer = four_are b.0.0 t1.1 g.0 in
     let both = Takes-then bytes a.0.0 a.0.1 b.0.0 b.0.1 t0.0 t1.0 in
     let made : Entry × List ℕ = (End a.0.0, b.0.1) in
-    subst (λ (y : Entry × List ℕ). (text : List ℕ) × Takes bytes text y.1 × (3 ∷ text ≡ spelling y.0) × IsEntry y.0) (ok_is made x g.1)
+    subst (λ (y : Entry × List ℕ). (text : List ℕ) × Takes bytes text y.1 × (3 ∷ text ≡ spelling y.0) × HasSpelling y.0) (ok_is made x g.1)
     (a.0.0 ++ b.0.0, both, ap (λ (m : List ℕ). 3 ∷ a.0.0 ++ m) mark, t0.1)
 
 -- a byte that is told by a chain of tests
@@ -179,7 +179,7 @@ lengths_take kind compression id bytes x fits e =
     let all = Takes-then bytes (little_bytes 2 (length p.key)) a.0.1 (little_bytes 4 (length p.value) ++ (little_bytes 4 (length p.value) ++ (p.key ++ p.value))) x.1 t0' mid in
     record { key = p.key; value = p.value; takes = all; some = some; key_fits = omega (arith, p.key_is, t0.1); value_fits = omega (arith, p.value_is, t1.1); is = p.is }
 
-item_takes : (bytes : List ℕ) (x : Entry × List ℕ) → IsBytes bytes → item_at bytes ≡ Ok x → (text : List ℕ) × Takes bytes text x.1 × (2 ∷ text ≡ spelling x.0) × IsEntry x.0
+item_takes : (bytes : List ℕ) (x : Entry × List ℕ) → IsBytes bytes → item_at bytes ≡ Ok x → (text : List ℕ) × Takes bytes text x.1 × (2 ∷ text ≡ spelling x.0) × HasSpelling x.0
 unfolding item_at spelling
 item_takes bytes x fits e =
     let a = bind_ok (byte_at bytes) (λ t. value_type_of t.0 >>= λ kind. byte_at t.1 >>= λ c. compression_of c.0 >>= λ compression. number_at 8 c.1 >>= λ id. lengths_at kind compression id.0 id.1) x e in
@@ -198,10 +198,10 @@ item_takes bytes x fits e =
     let text : List ℕ = a.0.0 ∷ d.0.0 ∷ (little_bytes 8 g.0.0 ++ tail) in
     let e1 : 2 ∷ text ≡ 2 ∷ value_type_byte b.0 ∷ d.0.0 ∷ (little_bytes 8 g.0.0 ++ tail) = ap (λ (v : ℕ). 2 ∷ v ∷ d.0.0 ∷ (little_bytes 8 g.0.0 ++ tail)) (value_type_is a.0.0 b.0 b.1) in
     let e2 : 2 ∷ text ≡ spelling (Item g.0.0 l.key l.value b.0 f.0) = e1 ∙ ap (λ (v : ℕ). 2 ∷ value_type_byte b.0 ∷ v ∷ (little_bytes 8 g.0.0 ++ tail)) (compression_is d.0.0 f.0 f.1) in
-    (text, k0, e2 ∙ ap spelling l.is, subst IsEntry l.is (t2.1, l.some, l.key_fits, l.value_fits))
+    (text, k0, e2 ∙ ap spelling l.is, subst HasSpelling l.is (t2.1, l.some, l.key_fits, l.value_fits))
 
 -- what is read is spelled so
-pub entry_takes : (bytes : List ℕ) (x : Entry × List ℕ) → IsBytes bytes → entry_at bytes ≡ Ok x → Takes bytes (spelling x.0) x.1 × IsEntry x.0
+pub entry_takes : (bytes : List ℕ) (x : Entry × List ℕ) → IsBytes bytes → entry_at bytes ≡ Ok x → Takes bytes (spelling x.0) x.1 × HasSpelling x.0
 unfolding entry_at
 entry_takes bytes x fits e =
     let a = bind_ok (byte_at bytes) (λ b. tag_of b.0 >>= λ tag. behind tag b.1) x e in
@@ -212,7 +212,7 @@ entry_takes bytes x fits e =
     let named : a.0.0 ∷ r.0 ≡ spelling x.0 = ap (λ (v : ℕ). v ∷ r.0) (tag_is a.0.0 b.0 b.1) ∙ r.2 in
     (subst (λ (text : List ℕ). Takes bytes text x.1) named whole, r.3)
   where
-    behind_takes : (tag : Tag) (bytes : List ℕ) (x : Entry × List ℕ) → IsBytes bytes → behind tag bytes ≡ Ok x → (text : List ℕ) × Takes bytes text x.1 × (tag_byte tag ∷ text ≡ spelling x.0) × IsEntry x.0
+    behind_takes : (tag : Tag) (bytes : List ℕ) (x : Entry × List ℕ) → IsBytes bytes → behind tag bytes ≡ Ok x → (text : List ℕ) × Takes bytes text x.1 × (tag_byte tag ∷ text ≡ spelling x.0) × HasSpelling x.0
     behind_takes tags.Start bytes x fits e = start_takes bytes x fits e
     behind_takes tags.Item bytes x fits e = item_takes bytes x fits e
     behind_takes tags.End bytes x fits e = end_takes bytes x fits e
@@ -278,7 +278,7 @@ item_again kind compression id key value rest i some k v =
     (bind_is _ _ compression _ (compression_again compression)
     (bind_is _ _ (id, tail) _ (number_again 8 (2 ^ 64) wide8 id tail i) (lengths_again kind compression id key value rest some k v)))
 
-pub entry_again : (entry : Entry) (rest : List ℕ) → IsEntry entry → entry_at (spelling entry ++ rest) ≡ Ok (entry, rest)
+pub entry_again : (entry : Entry) (rest : List ℕ) → HasSpelling entry → entry_at (spelling entry ++ rest) ≡ Ok (entry, rest)
 unfolding entry_at spelling
 entry_again (Start count number) rest fits = start_again count number rest fits.0 fits.1
 entry_again (Item id key value kind compression) rest fits =

@@ -1,14 +1,14 @@
 -- Batches of which it is known that they stand in a text: how they are read, and what a loop over them knows of those that are left.
-use Rattle.std.proofs.Common.{◌≡◌, ℕ, List, [], ◌∷◌, ◌++◌, length, take, refl, sym, ap, ◌∙◌, Option, Some, None, Result, Ok, Err, IfOk, OnOk, arith}
+use Rattle.std.proofs.Common.{◌≡◌, ℕ, List, [], ◌∷◌, ◌++◌, length, refl, sym, ap, ◌∙◌, Option, Some, None, Result, Ok, Err, IfOk, OnOk, arith}
 use Rattle.std.specs.List.{flat_map, AllByRecursion}
 use Rattle.std.proofs.lemmas.List.{length-append}
 use Rattle.std.proofs.lemmas.List.Concat.{flat_map-cons}
 use Rattle.fjall_base.specs.declared.error.Error.{Error}
 use Rattle.fjall_journal.specs.declared.batch.Tail.{Tail}
 use Rattle.fjall_journal.specs.declared.batch.Batch.{Batch}
-use Rattle.fjall_journal.specs.Batches.{Written, IsWritten, batch_text, IsWhole, Shown, shown, view}
+use Rattle.fjall_journal.specs.Batches.{Written, IsWritten, batch_text, Shown, shown, view}
 use Rattle.fjall_journal.specs.Steps.{known_at}
-use Rattle.fjall_journal.specs.Reader.{Finds}
+use Rattle.fjall_journal.specs.Reader.{FindsBatch}
 use Rattle.fjall_journal.proofs.Batches.{batch_some, done_is, known_again}
 
 -- ---- one batch
@@ -42,10 +42,6 @@ pub record Holds (text : List ℕ) (batches : List Written) : Type 0 where
   pub texts : text ≡ flat_map batch_text batches
   pub each : AllByRecursion IsWritten batches
 
--- at the beginning
-pub whole_holds : (text : List ℕ) (batches : List Written) (end : ℕ) → IsWhole text batches end → Holds (take end text) batches
-whole_holds text batches end whole = record { texts = whole.texts; each = whole.each }
-
 -- where some are left the first of them stands at the front
 pub holds_first : (text : List ℕ) (first : Written) (more : List Written) → Holds text (first ∷ more) → IsWritten first × (text ≡ batch_text first ++ flat_map batch_text more)
 holds_first text first more holds = (holds.each.0, holds.texts ∙ texts_first first more)
@@ -60,7 +56,7 @@ pub record Answers (batches : List Written) (batch : Batch) (rest : List ℕ) : 
 
 -- what next_batch says of its answer at a text, in its clauses' words
 abbrev pub FindsKnown : List ℕ → Result (Option Batch) Error → Type 0
-FindsKnown text result = (written : Written) (more : List ℕ) → IsWritten written → text ≡ batch_text written ++ more → IfOk result (λ found. Finds found written)
+FindsKnown text result = (written : Written) (more : List ℕ) → IsWritten written → text ≡ batch_text written ++ more → IfOk result (λ found. FindsBatch found written)
 
 abbrev pub LeavesKnown : List ℕ → Result (Option Batch) Error → List ℕ → Type 0
 LeavesKnown text result rest = (written : Written) (more : List ℕ) → IsWritten written → text ≡ batch_text written ++ more → OnOk result (rest ≡ more)

@@ -1,8 +1,8 @@
-pub mod Fields
-pub mod Entries
-pub mod Changes
+mod Fields
+mod Entries
+mod Changes
 pub mod Batches
-pub mod Loops
+mod Loops
 pub mod Cuts
 pub mod Known
 pub mod Writing

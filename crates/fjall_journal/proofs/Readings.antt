@@ -9,10 +9,10 @@ use Rattle.fjall_journal.specs.declared.batch.Stop.{Stop}
 use Rattle.fjall_journal.specs.declared.batch.Stop.TheVariants as stops
 use Rattle.fjall_journal.specs.declared.batch.Batch.{Batch}
 use Rattle.fjall_journal.specs.Batches.{Written, batch_text, IsWhole, IsTail, Shown, shown, view}
-use Rattle.fjall_journal.specs.Steps.{Reads, batch_at}
+use Rattle.fjall_journal.specs.Steps.{ReadsStep, batch_at}
 use Rattle.fjall_journal.specs.Reader.{Reading, Leads, EndsAt, StopsHere, over_with, NextEnds, Next}
 use Rattle.fjall_base.proofs.Codecs.{IsBytes}
-use Rattle.fjall_journal.proofs.Batches.{batch_takes, tail_is, no_batch, batch_some, ReadSoFar, nothing_read, one_more_read, all_read}
+use Rattle.fjall_journal.proofs.Batches.{batch_takes, tail_is, no_batch, batch_some, ReadSoFar, one_more_read, all_read}
 
 -- what a reading function gives is what the grammar says
 
@@ -24,11 +24,11 @@ leads bytes batch rest fits e =
 pub ends_at : (bytes : List ℕ) (tail : Tail) → IsBytes bytes → batch_at bytes ≡ Err tail → EndsAt bytes tail
 ends_at bytes tail fits e = record { none = no_batch bytes tail e; is = tail_is bytes tail fits e }
 
-pub found : {X : Type 0} (seen : X → List ℕ) (bytes : List ℕ) (r : Result (Batch × X) Stop) → IsBytes bytes → Reads (λ x. (view x.0, seen x.1)) r (batch_at bytes) → IfOk r (λ x. Leads bytes x.0 (seen x.1))
+pub found : {X : Type 0} (seen : X → List ℕ) (bytes : List ℕ) (r : Result (Batch × X) Stop) → IsBytes bytes → ReadsStep (λ x. (view x.0, seen x.1)) r (batch_at bytes) → IfOk r (λ x. Leads bytes x.0 (seen x.1))
 found seen bytes (Ok x) fits e = leads bytes x.0 (seen x.1) fits e
 found seen bytes (Err stop) fits e = tt
 
-pub stopped : {X : Type 0} (seen : X → List ℕ) (bytes : List ℕ) (r : Result (Batch × X) Stop) → IsBytes bytes → Reads (λ x. (view x.0, seen x.1)) r (batch_at bytes) → IfErr r (StopsHere bytes)
+pub stopped : {X : Type 0} (seen : X → List ℕ) (bytes : List ℕ) (r : Result (Batch × X) Stop) → IsBytes bytes → ReadsStep (λ x. (view x.0, seen x.1)) r (batch_at bytes) → IfErr r (StopsHere bytes)
 stopped seen bytes (Ok x) fits e = tt
 stopped seen bytes (Err stops.Memory) fits e = tt
 stopped seen bytes (Err (stops.Tail tail)) fits e = ends_at bytes tail fits e
@@ -106,12 +106,6 @@ pub over_now : (text : List ℕ) (front : List Shown) (s t : Reading) (tail : Ta
 over_now text front s t tail so_far is ends =
     subst (λ (v : Reading). SoFar text front v) (sym is) (record { same = so_far.same; read = so_far.read; ends = ends })
 
-pub nothing_left : (s t : Reading) (tail : Tail) → s.over ≡ false → t ≡ over_with s tail → to_do t < to_do s
-nothing_left s t tail going is =
-    let before = to_do_at s false going in
-    let behind = to_do_at t true (ap (λ (v : Reading). v.over) is) in
-    omega arith
-
 -- the end
 ended : (text : List ℕ) (front : List Shown) (s t : Reading) (b : Bool) → s.over ≡ b → SoFar text front s → NextEnds s t b → SoFar text front t × EndsAt t.rest t.tail
 ended text front s t true over so_far step =
@@ -127,11 +121,3 @@ finished text front s t end tail so_far step end-is tail-is =
     let e = ended text front s t s.over refl so_far step in
     let end-same : end ≡ length text - length t.rest = end-is ∙ ap (λ (v : List ℕ). length v - length t.rest) e.0.same in
     rw (end-same, tail-is) (all_read text front t.rest t.tail e.0.read e.1.none e.1.is)
-
--- the beginning
-pub at_first : (text : List ℕ) (s : Reading) → s.text ≡ text → s.rest ≡ text → s.over ≡ false → SoFar text [] s
-at_first text s same rest going = record {
-  same = same;
-  read = subst (λ (v : List ℕ). ReadSoFar text [] v) (sym rest) (nothing_read text);
-  ends = going_on s.over s.rest s.tail going;
-}

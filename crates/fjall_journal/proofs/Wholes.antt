@@ -7,7 +7,7 @@ use Rattle.std.proofs.lemmas.Grind.{flat_map-append}
 use Rattle.std.proofs.Math.Seq.{take-append-add, drop-append-add}
 use Rattle.fjall_journal.specs.declared.entry.Entry.{Entry}
 use Rattle.fjall_journal.specs.declared.entry.Entry.TheVariants.{Start, Item, End, Clear}
-use Rattle.fjall_journal.specs.Spelling.{spelling, IsEntry}
+use Rattle.fjall_journal.specs.Spelling.{spelling, HasSpelling}
 use Rattle.fjall_journal.specs.Batches.{Written, IsChange, checked, batch_text, IsWritten, NoneAt, IsWhole}
 use Rattle.fjall_base.specs.Check.{check}
 use Rattle.fjall_journal.proofs.Entries.{one_spelling}
@@ -59,7 +59,7 @@ whole_behind first bs text end each w =
 first_of : {A : Type 0} (f : A → List ℕ) (a : A) (others : List A) (x : List ℕ) → flat_map f (a ∷ others) ++ x ≡ f a ++ (flat_map f others ++ x)
 first_of f a others x = ap (λ (v : List ℕ). v ++ x) (flat_map-cons f a others) ∙ append_assoc (f a) (flat_map f others) x
 
-is_entry : (change : Entry) → IsChange change → IsEntry change
+is_entry : (change : Entry) → IsChange change → HasSpelling change
 is_entry (Start count number) h = absurd h
 is_entry (Item id key value kind compression) h = h
 is_entry (End found) h = absurd h

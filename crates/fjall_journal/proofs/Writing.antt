@@ -3,7 +3,7 @@ use Rattle.std.proofs.Common.{◌≡◌, ◌≢◌, inl, inr, ℕ, ◌+◌, ◌^
 use Rattle.std.proofs.lemmas.List.{append-nil}
 use Rattle.std.proofs.Math.ListN.{take-append-drop}
 use Rattle.std.proofs.Math.Seq.{take-append_seam}
-use Rattle.fjall_base.specs.Disk.{Name, State, Meaning, Step, Sync, IsFile, after, state_in, Took, TookOrNot, TookPart}
+use Rattle.fjall_base.specs.Disk.{Name, DiskState, Meaning, DiskStep, Sync, IsFile, after, state_in, Took, TookOrNot, TookPart}
 use Rattle.fjall_base.proofs.Moments.{after-append}
 use Rattle.fjall_base.proofs.Results.{on_err}
 use Rattle.fjall_base.proofs.Served.{file_as_was, file_stays}
@@ -14,14 +14,14 @@ use Rattle.fjall_journal.specs.contracts.persist_mode.PersistMode.{the_type}
 use denote.Enum.Bare.{sameb}
 
 -- one list of steps after another
-pub took_then : (a b c : Meaning) (xs ys : List Step) → Took a b xs → Took b c ys → Took a c (xs ++ ys)
+pub took_then : (a b c : Meaning) (xs ys : List DiskStep) → Took a b xs → Took b c ys → Took a c (xs ++ ys)
 took_then a b c xs ys p q = record {
-  state = q.state ∙ ap (λ (s : State). after s ys) p.state ∙ sym (after-append (state_in a) xs ys);
-  steps = q.steps ∙ ap (λ (s : List Step). s ++ ys) p.steps ∙ append_assoc a.steps xs ys;
+  state = q.state ∙ ap (λ (s : DiskState). after s ys) p.state ∙ sym (after-append (state_in a) xs ys);
+  steps = q.steps ∙ ap (λ (s : List DiskStep). s ++ ys) p.steps ∙ append_assoc a.steps xs ys;
 }
 
 -- nothing after a list of steps
-pub took_none : (a b c : Meaning) (xs : List Step) → Took a b xs → Took b c [] → Took a c xs
+pub took_none : (a b c : Meaning) (xs : List DiskStep) → Took a b xs → Took b c [] → Took a c xs
 took_none a b c xs p q = record { state = q.state ∙ p.state; steps = q.steps ∙ append-nil b.steps ∙ p.steps }
 
 -- an empty buffer is written out already
@@ -50,7 +50,7 @@ syncs name SyncAll other = refl
 -- a sync behind the append
 pub persist_done : (j : Journal) (mode : PersistMode) (old mid new : Meaning) (name : Name) → mode ≢ Buffer → name ≡ j.name → Took old mid (appending j.name j.buffer) → Took mid new (Sync name ∷ []) → Took old new (persist_steps j mode)
 persist_done j mode old mid new name other n p q =
-    subst (λ (steps : List Step). Took old new (appending j.name j.buffer ++ steps)) (ap (λ (v : Name). Sync v ∷ []) n ∙ sym (syncs j.name mode other))
+    subst (λ (steps : List DiskStep). Took old new (appending j.name j.buffer ++ steps)) (ap (λ (v : Name). Sync v ∷ []) n ∙ sym (syncs j.name mode other))
     (took_then old mid new (appending j.name j.buffer) (Sync name ∷ []) p q)
 
 -- a sync behind the append failed

@@ -11,7 +11,7 @@ use Rattle.fjall_journal.specs.declared.batch.ReadBatchItem.{ReadBatchItem}
 use Rattle.fjall_journal.specs.declared.batch.Batch.{Batch}
 use Rattle.fjall_journal.specs.declared.entry.ValueType.{ValueType}
 use Rattle.fjall_base.specs.declared.error.CompressionType.TheVariants as compressions
-use Rattle.fjall_journal.specs.Spelling.{spelling, IsEntry}
+use Rattle.fjall_journal.specs.Spelling.{spelling, HasSpelling}
 
 -- a batch as it was written: its number, and its items and clears in their order
 pub record Written : Type 0 where
@@ -21,9 +21,9 @@ pub record Written : Type 0 where
 -- an item or a clear that has a spelling
 abbrev pub IsChange : Entry → Type 0
 IsChange (Start count number) = ⊥
-IsChange (Item id key value kind compression) = IsEntry (Item id key value kind compression)
+IsChange (Item id key value kind compression) = HasSpelling (Item id key value kind compression)
 IsChange (End found) = ⊥
-IsChange (Clear id) = IsEntry (Clear id)
+IsChange (Clear id) = HasSpelling (Clear id)
 
 -- a Start of this count and number, and then these changes
 abbrev pub begun : ℕ → ℕ → List Entry → List ℕ
@@ -64,19 +64,19 @@ pub record EndsEarly (bytes : List ℕ) : Type 0 where
   pub changes : List Entry
   pub found : List ℕ
   pub more : List ℕ
-  pub start : IsEntry (Start count number)
+  pub start : HasSpelling (Start count number)
   pub each : AllByRecursion IsChange changes
   pub fewer : length changes < count
-  pub end : IsEntry (End found)
+  pub end : HasSpelling (End found)
   pub text : bytes ≡ begun count number changes ++ (spelling (End found) ++ more)
 
 -- One more change comes where the End is wanted.
-pub record GoesOn (bytes : List ℕ) : Type 0 where
+pub record HasChangeForEnd (bytes : List ℕ) : Type 0 where
   pub number : ℕ
   pub changes : List Entry
   pub another : Entry
   pub more : List ℕ
-  pub start : IsEntry (Start (length changes) number)
+  pub start : HasSpelling (Start (length changes) number)
   pub each : AllByRecursion IsChange changes
   pub change : IsChange another
   pub text : bytes ≡ begun (length changes) number changes ++ (spelling another ++ more)
@@ -87,7 +87,7 @@ pub record HasOtherCheck (bytes : List ℕ) : Type 0 where
   pub found : List ℕ
   pub more : List ℕ
   pub is_written : IsWritten batch
-  pub end : IsEntry (End found)
+  pub end : HasSpelling (End found)
   pub other : found ≢ check (checked batch)
   pub text : bytes ≡ checked batch ++ (spelling (End found) ++ more)
 
@@ -95,11 +95,11 @@ pub record HasOtherCheck (bytes : List ℕ) : Type 0 where
 abbrev pub IsTail : List ℕ → Tail → Type 0
 IsTail bytes Clean = bytes ≡ []
 IsTail bytes (Damaged InsufficientLength) = EndsEarly bytes
-IsTail bytes (Damaged TooManyItems) = GoesOn bytes
+IsTail bytes (Damaged TooManyItems) = HasChangeForEnd bytes
 IsTail bytes (Damaged ChecksumMismatch) = HasOtherCheck bytes
 IsTail bytes (Damaged InvalidFileName) = ⊥
 -- all else
-IsTail bytes Torn = (bytes ≢ []) × (EndsEarly bytes → ⊥) × (GoesOn bytes → ⊥) × (HasOtherCheck bytes → ⊥)
+IsTail bytes Torn = (bytes ≢ []) × (EndsEarly bytes → ⊥) × (HasChangeForEnd bytes → ⊥) × (HasOtherCheck bytes → ⊥)
 
 -- ---- what a reader shows of a batch: items and clears apart
 
@@ -140,7 +140,7 @@ item_text id key value kind number = batch_text (of_item id key value kind numbe
 -- ---- a text that is cut
 
 -- the text reads as the first of the batches, and no damage stands behind them
-pub record Kept (batches : List Written) (text : List ℕ) : Type 0 where
+pub record KeptBatches (batches : List Written) (text : List ℕ) : Type 0 where
   pub kept : List Written
   pub gone : List Written
   pub all : kept ++ gone ≡ batches

@@ -5,7 +5,7 @@ use Rattle.fjall_base.specs.Store as store
 use Rattle.fjall_journal.specs.declared.entry.Entry.{Entry}
 use Rattle.fjall_journal.specs.declared.entry.Entry.TheVariants as entries
 use Rattle.fjall_journal.specs.Batches.{Written, batch_text}
-use Rattle.fjall_journal.specs.Ops.{BatchItem, entry_of, write_of}
+use Rattle.fjall_journal.specs.Ops.{BatchItem, entry_of_item, write_of}
 
 -- What one command does to keys: items of keyspaces, or one keyspace emptied.
 pub data Change : Type 0 where
@@ -19,7 +19,7 @@ command_of (Emptied id) = store.Clear id
 
 -- its entries in the journal
 abbrev pub entries_of_change : Change → List Entry
-entries_of_change (Items items) = map entry_of items
+entries_of_change (Items items) = map entry_of_item items
 entries_of_change (Emptied id) = entries.Clear id ∷ []
 
 -- the batch of it under a number

@@ -46,12 +46,12 @@ abbrev pub write_of : List BatchItem → Command
 write_of items = Write (map item_in items)
 
 -- its entry in the journal
-abbrev pub entry_of : BatchItem → Entry
-entry_of item = entries.Item item.0 item.1 (bytes_in item.2) (kind_of item.2) compressions.None
+abbrev pub entry_of_item : BatchItem → Entry
+entry_of_item item = entries.Item item.0 item.1 (bytes_in item.2) (kind_of item.2) compressions.None
 
 -- the batch of these items under a number
 abbrev pub of_items : List BatchItem → ℕ → Written
-of_items items number = record { number = number; changes = map entry_of items }
+of_items items number = record { number = number; changes = map entry_of_item items }
 
 abbrev pub items_text : List BatchItem → ℕ → List ℕ
 items_text items number = batch_text (of_items items number)

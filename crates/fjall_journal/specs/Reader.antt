@@ -55,6 +55,6 @@ Next s (Some (Err error)) t = (s.over ≡ false) × NextFails s error t
 Next s None t = NextEnds s t s.over
 
 -- A batch was found, and it shows as this one.
-abbrev pub Finds : Option Batch → Written → Type 0
-Finds (Some batch) written = view batch ≡ shown written
-Finds None written = ⊥
+abbrev pub FindsBatch : Option Batch → Written → Type 0
+FindsBatch (Some batch) written = view batch ≡ shown written
+FindsBatch None written = ⊥

@@ -45,15 +45,15 @@ spelling (End check) = 3 ∷ check ++ trailer
 spelling (Clear id) = 4 ∷ little_bytes 8 id
 
 -- what has a spelling
-abbrev pub IsEntry : Entry → Type 0
-IsEntry (Start count number) = (count < 2 ^ 32) × (number < 2 ^ 64)
-IsEntry (Item id key value kind compression) = (id < 2 ^ 64) × (0 < length key) × (length key < 2 ^ 16) × (length value < 2 ^ 32)
-IsEntry (End check) = length check ≡ 8
-IsEntry (Clear id) = id < 2 ^ 64
+abbrev pub HasSpelling : Entry → Type 0
+HasSpelling (Start count number) = (count < 2 ^ 32) × (number < 2 ^ 64)
+HasSpelling (Item id key value kind compression) = (id < 2 ^ 64) × (0 < length key) × (length key < 2 ^ 16) × (length value < 2 ^ 32)
+HasSpelling (End check) = length check ≡ 8
+HasSpelling (Clear id) = id < 2 ^ 64
 
 -- the bytes spell the entry
 abbrev pub IsSpelling : List ℕ → Entry → Type 0
-IsSpelling bytes entry = IsEntry entry × (bytes ≡ spelling entry)
+IsSpelling bytes entry = HasSpelling entry × (bytes ≡ spelling entry)
 
 -- the entry stands at the front of the bytes, and takes len of them
 abbrev pub StandsFirst : List ℕ → Entry → ℕ → Type 0

@@ -19,9 +19,9 @@ abbrev pub StopsAt : {Y : Type 0} → Stop → Result Y Tail → Type 0
 StopsAt stops.Memory read = ⊤
 StopsAt (stops.Tail tail) read = read ≡ Err tail
 
-abbrev pub Reads : {X Y : Type 0} → (X → Y) → Result X Stop → Result Y Tail → Type 0
-Reads view (Ok x) read = read ≡ Ok (view x)
-Reads view (Err stop) read = StopsAt stop read
+abbrev pub ReadsStep : {X Y : Type 0} → (X → Y) → Result X Stop → Result Y Tail → Type 0
+ReadsStep view (Ok x) read = read ≡ Ok (view x)
+ReadsStep view (Err stop) read = StopsAt stop read
 
 abbrev pub or_torn : {A : Type 0} → Result A Fault → Result A Tail
 or_torn (Ok x) = Ok x

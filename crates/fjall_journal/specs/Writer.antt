@@ -1,6 +1,6 @@
 -- The append side of a journal: what a writer holds, and what its calls make of it and of the disk.
 use Rattle.std.specs.Prelude.{◌≡◌, ◌≢◌, ◌⊎◌, ℕ, ◌+◌, ◌-◌, ◌^◌, ◌<◌, min, Bool, not, ◌||◌, List, [], ◌∷◌, ◌++◌, length, nat_le, if◌then◌else◌, Result, Err, MatchOption, Option, None, Some, is_none}
-use Rattle.fjall_base.specs.Disk.{Name, Meaning, File, IsFile, Step, Append, Sync, Took, TookPart, HasCause, making, state_in}
+use Rattle.fjall_base.specs.Disk.{Name, Meaning, File, IsFile, DiskStep, Append, Sync, Took, TookPart, HasCause, making, state_in}
 use Rattle.fjall_base.specs.declared.error.Error.{Error}
 use Rattle.fjall_base.specs.declared.error.Error.TheVariants.{Io}
 use Rattle.fjall_base.specs.Limits.{item_refusal}
@@ -26,7 +26,7 @@ abbrev pub written_out : Journal → Journal
 written_out j = record j { buffer = []; len = counted (j.len + length j.buffer) }
 
 -- one append of these bytes, none where there are no bytes
-abbrev pub appending : Name → List ℕ → List Step
+abbrev pub appending : Name → List ℕ → List DiskStep
 appending name [] = []
 appending name (b ∷ bytes) = Append name (b ∷ bytes) ∷ []
 
@@ -35,7 +35,7 @@ abbrev pub full_out : Journal → Journal
 full_out j = if nat_le 8192 (length j.buffer) then written_out j else j
 
 -- what that does to the disk
-abbrev pub full_steps : Journal → List Step
+abbrev pub full_steps : Journal → List DiskStep
 full_steps j = if nat_le 8192 (length j.buffer) then Append j.name j.buffer ∷ [] else []
 
 -- the journal after a text was written: its buffer goes out once it has 8,192 bytes
@@ -43,7 +43,7 @@ abbrev pub after_write : Journal → List ℕ → Journal
 after_write j text = full_out (filled j text)
 
 -- what a write of this text does to the disk
-abbrev pub write_steps : Journal → List ℕ → List Step
+abbrev pub write_steps : Journal → List ℕ → List DiskStep
 write_steps j text = full_steps (filled j text)
 
 -- whether a command that leaves so many bytes in the buffer writes it out: where it is persisted by hand, from 8,192 bytes
@@ -56,23 +56,23 @@ abbrev pub after_command : Bool → Journal → List ℕ → Journal
 after_command by_hand j text = if goes_out by_hand (length (j.buffer ++ text)) then written_out (filled j text) else filled j text
 
 -- what a command of this text does to the disk
-abbrev pub command_steps : Bool → Journal → List ℕ → List Step
+abbrev pub command_steps : Bool → Journal → List ℕ → List DiskStep
 command_steps by_hand j text = if goes_out by_hand (length (j.buffer ++ text)) then appending j.name (j.buffer ++ text) else []
 
 -- a sync, where the mode asks for one
-abbrev pub syncing : Name → PersistMode → List Step
+abbrev pub syncing : Name → PersistMode → List DiskStep
 syncing name Buffer = []
 syncing name SyncData = Sync name ∷ []
 syncing name SyncAll = Sync name ∷ []
 
 -- the same, where there is a mode
-abbrev pub syncing_mode : Name → Option PersistMode → List Step
+abbrev pub syncing_mode : Name → Option PersistMode → List DiskStep
 syncing_mode name None = []
 syncing_mode name (Some mode) = syncing name mode
 
 -- what a batch of this text does to the disk: without a mode it waits in the buffer while that has less than 8,192 bytes,
 -- and with one all goes out, and is synced where the mode asks for it
-abbrev pub batch_steps : Option PersistMode → Journal → List ℕ → List Step
+abbrev pub batch_steps : Option PersistMode → Journal → List ℕ → List DiskStep
 batch_steps mode j text = command_steps (is_none mode) j text ++ syncing_mode j.name mode
 
 -- the text waits in the buffer, which has less than 8,192 bytes with it
@@ -84,7 +84,7 @@ abbrev pub WroteText : Meaning → Meaning → Journal → List ℕ → Type 0
 WroteText old new j text = Took old new (write_steps j text)
 
 -- what a persist does to the disk
-abbrev pub persist_steps : Journal → PersistMode → List Step
+abbrev pub persist_steps : Journal → PersistMode → List DiskStep
 persist_steps j mode = appending j.name j.buffer ++ syncing j.name mode
 
 -- what a refused write took of the disk: some beginning of the bytes where the disk failed, else nothing
@@ -118,11 +118,11 @@ abbrev pub BatchTook : Option PersistMode → Meaning → Meaning → Journal �
 BatchTook mode old new j text = TookPart old new j.name (j.buffer ++ text) ⊎ ((syncing_mode j.name mode ≢ []) × Took old new (batch_steps mode j text))
 
 -- what makes an empty file of this name, where none is there
-abbrev pub making_file : Meaning → Name → List Step
+abbrev pub making_file : Meaning → Name → List DiskStep
 making_file disk name = making name (File [] []) (state_in disk name).now
 
 -- and syncs it
-abbrev pub making_synced : Meaning → Name → List Step
+abbrev pub making_synced : Meaning → Name → List DiskStep
 making_synced disk name = making_file disk name ++ Sync name ∷ []
 
 -- what the making of a file that failed took: nothing, the making, or the sync too

@@ -5,7 +5,7 @@ ghost use Rattle.std.specs.List.{AllByRecursion, flat_map};
 ghost use Rattle.fjall_base.specs.Limits.{item_refusal};
 ghost use Rattle.fjall_journal.specs.Spelling.{spelling};
 ghost use Rattle.fjall_journal.specs.Batches.{of_item, item_text, IsChange, IsWritten};
-ghost use Rattle.fjall_journal.specs.Ops.{entry_of, items_refusal, items_text, of_items};
+ghost use Rattle.fjall_journal.specs.Ops.{entry_of_item, items_refusal, items_text, of_items};
 ghost use Rattle.fjall_journal.specs.Changes.{Emptied, change_text, of_change};
 
 use crate::encoding::{put_clear, put_end, put_start, serialize_marker_item};
@@ -67,8 +67,8 @@ pub(crate) fn put_batch(
 /// Adds the spellings of these items. An `Err` may have added some of them.
 fn put_entries(out: &mut Vec<u8>, items: &[BatchItem]) -> Result<()>
     requires fit { items_refusal items.now ≡ None }
-    ensures ok { OnOk result (out.new.items ≡ out.old.items ++ flat_map spelling (map entry_of items.now)) }
-    ensures each { OnOk result (AllByRecursion IsChange (map entry_of items.now)) }
+    ensures ok { OnOk result (out.new.items ≡ out.old.items ++ flat_map spelling (map entry_of_item items.now)) }
+    ensures each { OnOk result (AllByRecursion IsChange (map entry_of_item items.now)) }
     ensures kept { take (length out.old.items) out.new.items ≡ out.old.items }
     ensures only { IsOkUnless result Error.OutOfMemory }
 {

@@ -2,7 +2,7 @@
 
 ghost use Rattle.std.specs.Prelude.{◌≡◌, ◌++◌, OnOk, OnErr, IsOkUnless, MatchOption, Err};
 ghost use Rattle.fjall_base.specs.Limits.{item_refusal};
-ghost use Rattle.fjall_journal.specs.Spelling.{item_header, spelling, refusal, IsEntry};
+ghost use Rattle.fjall_journal.specs.Spelling.{item_header, spelling, refusal, HasSpelling};
 
 use crate::entry::{Entry, MAGIC_BYTES, Tag, ValueType};
 use byteorder::{ByteOrder, LittleEndian};
@@ -39,7 +39,7 @@ pub fn serialize_marker_item(
     compression: CompressionType,
 ) -> Result<()>
     ensures ok { OnOk result (out.new.items ≡ out.old.items ++ spelling (Entry.Item keyspace_id key.now value.now value_type compression)) }
-    ensures fits { OnOk result (IsEntry (Entry.Item keyspace_id key.now value.now value_type compression)) }
+    ensures fits { OnOk result (HasSpelling (Entry.Item keyspace_id key.now value.now value_type compression)) }
     ensures err { OnErr result (out.new.items ≡ out.old.items) }
     ensures refused { MatchOption (item_refusal key.now value.now) (IsOkUnless result Error.OutOfMemory) (λ e. result ≡ Err e) }
 {
@@ -75,7 +75,7 @@ pub(crate) fn put_start(out: &mut Vec<u8>, item_count: u32, seqno: u64) -> Resul
 #[tactic(auto, unfolding(crate::specs::Spelling::spelling))]
 pub(crate) fn put_end(out: &mut Vec<u8>, check: &[u8; 8]) -> Result<()>
     ensures ok { OnOk result (out.new.items ≡ out.old.items ++ spelling (Entry.End check.now)) }
-    ensures fits { IsEntry (Entry.End check.now) }
+    ensures fits { HasSpelling (Entry.End check.now) }
     ensures err { OnErr result (out.new.items ≡ out.old.items) }
     ensures only { IsOkUnless result Error.OutOfMemory }
 {
@@ -106,7 +106,7 @@ impl Entry {
     /// Adds the spelling of the entry. An `Err` adds nothing.
     pub fn encode_into(&self, out: &mut Vec<u8>) -> Result<()>
         ensures ok { OnOk result (out.new.items ≡ out.old.items ++ spelling self.now) }
-        ensures fits { OnOk result (IsEntry self.now) }
+        ensures fits { OnOk result (HasSpelling self.now) }
         ensures err { OnErr result (out.new.items ≡ out.old.items) }
         ensures refused { MatchOption (refusal self.now) (IsOkUnless result Error.OutOfMemory) (λ e. result ≡ Err e) }
     {

@@ -2,7 +2,7 @@
 
 ghost use Rattle.std.specs.Prelude.{◌≡◌, ◌++◌, ◌<◌, [], List, ℕ, length, IfOk, IfSome, OnOk, OnErr, IsOkUnless};
 ghost use Rattle.fjall_journal.specs.Batches.{Written, IsWritten, batch_text};
-ghost use Rattle.fjall_journal.specs.Reader.{Finds};
+ghost use Rattle.fjall_journal.specs.Reader.{FindsBatch};
 
 use crate::batch::{Batch, Stop};
 use crate::parsing::known_batch_of;
@@ -37,7 +37,7 @@ impl<'a> KnownBatches<'a> {
     /// The next batch, or `None` at the end. Want of memory leaves the reader as it was.
     pub fn next_batch(&mut self) -> Result<Option<Batch>>
         // A whole batch that stands at the front is answered.
-        ensures known { (written : Written) (more : List ℕ) → IsWritten written → self.old ≡ batch_text written ++ more → IfOk result (λ found. Finds found written) }
+        ensures known { (written : Written) (more : List ℕ) → IsWritten written → self.old ≡ batch_text written ++ more → IfOk result (λ found. FindsBatch found written) }
         // What stands behind it is left.
         ensures left { (written : Written) (more : List ℕ) → IsWritten written → self.old ≡ batch_text written ++ more → OnOk result (self.new ≡ more) }
         ensures end { self.old ≡ [] → result ≡ Ok None }

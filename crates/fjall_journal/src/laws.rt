@@ -5,7 +5,7 @@ ghost use Rattle.std.specs.List.{flat_map, AllByRecursion};
 ghost use Rattle.fjall_journal.specs.declared.entry.Entry.{Entry};
 ghost use Rattle.fjall_journal.specs.declared.batch.Tail.{Tail};
 ghost use Rattle.fjall_journal.specs.Spelling.{IsSpelling};
-ghost use Rattle.fjall_journal.specs.Batches.{Written, IsWritten, batch_text, IsWhole, IsAll, IsTail, NoneAt, Kept};
+ghost use Rattle.fjall_journal.specs.Batches.{Written, IsWritten, batch_text, IsWhole, IsAll, IsTail, NoneAt, KeptBatches};
 
 /// No spelling begins another, and none is of two entries.
 pub fn one_spelling()
@@ -40,5 +40,5 @@ pub fn whole_behind()
 
 /// A text of batches that is cut anywhere reads as the first of them, with a clean or a torn tail.
 pub fn cut_reads()
-    ensures { (bs : List Written) (text lost : List ℕ) → AllByRecursion IsWritten bs → text ++ lost ≡ flat_map batch_text bs → Kept bs text }
+    ensures { (bs : List Written) (text lost : List ℕ) → AllByRecursion IsWritten bs → text ++ lost ≡ flat_map batch_text bs → KeptBatches bs text }
 {}

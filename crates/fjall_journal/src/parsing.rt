@@ -5,7 +5,7 @@ ghost use Rattle.std.specs.Str.{bytes_eq};
 ghost use Rattle.fjall_journal.specs.Reading.{entry_at};
 ghost use Rattle.fjall_journal.specs.Batches.{items_of, clears_of, view};
 ghost use Rattle.fjall_journal.specs.Reader.{Leads, StopsHere};
-ghost use Rattle.fjall_journal.specs.Steps.{Reads, or_torn, opening_at, change_at, changes_at, ending_at, closing_at, unclosed_at, batch_at, known_at};
+ghost use Rattle.fjall_journal.specs.Steps.{ReadsStep, or_torn, opening_at, change_at, changes_at, ending_at, closing_at, unclosed_at, batch_at, known_at};
 
 use crate::batch::{Batch, ReadBatchItem, Stop, Tail};
 use crate::decoding::entry_of;
@@ -20,7 +20,7 @@ fn is_same(found: &[u8; 8], sum: &[u8; 8]) -> bool
 }
 
 fn entry_or_torn(alloc: Global, bytes: &[u8]) -> std::result::Result<(Entry, &[u8]), Stop>
-    ensures gives { Reads (λ x. (x.0, x.1.now)) result (or_torn (entry_at bytes.now)) }
+    ensures gives { ReadsStep (λ x. (x.0, x.1.now)) result (or_torn (entry_at bytes.now)) }
     ensures shorter { IfOk result (λ x. length x.1.now < length bytes.now) }
 {
     match entry_of(alloc, bytes) {
@@ -32,7 +32,7 @@ fn entry_or_torn(alloc: Global, bytes: &[u8]) -> std::result::Result<(Entry, &[u
 
 #[tactic(auto, unfolding(crate::specs::Steps::opening_at))]
 fn opening_of(alloc: Global, bytes: &[u8]) -> std::result::Result<((u32, u64), &[u8]), Stop>
-    ensures gives { Reads (λ x. (x.0, x.1.now)) result (opening_at bytes.now) }
+    ensures gives { ReadsStep (λ x. (x.0, x.1.now)) result (opening_at bytes.now) }
     ensures shorter { IfOk result (λ x. length x.1.now < length bytes.now) }
 {
     let (entry, rest) = entry_or_torn(alloc, bytes)?;
@@ -46,7 +46,7 @@ fn opening_of(alloc: Global, bytes: &[u8]) -> std::result::Result<((u32, u64), &
 
 #[tactic(auto, unfolding(crate::specs::Steps::change_at))]
 fn change_of(alloc: Global, bytes: &[u8]) -> std::result::Result<(Entry, &[u8]), Stop>
-    ensures gives { Reads (λ x. (x.0, x.1.now)) result (change_at bytes.now) }
+    ensures gives { ReadsStep (λ x. (x.0, x.1.now)) result (change_at bytes.now) }
     ensures shorter { IfOk result (λ x. length x.1.now < length bytes.now) }
 {
     let (entry, rest) = entry_or_torn(alloc, bytes)?;
@@ -60,7 +60,7 @@ fn change_of(alloc: Global, bytes: &[u8]) -> std::result::Result<(Entry, &[u8]),
 /// The check in the End at the front, and the bytes after it.
 #[tactic(auto, unfolding(crate::specs::Steps::ending_at))]
 fn ending_of(alloc: Global, bytes: &[u8]) -> std::result::Result<([u8; 8], &[u8]), Stop>
-    ensures gives { Reads (λ x. (x.0, x.1.now)) result (ending_at bytes.now) }
+    ensures gives { ReadsStep (λ x. (x.0, x.1.now)) result (ending_at bytes.now) }
     ensures shorter { IfOk result (λ x. length x.1.now < length bytes.now) }
 {
     let (entry, rest) = entry_or_torn(alloc, bytes)?;
@@ -78,7 +78,7 @@ fn closing_of<'a>(
     sum: &[u8; 8],
     bytes: &'a [u8],
 ) -> std::result::Result<&'a [u8], Stop>
-    ensures gives { Reads (λ x. x.now) result (closing_at sum.now bytes.now) }
+    ensures gives { ReadsStep (λ x. x.now) result (closing_at sum.now bytes.now) }
     ensures shorter { IfOk result (λ x. length x.now < length bytes.now) }
 {
     let (found, rest) = ending_of(alloc, bytes)?;
@@ -122,7 +122,7 @@ fn changes_of(
     count: u32,
     bytes: &[u8],
 ) -> std::result::Result<((Vec<ReadBatchItem>, Vec<u64>), &[u8]), Stop>
-    ensures gives { Reads (λ x. ((x.0.0.items, x.0.1.items), x.1.now)) result (changes_at count bytes.now) }
+    ensures gives { ReadsStep (λ x. ((x.0.0.items, x.0.1.items), x.1.now)) result (changes_at count bytes.now) }
     ensures shorter { IfOk result (λ x. length x.1.now ≤ length bytes.now) }
 {
     let mut items = Vec::new(alloc);
@@ -139,7 +139,7 @@ fn changes_of(
 /// A batch up to its End, and the bytes from there.
 #[tactic(auto, unfolding(crate::specs::Steps::unclosed_at))]
 fn unclosed_of(alloc: Global, bytes: &[u8]) -> std::result::Result<(Batch, &[u8]), Stop>
-    ensures gives { Reads (λ x. (view x.0, x.1.now)) result (unclosed_at bytes.now) }
+    ensures gives { ReadsStep (λ x. (view x.0, x.1.now)) result (unclosed_at bytes.now) }
     ensures shorter { IfOk result (λ x. length x.1.now < length bytes.now) }
 {
     let ((item_count, seqno), rest) = opening_of(alloc, bytes)?;
@@ -154,7 +154,7 @@ fn unclosed_of(alloc: Global, bytes: &[u8]) -> std::result::Result<(Batch, &[u8]
 
 #[tactic(auto, unfolding(crate::specs::Steps::batch_at))]
 fn parse_batch(alloc: Global, bytes: &[u8]) -> std::result::Result<(Batch, &[u8]), Stop>
-    ensures gives { Reads (λ x. (view x.0, x.1.now)) result (batch_at bytes.now) }
+    ensures gives { ReadsStep (λ x. (view x.0, x.1.now)) result (batch_at bytes.now) }
     ensures shorter { IfOk result (λ x. length x.1.now < length bytes.now) }
 {
     if bytes.is_empty() {
@@ -180,7 +180,7 @@ pub(crate) fn known_batch_of(
     alloc: Global,
     bytes: &[u8],
 ) -> std::result::Result<(Batch, &[u8]), Stop>
-    ensures gives { Reads (λ x. (view x.0, x.1.now)) result (known_at bytes.now) }
+    ensures gives { ReadsStep (λ x. (view x.0, x.1.now)) result (known_at bytes.now) }
     ensures shorter { IfOk result (λ x. length x.1.now < length bytes.now) }
 {
     let (batch, rest) = unclosed_of(alloc, bytes)?;

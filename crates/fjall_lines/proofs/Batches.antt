@@ -1,11 +1,10 @@
 -- The words of a batch, three for each of its writes.
 use Rattle.std.proofs.Common.{◌≡◌, ℕ, ◌<◌, ◌≤◌, ◌-◌, List, [], ◌∷◌, ◌++◌, drop, get_or, length, map, take, Bool, true, false, ◌==◌, Option, Some, None, refl, subst, sym, ap, ◌∙◌, append_assoc, arith, codes, inl, inr}
-use Rattle.std.specs.Prelude.{All}
+use Rattle.std.specs.Prelude.{All, IfSome}
 use Rattle.std.proofs.lemmas.Bool.{eqb-true}
 use Rattle.std.proofs.lemmas.List.{append-nil, length-map, take_rest}
 use Rattle.std.proofs.lemmas.List.Elements.{All-head, All-tail}
 use Rattle.std.proofs.lemmas.List.Concat.{flat_map-append}
-use Rattle.std.specs.Prelude.{IfSome}
 use Rattle.hex.specs.Hex.{IsBytes}
 use Rattle.hex.proofs.HexLemmas.{decode_of-ok}
 use Rattle.fjall_base.specs.Pairs.{Bytes}

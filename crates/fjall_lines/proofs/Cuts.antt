@@ -1,11 +1,11 @@
 -- A text is cut at its first line feed.
-use Rattle.std.proofs.Common.{◌≡◌, ℕ, zero, suc, ◌+◌, ◌-◌, ◌<◌, ◌≤◌, ◌==◌, Bool, true, false, List, [], ◌∷◌, ◌++◌, length, take, drop, Option, Some, None, refl, sym, ap, ◌∙◌, append_assoc, arith, inl, inr, ◌⊎◌}
+use Rattle.std.proofs.Common.{◌≡◌, ℕ, zero, suc, ◌+◌, ◌-◌, ◌<◌, ◌≤◌, ◌==◌, Bool, true, false, List, [], ◌∷◌, ◌++◌, length, take, drop, Option, Some, None, refl, sym, ap, ◌∙◌, arith, inl, inr, ◌⊎◌}
 use Rattle.std.specs.List.{AllZip, position, position_or_len}
 use Rattle.std.proofs.lemmas.Bool.{cases_lt}
 use Rattle.std.proofs.lemmas.List.{append-nil, take_rest}
 use Rattle.fjall_lines.specs.declared.command.Command.{Command}
-use Rattle.fjall_lines.specs.Lines.{lines_of, Reads}
-use Rattle.fjall_lines.specs.Hearing.{heard, Hears}
+use Rattle.fjall_lines.specs.Lines.{lines_of}
+use Rattle.fjall_lines.specs.Hearing.{Hears}
 
 abbrev feed : ℕ → Bool
 feed b = b == 10
@@ -76,11 +76,3 @@ pub all_read : (honest : Bool) (text rest : List ℕ) (commands : List (Option C
 all_read honest text rest commands none h =
     let left : AllZip (Hears honest) (lines_of rest) [] = rw none tt in
     rw append-nil at (h [] left)
-
--- one more line was read
-pub one_read : (honest : Bool) (text rest line after : List ℕ) (commands : List (Option Command)) (read found : Option Command) → lines_of rest ≡ line ∷ lines_of after → Reads line read → found ≡ heard honest read
-    → ((more : List (Option Command)) → AllZip (Hears honest) (lines_of rest) more → AllZip (Hears honest) (lines_of text) (commands ++ more))
-    → (more : List (Option Command)) → AllZip (Hears honest) (lines_of after) more → AllZip (Hears honest) (lines_of text) ((commands ++ found ∷ []) ++ more)
-one_read honest text rest line after commands read found split reads is h more others =
-    let here : AllZip (Hears honest) (lines_of rest) (found ∷ more) = rw split ((read, (reads, is)), others) in
-    rw (append_assoc commands (found ∷ []) more) (h (found ∷ more) here)

@@ -1,4 +1,4 @@
 pub mod Bytes
-pub mod Spellings
-pub mod Cuts
-pub mod Batches
+mod Spellings
+mod Cuts
+mod Batches

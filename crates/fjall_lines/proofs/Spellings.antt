@@ -15,7 +15,7 @@ use Rattle.fjall_lines.specs.declared.command.Command.{Command}
 use Rattle.fjall_lines.specs.declared.command.Command.TheVariants.{Ask, Crash, Reopen}
 use Rattle.fjall_lines.specs.declared.command.Request.{Request}
 use Rattle.fjall_lines.specs.declared.command.Request.TheVariants.{Keyspace, Delete, Insert, Remove, RemoveWeak, Clear, Batch, Get, Len, Scan, Snapshot, GetAt, CloseSnapshot, Begin, TxGet, TxInsert, Commit, Gc, Rotate, Flush, Merge, Persist}
-use Rattle.fjall_lines.specs.Lines.{hex_word, request_words, value_word, writes_words, words_of, spelling, IsCommand, IsRequest, IsWrite, Write, Spells, Reads}
+use Rattle.fjall_lines.specs.Lines.{hex_word, request_words, value_word, writes_words, words_of, spelling, IsCommand, IsRequest, IsWrite, Write, Spells, ReadsLine}
 use Rattle.fjall_lines.proofs.Bytes.{or_false, digit, lower_digit}
 
 abbrev is_space : ℕ → Bool
@@ -195,7 +195,7 @@ pub text_of_command : (command : Command) → IsCommand command → IsUtf8 (spel
 text_of_command command h = text-join (words_of command) (are_words command h)
 
 -- a line spells what its words spell
-reads_from_words : (line : List ℕ) (found : Option Command) → Spells (slice_split is_space line) found → Reads line found
+reads_from_words : (line : List ℕ) (found : Option Command) → Spells (slice_split is_space line) found → ReadsLine line found
 reads_from_words line found s = record {
   spelled = spelled found s.spelled;
   some = s.some;
@@ -208,13 +208,13 @@ reads_from_words line found s = record {
 
 -- the same of a result
 pub reads_line : {E : Type 0} (line text : List ℕ) (words : List (List ℕ)) (r : Result (Option Command) E) → text ≡ line
-    → words ≡ slice_split is_space text → IfOk r (λ found. Spells words found) → IfOk r (λ found. Reads line found)
+    → words ≡ slice_split is_space text → IfOk r (λ found. Spells words found) → IfOk r (λ found. ReadsLine line found)
 reads_line line text words (Ok found) same cut h =
     reads_from_words line found (let P : List (List ℕ) → Type 0 = λ ws. Spells ws found in subst P (cut ∙ ap (slice_split is_space) same) h)
 reads_line line text words (Err e) same cut h = tt
 
 -- what is not text spells nothing
-pub reads_none : (line : List ℕ) → (IsUtf8 line → ⊥) → Reads line None
+pub reads_none : (line : List ℕ) → (IsUtf8 line → ⊥) → ReadsLine line None
 reads_none line other = record {
   spelled = tt;
   some = tt;

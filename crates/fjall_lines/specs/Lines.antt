@@ -135,7 +135,7 @@ pub record SpellsWrites (words : List (List ℕ)) (found : Option (List Write)) 
   pub all_found : (writes : List Write) → All IsWrite writes → words ≡ writes_words writes → found ≡ Some writes
 
 -- the command that a line spells, or none where it spells none
-pub record Reads (line : List ℕ) (found : Option Command) : Type 0 where
+pub record ReadsLine (line : List ℕ) (found : Option Command) : Type 0 where
   pub spelled : IfSome found (λ command. line ≡ spelling command)
   pub some : IfSome found HasWrites
   pub all_found : (command : Command) → IsCommand command → line ≡ spelling command → found ≡ Some command

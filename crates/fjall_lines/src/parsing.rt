@@ -4,7 +4,7 @@ ghost use Rattle.std.specs.Prelude.{◌≡◌, ◌≢◌, ℕ, List, [], ◌∷�
 ghost use Rattle.std.specs.List.{list_any};
 ghost use Rattle.std.specs.Char.{is_ascii_uppercase};
 ghost use Rattle.hex.specs.Hex.{IsBytes};
-ghost use Rattle.fjall_lines.specs.Lines.{FindsIdAndKey, FindsValue, hex_word, Reads, Spells, SpellsWrite, SpellsWrites, value_word};
+ghost use Rattle.fjall_lines.specs.Lines.{FindsIdAndKey, FindsValue, hex_word, ReadsLine, Spells, SpellsWrite, SpellsWrites, value_word};
 
 use crate::command::{Command, Request, Write, Writes};
 use fjall_base::{Slice, UserKey, UserValue};
@@ -286,7 +286,7 @@ fn command(alloc: Global, words: &[&str]) -> Result<Option<Command>, AllocError>
 
 /// The command that a line spells, or none. A line that is not UTF-8 spells none.
 pub fn parse(alloc: Global, line: &[u8]) -> Result<Option<Command>, AllocError>
-    ensures { IfOk result (λ found. Reads line.now found) }
+    ensures { IfOk result (λ found. ReadsLine line.now found) }
 {
     let Ok(text) = str::from_utf8(line) else {
         return Ok(None);

@@ -6,11 +6,10 @@ use Rattle.std.specs.Str.{bytes_eq}
 use Rattle.std.proofs.lemmas.List.{append-nil}
 use Rattle.std.proofs.lemmas.List.Folds.{list_all-append}
 use Rattle.fjall_base.specs.declared.error.Error.{Error}
-use Rattle.fjall_base.specs.Disk.{Name, Entry, Missing, File, Folder, Place, State, Step, SyncFolder, Meaning, Took, IsNoFolder, after, removing, state_in, put, settle, folder_of}
+use Rattle.fjall_base.specs.Disk.{Name, DiskEntry, Missing, File, Folder, Place, DiskState, DiskStep, SyncFolder, Meaning, Took, IsNoFolder, after, removing, state_in, put, settle, folder_of}
 use Rattle.fjall_base.proofs.Moments.{after-append}
-use Rattle.fjall_base.proofs.Names.{bool_cases}
+use Rattle.fjall_base.proofs.Names.{bool_cases, same}
 use Rattle.fjall_base.proofs.States.{put-same, put-other, settle-in, settle-out}
-use Rattle.fjall_base.proofs.Names.{same}
 use Rattle.fjall_files.specs.Names.{journal_name}
 use Rattle.fjall_journal.proofs.Writing.{took_none, took_then}
 use Rattle.fjall_manager.specs.Journals.{Sealed, may_go, going, staying, names_of}
@@ -19,39 +18,39 @@ use Rattle.fjall_manager.proofs.Going.{Stops, going_on, staying_on, none_goes, a
 
 -- ---- steps
 
-pub evicting-append : (state : State) (xs ys : List Name) → evicting state (xs ++ ys) ≡ evicting state xs ++ evicting (after state (evicting state xs)) ys
+pub evicting-append : (state : DiskState) (xs ys : List Name) → evicting state (xs ++ ys) ≡ evicting state xs ++ evicting (after state (evicting state xs)) ys
 evicting-append state [] ys = refl
 evicting-append state (x ∷ xs) ys =
     let one = evicting_one state x in
     let mid = after state one in
-    ap (λ (l : List Step). one ++ l) (evicting-append mid xs ys) ∙ sym (append_assoc one (evicting mid xs) (evicting (after mid (evicting mid xs)) ys))
-    ∙ ap (λ (s : State). (one ++ evicting mid xs) ++ evicting s ys) (sym (after-append state one (evicting mid xs)))
+    ap (λ (l : List DiskStep). one ++ l) (evicting-append mid xs ys) ∙ sym (append_assoc one (evicting mid xs) (evicting (after mid (evicting mid xs)) ys))
+    ∙ ap (λ (s : DiskState). (one ++ evicting mid xs) ++ evicting s ys) (sym (after-append state one (evicting mid xs)))
 
 names-append : (xs ys : List Sealed) → names_of (xs ++ ys) ≡ names_of xs ++ names_of ys
 names-append [] ys = refl
 names-append (x ∷ xs) ys = ap (λ (l : List Name). journal_name x.id ∷ l) (names-append xs ys)
 
-settle-now : (state : State) (folder q : Name) → (settle state folder q).now ≡ (state q).now
+settle-now : (state : DiskState) (folder q : Name) → (settle state folder q).now ≡ (state q).now
 settle-now state folder q = elim (bool_cases (bytes_eq (folder_of q) folder)) [
   | inl is ↦ ap (λ (p : Place). p.now) (settle-in state folder q (same is))
   | inr not ↦ ap (λ (p : Place). p.now) (settle-out state folder q not)
 ]
 
-put_kind : (state : State) (name q : Name) → IsNoFolder (state q).now → IsNoFolder (put state name Missing q).now
+put_kind : (state : DiskState) (name q : Name) → IsNoFolder (state q).now → IsNoFolder (put state name Missing q).now
 put_kind state name q none = elim (bool_cases (bytes_eq q name)) [
   | inl is ↦ subst (λ (n : Name). IsNoFolder (put state name Missing n).now) (sym (same {q = q} {r = name} is)) (subst (λ (p : Place). IsNoFolder p.now) (sym (put-same state name Missing)) tt)
   | inr not ↦ subst (λ (p : Place). IsNoFolder p.now) (sym (put-other state name Missing q not)) none
 ]
 
-settled_kind : (state : State) (q : Name) → IsNoFolder (state q).now → IsNoFolder (settle state [] q).now
-settled_kind state q none = subst (λ (e : Entry). IsNoFolder e) (sym (settle-now state [] q)) none
+settled_kind : (state : DiskState) (q : Name) → IsNoFolder (state q).now → IsNoFolder (settle state [] q).now
+settled_kind state q none = subst (λ (e : DiskEntry). IsNoFolder e) (sym (settle-now state [] q)) none
 
-one_kind : (state : State) (name q : Name) (entry : Entry) → IsNoFolder (state q).now → IsNoFolder (after state (removing name entry ++ SyncFolder [] ∷ []) q).now
+one_kind : (state : DiskState) (name q : Name) (entry : DiskEntry) → IsNoFolder (state q).now → IsNoFolder (after state (removing name entry ++ SyncFolder [] ∷ []) q).now
 one_kind state name q Missing none = settled_kind state q none
 one_kind state name q (File synced unsynced) none = settled_kind (put state name Missing) q (put_kind state name q none)
 one_kind state name q Folder none = settled_kind (put state name Missing) q (put_kind state name q none)
 
-kinds : (state : State) (name : Name) (names : List Name) → HasNoFolders state names → HasNoFolders (after state (evicting_one state name)) names
+kinds : (state : DiskState) (name : Name) (names : List Name) → HasNoFolders state names → HasNoFolders (after state (evicting_one state name)) names
 kinds state name [] none = tt
 kinds state name (q ∷ names) none = (one_kind state name q (state name).now none.0, kinds state name names none.1)
 
@@ -95,13 +94,13 @@ another flushed honest journals later next old mid new run may took served rose 
           let before = run.took h in
           let steps = evicting (state_in old) (names_of run.gone) in
           let one : evicting (after (state_in old) steps) (name ∷ []) ≡ evicting_one (state_in mid) name =
-          append-nil (evicting_one (after (state_in old) steps) name) ∙ ap (λ (s : State). evicting_one s name) (sym before.state) in
+          append-nil (evicting_one (after (state_in old) steps) name) ∙ ap (λ (s : DiskState). evicting_one s name) (sym before.state) in
           let more : evicting (state_in old) (names_of (run.gone ++ next ∷ [])) ≡ steps ++ evicting_one (state_in mid) name =
-          ap (evicting (state_in old)) (names-append run.gone (next ∷ [])) ∙ evicting-append (state_in old) (names_of run.gone) (name ∷ []) ∙ ap (λ (l : List Step). steps ++ l) one in
-          subst (λ (l : List Step). Took old new l) (sym more) (took_then old mid new steps (evicting_one (state_in mid) name) before (took h));
+          ap (evicting (state_in old)) (names-append run.gone (next ∷ [])) ∙ evicting-append (state_in old) (names_of run.gone) (name ∷ []) ∙ ap (λ (l : List DiskStep). steps ++ l) one in
+          subst (λ (l : List DiskStep). Took old new l) (sym more) (took_then old mid new steps (evicting_one (state_in mid) name) before (took h));
       served = λ h none.
           let before = run.served h none in
-          let still = subst (λ (s : State). HasNoFolders s (names_of later)) (sym (took h).state) (kinds (state_in mid) name (names_of later) before.1.1) in
+          let still = subst (λ (s : DiskState). HasNoFolders s (names_of later)) (sym (took h).state) (kinds (state_in mid) name (names_of later) before.1.1) in
           (served h before.1.0 ∙ before.0, still);
       later = omega (arith, run.later, rose);
     }
@@ -112,7 +111,7 @@ took_until old mid new gone next before (inl none) = inl (took_none old mid new 
 took_until old mid new gone next before (inr removed) =
     let steps = evicting (state_in old) (names_of gone) in
     let name = journal_name next.id in
-    inr (subst (λ (s : State). Took old new (steps ++ removing name (s name).now)) before.state (took_then old mid new steps (removing name (state_in mid name).now) before removed))
+    inr (subst (λ (s : DiskState). Took old new (steps ++ removing name (s name).now)) before.state (took_then old mid new steps (removing name (state_in mid name).now) before removed))
 
 -- ---- the end
 

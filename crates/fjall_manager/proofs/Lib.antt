@@ -1,7 +1,7 @@
-pub mod Raising
+mod Raising
 pub mod Going
 pub mod Evicting
-pub mod Rotating
+mod Rotating
 pub mod Telling
-pub mod Placing
+mod Placing
 pub mod Raised

@@ -10,8 +10,8 @@ use Rattle.std.specs.List.Sorted.{IsStrictlySortedBy}
 use Rattle.std.specs.Map.{keys_of, lookup, set_value}
 use Rattle.std.specs.Option.{option_map}
 use Rattle.std.specs.Ordering.{is_eq, match_ordering, nat_cmp}
-use Rattle.fjall_manager.specs.Marks.{Marks}
-use Rattle.fjall_manager.specs.Places.{HasPlace, Places, raising, told}
+use Rattle.fjall_manager.specs.Marks.{JournalMarks}
+use Rattle.fjall_manager.specs.Places.{HasPlace, JournalPlaces, raising, told}
 use Rattle.fjall_manager.proofs.Raising.{by_order, lsn_of-lookup}
 
 -- ---- the order of numbers
@@ -62,7 +62,7 @@ before (d ∷ front) e rest sorted = (all_at (λ y. nat_cmp d.0 y ≡ Less) fron
 
 -- ---- what is told
 
-told_all : (P : ℕ → Type 0) (es : Places) → AllByRecursion P (keys_of es) → AllByRecursion P (keys_of (told es))
+told_all : (P : ℕ → Type 0) (es : JournalPlaces) → AllByRecursion P (keys_of es) → AllByRecursion P (keys_of (told es))
 told_all P [] all = tt
 told_all P ((k, None) ∷ es) all = told_all P es all.1
 told_all P ((k, Some n) ∷ es) all = (all.0, told_all P es all.1)
@@ -71,37 +71,37 @@ told_all P ((k, Some n) ∷ es) all = (all.0, told_all P es all.1)
 abbrev pub place_of : ℕ × ℕ → ℕ × Option ℕ
 place_of mark = (mark.0, Some mark.1)
 
-pub told_places : (marks : Marks) → told (map place_of marks) ≡ marks
+pub told_places : (marks : JournalMarks) → told (map place_of marks) ≡ marks
 told_places [] = refl
-told_places (mark ∷ marks) = ap (λ (l : Marks). mark ∷ l) (told_places marks)
+told_places (mark ∷ marks) = ap (λ (l : JournalMarks). mark ∷ l) (told_places marks)
 
-placed_below : (k : ℕ) (marks : Marks) → IsBelow k marks → IsBelow k (map place_of marks)
+placed_below : (k : ℕ) (marks : JournalMarks) → IsBelow k marks → IsBelow k (map place_of marks)
 placed_below k [] below = tt
 placed_below k (mark ∷ marks) below = (below.0, placed_below k marks below.1)
 
-map_last : (marks : Marks) (mark : ℕ × ℕ) → map place_of (marks ++ mark ∷ []) ≡ map place_of marks ++ place_of mark ∷ []
+map_last : (marks : JournalMarks) (mark : ℕ × ℕ) → map place_of (marks ++ mark ∷ []) ≡ map place_of marks ++ place_of mark ∷ []
 map_last [] mark = refl
-map_last (m ∷ marks) mark = ap (λ (l : Places). place_of m ∷ l) (map_last marks mark)
+map_last (m ∷ marks) mark = ap (λ (l : JournalPlaces). place_of m ∷ l) (map_last marks mark)
 
 -- one watermark more is put into its place
-pub placed_last : (front : Marks) (mark : ℕ × ℕ) (rest : Marks) → IsStrictlySortedBy nat_cmp (keys_of (front ++ mark ∷ rest))
+pub placed_last : (front : JournalMarks) (mark : ℕ × ℕ) (rest : JournalMarks) → IsStrictlySortedBy nat_cmp (keys_of (front ++ mark ∷ rest))
     → insert_entry nat_cmp (map place_of front) mark.0 (Some mark.1) ≡ map place_of (front ++ mark ∷ [])
 placed_last front mark rest sorted =
     insert_last mark.0 (Some mark.1) (map place_of front) (placed_below mark.0 front (before front mark rest sorted)) ∙ sym (map_last front mark)
 
 -- one more is told
-pub told_last : (front : Places) (place : ℕ × Option ℕ) (rest : Places) (n : ℕ) → place.1 ≡ Some n → IsStrictlySortedBy nat_cmp (keys_of (front ++ place ∷ rest))
+pub told_last : (front : JournalPlaces) (place : ℕ × Option ℕ) (rest : JournalPlaces) (n : ℕ) → place.1 ≡ Some n → IsStrictlySortedBy nat_cmp (keys_of (front ++ place ∷ rest))
     → insert_entry nat_cmp (told front) place.0 n ≡ told (front ++ place ∷ [])
 told_last front place rest n is sorted =
     insert_last place.0 n (told front) (told_all (λ x. nat_cmp x place.0 ≡ Less) front (before front place rest sorted))
     ∙ ap (λ o. told front ++ cons_option (option_map (λ lsn. (place.0, lsn)) o) []) (sym is)
     ∙ sym (filter_map-append (λ (p : ℕ × Option ℕ). option_map (λ lsn. (p.0, lsn)) p.1) front (place ∷ []))
 
-append_none : (marks : Marks) → marks ++ [] ≡ marks
+append_none : (marks : JournalMarks) → marks ++ [] ≡ marks
 append_none [] = refl
-append_none (m ∷ marks) = ap (λ (l : Marks). m ∷ l) (append_none marks)
+append_none (m ∷ marks) = ap (λ (l : JournalMarks). m ∷ l) (append_none marks)
 
-pub told_none : (front : Places) (place : ℕ × Option ℕ) → place.1 ≡ None → told (front ++ place ∷ []) ≡ told front
+pub told_none : (front : JournalPlaces) (place : ℕ × Option ℕ) → place.1 ≡ None → told (front ++ place ∷ []) ≡ told front
 told_none front place is =
     filter_map-append (λ (p : ℕ × Option ℕ). option_map (λ lsn. (p.0, lsn)) p.1) front (place ∷ [])
     ∙ ap (λ o. told front ++ cons_option (option_map (λ lsn. (place.0, lsn)) o) []) is
@@ -113,7 +113,7 @@ found_is : {A : Type 0} (o : Option ℕ) → Some o ≡ None → A
 found_is o e = let bad : ⊥ = cc in absurd bad
 
 -- a place without a watermark tells nothing
-told_placed : (id : ℕ) (es : Places) → lookup (is_at (nat_cmp id)) es ≡ None → told (insert_entry nat_cmp es id None) ≡ told es
+told_placed : (id : ℕ) (es : JournalPlaces) → lookup (is_at (nat_cmp id)) es ≡ None → told (insert_entry nat_cmp es id None) ≡ told es
 told_placed id [] none = refl
 told_placed id ((k, o) ∷ es) none =
     (elim (nat_cmp id k) as (λ r. cond (is_eq r) (Some o) (lookup (is_at (nat_cmp id)) es) ≡ None
@@ -127,7 +127,7 @@ is_none : (o : Option (Option ℕ)) (b : Bool) → b ≡ is_some o → b ≡ fal
 is_none None b is isnt = refl
 is_none (Some o) b is isnt = let bad : true ≡ false = sym is ∙ isnt in let none : ⊥ = cc in absurd none
 
-pub told_made : (id : ℕ) (es after : Places) (has : Bool) → has ≡ is_some (lookup (is_at (nat_cmp id)) es) → has ≡ false → after ≡ insert_entry nat_cmp es id None → told after ≡ told es
+pub told_made : (id : ℕ) (es after : JournalPlaces) (has : Bool) → has ≡ is_some (lookup (is_at (nat_cmp id)) es) → has ≡ false → after ≡ insert_entry nat_cmp es id None → told after ≡ told es
 told_made id es after has is isnt after_is = ap told after_is ∙ told_placed id es (is_none (lookup (is_at (nat_cmp id)) es) has is isnt)
 
 -- ---- a watermark raised
@@ -136,20 +136,20 @@ absent : {A : Type 0} (o : Option (Option ℕ)) → o ≡ None → IsSome o → 
 absent None is some = let bad : ⊥ = cc in absurd bad
 absent (Some x) is some = let bad : ⊥ = cc in absurd bad
 
-set_here : (id k v : ℕ) (o : Option ℕ) (es : Places) → Equal ≡ nat_cmp id k → IsAbove k es → (k, v) ∷ told es ≡ insert_entry nat_cmp (told ((k, o) ∷ es)) id v
+set_here : (id k v : ℕ) (o : Option ℕ) (es : JournalPlaces) → Equal ≡ nat_cmp id k → IsAbove k es → (k, v) ∷ told es ≡ insert_entry nat_cmp (told ((k, o) ∷ es)) id v
 set_here id k v None es q above =
     let same : id ≡ k = ranked id k Equal q in
     ap (λ (n : ℕ). (n, v) ∷ told es) (sym same) ∙ sym (insert_first id v (told es) (subst (λ n. IsAbove n (told es)) (sym same) (told_all (λ x. nat_cmp k x ≡ Less) es above)))
 set_here id k v (Some old) es q above = ap (λ r. match_ordering r ((id, v) ∷ (k, old) ∷ told es) ((k, v) ∷ told es) ((k, old) ∷ insert_entry nat_cmp (told es) id v)) q
 
-set_behind : (id k v : ℕ) (o : Option ℕ) (es after : Places) → Greater ≡ nat_cmp id k → told after ≡ insert_entry nat_cmp (told es) id v
+set_behind : (id k v : ℕ) (o : Option ℕ) (es after : JournalPlaces) → Greater ≡ nat_cmp id k → told after ≡ insert_entry nat_cmp (told es) id v
     → told ((k, o) ∷ after) ≡ insert_entry nat_cmp (told ((k, o) ∷ es)) id v
 set_behind id k v None es after q is = is
 set_behind id k v (Some old) es after q is =
-    ap (λ (l : Marks). (k, old) ∷ l) is
+    ap (λ (l : JournalMarks). (k, old) ∷ l) is
     ∙ ap (λ r. match_ordering r ((id, v) ∷ (k, old) ∷ told es) ((k, v) ∷ told es) ((k, old) ∷ insert_entry nat_cmp (told es) id v)) q
 
-told_set : (id v : ℕ) (es : Places) → IsStrictlySortedBy nat_cmp (keys_of es) → HasPlace es id
+told_set : (id v : ℕ) (es : JournalPlaces) → IsStrictlySortedBy nat_cmp (keys_of es) → HasPlace es id
     → told (set_value (is_at (nat_cmp id)) es (Some v)) ≡ insert_entry nat_cmp (told es) id v
 unfolding IsStrictlySortedBy
 told_set id v [] sorted place = let bad : ⊥ = cc in absurd bad
@@ -161,20 +161,20 @@ told_set id v ((k, o) ∷ es) sorted place =
       | Greater ↦ λ q there. set_behind id k v o es (set_value (is_at (nat_cmp id)) es (Some v)) q (told_set id v es sorted.1 there)
     ]) refl place
 
-found_here : (id k : ℕ) (o : Option ℕ) (es : Places) → Equal ≡ nat_cmp id k → IsAbove k es → lookup (is_at (nat_cmp id)) (told ((k, o) ∷ es)) ≡ o
+found_here : (id k : ℕ) (o : Option ℕ) (es : JournalPlaces) → Equal ≡ nat_cmp id k → IsAbove k es → lookup (is_at (nat_cmp id)) (told ((k, o) ∷ es)) ≡ o
 found_here id k None es q above =
     let same : id ≡ k = ranked id k Equal q in
     not_above id (told es) (subst (λ n. IsAbove n (told es)) (sym same) (told_all (λ x. nat_cmp k x ≡ Less) es above))
 found_here id k (Some n) es q above = ap (λ r. cond (is_eq r) (Some n) (lookup (is_at (nat_cmp id)) (told es))) (sym q)
 
-found_behind : (id k : ℕ) (o : Option ℕ) (es : Places) → Greater ≡ nat_cmp id k → lookup (is_at (nat_cmp id)) (told ((k, o) ∷ es)) ≡ lookup (is_at (nat_cmp id)) (told es)
+found_behind : (id k : ℕ) (o : Option ℕ) (es : JournalPlaces) → Greater ≡ nat_cmp id k → lookup (is_at (nat_cmp id)) (told ((k, o) ∷ es)) ≡ lookup (is_at (nat_cmp id)) (told es)
 found_behind id k None es q = refl
 found_behind id k (Some n) es q = ap (λ r. cond (is_eq r) (Some n) (lookup (is_at (nat_cmp id)) (told es))) (sym q)
 
 one_found : (a b : Option ℕ) → Some a ≡ Some b → a ≡ b
 one_found a b e = ap (λ (o : Option (Option ℕ)). unwrap_or o a) e
 
-told_found : (id : ℕ) (o : Option ℕ) (es : Places) → IsStrictlySortedBy nat_cmp (keys_of es) → lookup (is_at (nat_cmp id)) es ≡ Some o → lookup (is_at (nat_cmp id)) (told es) ≡ o
+told_found : (id : ℕ) (o : Option ℕ) (es : JournalPlaces) → IsStrictlySortedBy nat_cmp (keys_of es) → lookup (is_at (nat_cmp id)) es ≡ Some o → lookup (is_at (nat_cmp id)) (told es) ≡ o
 unfolding IsStrictlySortedBy
 told_found id o [] sorted found = found_is o (sym found)
 told_found id o ((k, p) ∷ es) sorted found =
@@ -188,7 +188,7 @@ told_found id o ((k, p) ∷ es) sorted found =
 pub lacking : {A : Type 0} (o : Option (Option ℕ)) → None ≡ o → IsSome o → A
 lacking o none some = absent o (sym none) some
 
-pub told_raised : (id lsn : ℕ) (o : Option ℕ) (es : Places) → IsStrictlySortedBy nat_cmp (keys_of es) → lookup (is_at (nat_cmp id)) es ≡ Some o
+pub told_raised : (id lsn : ℕ) (o : Option ℕ) (es : JournalPlaces) → IsStrictlySortedBy nat_cmp (keys_of es) → lookup (is_at (nat_cmp id)) es ≡ Some o
     → told (set_value (is_at (nat_cmp id)) es (Some (max (unwrap_or o 0) lsn))) ≡ raising lsn id (told es)
 told_raised id lsn o es sorted found =
     told_set id (max (unwrap_or o 0) lsn) es sorted (subst IsSome (sym found) refl)

@@ -11,7 +11,7 @@ use Rattle.std.specs.List.{AllByRecursion}
 use Rattle.std.proofs.lemmas.Map.Keys.{IsStrictlyIncreasing-from_sorted}
 use Rattle.std.specs.List.Sorted.{IsStrictlySortedBy, IsStrictlyIncreasing}
 use Rattle.std.proofs.lemmas.Bool.Decides.{nat_tests}
-use Rattle.fjall_manager.specs.Marks.{IsRaised, lsn_of, raised}
+use Rattle.fjall_manager.specs.Marks.{IsRaised, lsn_of, raised_mark}
 
 pub test_true : (k x : ℕ) → k ≡ x → nat_eq k x ≡ true
 test_true k x e = grind (arith, nat_tests)
@@ -35,7 +35,7 @@ lsn_of-lookup id [] = refl
 lsn_of-lookup id (mark ∷ marks) =
     ap (λ b. cond b (Some mark.1) (lookup (is_at (nat_cmp id)) marks)) (same_test id mark.0) ∙ ap (λ o. cond (nat_eq id mark.0) (Some mark.1) o) (lsn_of-lookup id marks)
 
-pub raised_is : (o : Option ℕ) (lsn : ℕ) → Some (max (unwrap_or o 0) lsn) ≡ raised o lsn
+pub raised_is : (o : Option ℕ) (lsn : ℕ) → Some (max (unwrap_or o 0) lsn) ≡ raised_mark o lsn
 raised_is None lsn = ap (λ (n : ℕ). Some n) (omega arith)
 raised_is (Some old) lsn = refl
 

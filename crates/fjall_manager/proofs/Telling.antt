@@ -8,23 +8,23 @@ use Rattle.std.proofs.lemmas.List.Elements.{All-cons, All-weaker}
 use Rattle.std.proofs.lemmas.List.Folds.{Any-from_list_any, list_any-from_Any}
 use Rattle.fjall_base.proofs.Names.{bool_cases}
 use Rattle.fjall_journal.specs.Batches.{Shown}
-use Rattle.fjall_manager.specs.Marks.{IsRaised, Marks, lsn_of, raised}
+use Rattle.fjall_manager.specs.Marks.{IsRaised, JournalMarks, lsn_of, raised_mark}
 use Rattle.fjall_manager.specs.Telling.{AreMarksOf, AreRaised, IsGreatest, IsNoLess, NoneFell, changed_by, greatest, is_among}
 
 -- ---- raised by one batch
 
-raised_twice : (o : Option ℕ) (number : ℕ) → raised (raised o number) number ≡ raised o number
+raised_twice : (o : Option ℕ) (number : ℕ) → raised_mark (raised_mark o number) number ≡ raised_mark o number
 raised_twice None number = ap Some (omega arith)
 raised_twice (Some old) number = ap Some (omega arith)
 
-raised_swap : (o : Option ℕ) (number other : ℕ) → raised (raised o other) number ≡ raised (raised o number) other
+raised_swap : (o : Option ℕ) (number other : ℕ) → raised_mark (raised_mark o other) number ≡ raised_mark (raised_mark o number) other
 raised_swap None number other = ap Some (omega arith)
 raised_swap (Some lsn) number other = ap Some (omega arith)
 
 abbrev raised_where : Bool → Option ℕ → ℕ → Option ℕ
-raised_where test o number = cond test (raised o number) o
+raised_where test o number = cond test (raised_mark o number) o
 
-twice_where : (test : Bool) (o : Option ℕ) (number : ℕ) → raised (raised_where test o number) number ≡ raised o number
+twice_where : (test : Bool) (o : Option ℕ) (number : ℕ) → raised_mark (raised_where test o number) number ≡ raised_mark o number
 twice_where true o number = raised_twice o number
 twice_where false o number = refl
 
@@ -55,13 +55,13 @@ any_still test [] id not = ap (λ b. b || false) not
 any_still test (x ∷ ids) id not = ap (λ b. test x || b) (any_still test ids id not)
 
 -- one keyspace more is raised
-pub raised_more : (ids : List ℕ) (id number : ℕ) (old mid new : Marks) → AreRaised ids number old mid → IsRaised id number mid new → AreRaised (ids ++ id ∷ []) number old new
+pub raised_more : (ids : List ℕ) (id number : ℕ) (old mid new : JournalMarks) → AreRaised ids number old mid → IsRaised id number mid new → AreRaised (ids ++ id ∷ []) number old new
 raised_more ids id number old mid new so_far raises q =
     let where_more : Bool → Option ℕ = λ b. raised_where b (lsn_of old q) number in
     elim (bool_cases (id == q)) [
       | inl is ↦
-          let here : lsn_of new q ≡ raised (lsn_of mid q) number = subst (λ (n : ℕ). lsn_of new n ≡ raised (lsn_of mid n) number) (same_id id q is) raises.here in
-          here ∙ ap (λ (o : Option ℕ). raised o number) (so_far q) ∙ twice_where (is_among q ids) (lsn_of old q) number ∙ sym (ap where_more (any_here (λ other. other == q) ids id is))
+          let here : lsn_of new q ≡ raised_mark (lsn_of mid q) number = subst (λ (n : ℕ). lsn_of new n ≡ raised_mark (lsn_of mid n) number) (same_id id q is) raises.here in
+          here ∙ ap (λ (o : Option ℕ). raised_mark o number) (so_far q) ∙ twice_where (is_among q ids) (lsn_of old q) number ∙ sym (ap where_more (any_here (λ other. other == q) ids id is))
       | inr not ↦ raises.others q (λ same. other_id id q not (sym same)) ∙ so_far q ∙ sym (ap where_more (any_still (λ other. other == q) ids id not))
     ]
 
@@ -75,7 +75,7 @@ greatest-last id (x ∷ batches) b =
     ap (λ (o : Option ℕ). raised_where test o x.number) (greatest-last id batches b) ∙ swap_where test (is_among id (changed_by b)) (greatest id batches) x.number b.number
 
 -- watermarks that a batch's number raised for each keyspace that it changes tell of it too
-pub marks_more : (front : List Shown) (b : Shown) (old new : Marks) → AreRaised (changed_by b) b.number old new → AreMarksOf front old → AreMarksOf (front ++ b ∷ []) new
+pub marks_more : (front : List Shown) (b : Shown) (old new : JournalMarks) → AreRaised (changed_by b) b.number old new → AreMarksOf front old → AreMarksOf (front ++ b ∷ []) new
 marks_more front b old new raises are id = raises id ∙ ap (λ (o : Option ℕ). raised_where (is_among id (changed_by b)) o b.number) (are id) ∙ sym (greatest-last id front b)
 
 -- ---- the greatest number
@@ -115,7 +115,7 @@ module _ (b : Shown) (batches : List Shown) (id : ℕ) where
   up_to_more number more le all first =
       All-cons (IsUpTo more) b batches (λ changes. first) (All-weaker (IsUpTo number) (IsUpTo more) (λ c up changes. let n = up changes in omega (arith, n, le)) batches all)
 
-  changed : (o : Option ℕ) → Changes b → IsGreatest batches id o → IsGreatest (b ∷ batches) id (raised o b.number)
+  changed : (o : Option ℕ) → Changes b → IsGreatest batches id o → IsGreatest (b ∷ batches) id (raised_mark o b.number)
   changed None has none = (
     any_first (HasNumber b.number) b batches (has, refl),
     All-cons (IsUpTo b.number) b batches (λ changes. omega arith) (All-weaker (λ c. Changes c → ⊥) (IsUpTo b.number) (λ c no changes. absurd (no changes)) batches none),
@@ -145,7 +145,7 @@ is_greatest : (batches : List Shown) (id : ℕ) → IsGreatest batches id (great
 is_greatest [] id = λ k d lt. absurd (omega (arith, lt))
 is_greatest (b ∷ batches) id = one_before b batches id (greatest id batches) (is_greatest batches id)
 
-pub mark_is_greatest : (batches : List Shown) (marks : Marks) → AreMarksOf batches marks → (id : ℕ) → IsGreatest batches id (lsn_of marks id)
+pub mark_is_greatest : (batches : List Shown) (marks : JournalMarks) → AreMarksOf batches marks → (id : ℕ) → IsGreatest batches id (lsn_of marks id)
 mark_is_greatest batches marks are id = subst (IsGreatest batches id) (sym (are id)) (is_greatest batches id)
 
 -- ---- none falls
@@ -160,8 +160,8 @@ less_on (Some a) None c ab bc = absurd ab
 less_on (Some a) (Some b) None ab bc = absurd bc
 less_on (Some a) (Some b) (Some c) ab bc = omega (arith, ab, bc)
 
-pub none_fell : (marks : Marks) → NoneFell marks marks
+pub none_fell : (marks : JournalMarks) → NoneFell marks marks
 none_fell marks id = no_less (lsn_of marks id)
 
-pub fell_on : (old mid new : Marks) → NoneFell old mid → NoneFell mid new → NoneFell old new
+pub fell_on : (old mid new : JournalMarks) → NoneFell old mid → NoneFell mid new → NoneFell old new
 fell_on old mid new first then id = less_on (lsn_of old id) (lsn_of mid id) (lsn_of new id) (first id) (then id)

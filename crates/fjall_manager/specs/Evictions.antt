@@ -1,21 +1,21 @@
 -- What the removal of sealed journals does to a disk.
 use Rattle.std.specs.Prelude.{◌≡◌, ◌⊎◌, ℕ, Bool, IsTrue, List, [], ◌∷◌, ◌++◌}
 use Rattle.std.specs.List.{list_all}
-use Rattle.fjall_base.specs.Disk.{Name, State, Step, SyncFolder, Meaning, Took, IsNoFolder, after, removing, state_in}
+use Rattle.fjall_base.specs.Disk.{Name, DiskState, DiskStep, SyncFolder, Meaning, Took, IsNoFolder, after, removing, state_in}
 use Rattle.fjall_files.specs.Names.{journal_name}
 use Rattle.fjall_manager.specs.Journals.{Sealed, may_go, names_of}
 
 -- a file of the root is removed, where it is there, and the root is synced
-abbrev pub evicting_one : State → Name → List Step
+abbrev pub evicting_one : DiskState → Name → List DiskStep
 evicting_one state name = removing name (state name).now ++ SyncFolder [] ∷ []
 
 -- the same for each of these, in their order
-abbrev pub evicting : State → List Name → List Step
+abbrev pub evicting : DiskState → List Name → List DiskStep
 evicting state [] = []
 evicting state (name ∷ names) = evicting_one state name ++ evicting (after state (evicting_one state name)) names
 
 -- no folder stands at any of these names
-abbrev pub HasNoFolders : State → List Name → Type 0
+abbrev pub HasNoFolders : DiskState → List Name → Type 0
 HasNoFolders state [] = Unit {0}
 HasNoFolders state (name ∷ names) = IsNoFolder (state name).now × HasNoFolders state names
 

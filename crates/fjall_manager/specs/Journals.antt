@@ -3,20 +3,20 @@ use Rattle.std.specs.Prelude.{ℕ, ◌+◌, Bool, List, [], ◌∷◌, ◌++◌,
 use Rattle.fjall_base.specs.Disk.{Name}
 use Rattle.fjall_files.specs.Names.{journal_name}
 use Rattle.fjall_journal.specs.Writer.{counted}
-use Rattle.fjall_manager.specs.Marks.{Marks, all_flushed, unflushed}
+use Rattle.fjall_manager.specs.Marks.{JournalMarks, all_flushed, unflushed}
 
 -- a journal that is appended to no more: its number, its file's length in bytes, and its watermarks
 pub record Sealed : Type 0 where
   pub id : ℕ
   pub len : ℕ
-  pub watermarks : Marks
+  pub watermarks : JournalMarks
 
 -- The journals of an engine: the sealed ones, the oldest first, the active one's number, and up to which number each keyspace
 -- has changes in that.
 pub record Journals : Type 0 where
   pub sealed : List Sealed
   pub active : ℕ
-  pub watermarks : Marks
+  pub watermarks : JournalMarks
 
 -- the active one, whose file has so many bytes, is sealed, and an empty one of the next number is active
 abbrev pub next_journal : ℕ → Journals → Journals

@@ -2,10 +2,10 @@
 use Rattle.std.specs.Prelude.{ℕ, Bool, List, nat_le}
 use Rattle.std.specs.List.{list_any}
 use Rattle.fjall_manager.specs.Journals.{Sealed}
-use Rattle.fjall_manager.specs.Marks.{Marks}
+use Rattle.fjall_manager.specs.Marks.{JournalMarks}
 
 -- whether the watermark of some keyspace is this number or a greater one
-abbrev pub reaches : Marks → ℕ → Bool
+abbrev pub reaches : JournalMarks → ℕ → Bool
 reaches marks number = list_any (λ mark. nat_le number mark.1) marks
 
 -- whether one of these journals has such a watermark

@@ -24,9 +24,9 @@ pub struct ActiveWatermarks {
 impl Model for ActiveWatermarks {
     ghost use Rattle.std.specs.Ordering.{nat_cmp};
     ghost use Rattle.std.specs.BTreeMap.{IsOrdered};
-    ghost use Rattle.fjall_manager.specs.Places.{Places};
+    ghost use Rattle.fjall_manager.specs.Places.{JournalPlaces};
 
-    ghost Value = { Places };
+    ghost Value = { JournalPlaces };
 
     ghost view = { λ w. w.lsns.entries };
 

@@ -32,9 +32,9 @@ pub struct Watermarks {
 impl Model for Watermarks {
     ghost use Rattle.std.specs.Ordering.{nat_cmp};
     ghost use Rattle.std.specs.BTreeMap.{IsOrdered};
-    ghost use Rattle.fjall_manager.specs.Marks.{Marks};
+    ghost use Rattle.fjall_manager.specs.Marks.{JournalMarks};
 
-    ghost Value = { Marks };
+    ghost Value = { JournalMarks };
 
     ghost view = { λ w. w.lsns.entries };
 

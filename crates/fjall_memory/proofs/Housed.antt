@@ -1,17 +1,17 @@
 -- The folder of each name that is there goes on standing.
 use Rattle.std.proofs.Common.{◌≡◌, ◌≢◌, inl, inr, ℕ, [], sym, ◌∙◌, ap, subst}
 use Rattle.std.specs.Str.{bytes_eq}
-use Rattle.fjall_base.specs.Disk.{Name, Entry, Missing, Folder, Place, State, HasFolder, IsEmpty, put, alter, settle, folder_of, disk_of}
+use Rattle.fjall_base.specs.Disk.{Name, DiskEntry, Missing, Folder, Place, DiskState, HasFolder, IsEmpty, put, alter, settle, folder_of, disk_of}
 use Rattle.fjall_base.specs.Crash.{IsHoused, keeping, crashed}
 use Rattle.fjall_base.proofs.Names.{bool_cases, same}
 use Rattle.fjall_base.proofs.States.{alter-same, alter-other, put-same, put-other, settle-in, settle-out}
 
 -- where no name comes and no folder goes
-pub housed_along : (s t : State) → ((q : Name) → (t q).now ≢ Missing → (s q).now ≢ Missing) → ((q : Name) → (s q).now ≡ Folder → (t q).now ≡ Folder) → IsHoused s → IsHoused t
+pub housed_along : (s t : DiskState) → ((q : Name) → (t q).now ≢ Missing → (s q).now ≢ Missing) → ((q : Name) → (s q).now ≡ Folder → (t q).now ≡ Folder) → IsHoused s → IsHoused t
 housed_along s t there folder housed = record { each = λ q stands inner. folder (folder_of q) (housed.each q (there q stands) inner) }
 
 -- a change that makes no entry out of none, and leaves folders
-housed_alter : (state : State) (name : Name) (change : Entry → Entry) → change Missing ≡ Missing → change Folder ≡ Folder → IsHoused state → IsHoused (alter state name change)
+housed_alter : (state : DiskState) (name : Name) (change : DiskEntry → DiskEntry) → change Missing ≡ Missing → change Folder ≡ Folder → IsHoused state → IsHoused (alter state name change)
 housed_alter state name change on_missing on_folder = housed_along state (alter state name change) there folder
   where
     there : (q : Name) → (alter state name change q).now ≢ Missing → (state q).now ≢ Missing
@@ -32,10 +32,10 @@ housed_alter state name change on_missing on_folder = housed_along state (alter 
       | inr not ↦ ap (λ (p : Place). p.now) (alter-other state name change q not) ∙ stands
     ]
 
-pub housed_altered : (old new : State) (name : Name) (change : Entry → Entry) → change Missing ≡ Missing → change Folder ≡ Folder → new ≡ alter old name change → IsHoused old → IsHoused new
+pub housed_altered : (old new : DiskState) (name : Name) (change : DiskEntry → DiskEntry) → change Missing ≡ Missing → change Folder ≡ Folder → new ≡ alter old name change → IsHoused old → IsHoused new
 housed_altered old new name change on_missing on_folder is housed = subst IsHoused (sym is) (housed_alter old name change on_missing on_folder housed)
 
-pub housed_settle : (state : State) (folder : Name) → IsHoused state → IsHoused (settle state folder)
+pub housed_settle : (state : DiskState) (folder : Name) → IsHoused state → IsHoused (settle state folder)
 housed_settle state folder = housed_along state (settle state folder) (λ q stands none. stands (now q ∙ none)) (λ q stands. now q ∙ stands)
   where
     now : (q : Name) → (settle state folder q).now ≡ (state q).now
@@ -45,7 +45,7 @@ housed_settle state folder = housed_along state (settle state folder) (λ q stan
     ]
 
 -- an entry is put where none was, in a folder
-pub housed_made : (state : State) (name : Name) (entry : Entry) → (state name).now ≡ Missing → HasFolder state name → IsHoused state → IsHoused (put state name entry)
+pub housed_made : (state : DiskState) (name : Name) (entry : DiskEntry) → (state name).now ≡ Missing → HasFolder state name → IsHoused state → IsHoused (put state name entry)
 housed_made state name entry none has housed = record { each = made }
   where
     differ : Missing ≡ Folder → ⊥
@@ -68,7 +68,7 @@ housed_made state name entry none has housed = record { each = made }
         ]
 
 -- a file or an empty folder is taken away
-pub housed_removed : (state : State) (name : Name) → ((state name).now ≡ Folder → IsEmpty state name) → IsHoused state → IsHoused (put state name Missing)
+pub housed_removed : (state : DiskState) (name : Name) → ((state name).now ≡ Folder → IsEmpty state name) → IsHoused state → IsHoused (put state name Missing)
 housed_removed state name empty housed = record { each = λ q stands inner. removed q stands inner }
   where
     removed : (q : Name) → (put state name Missing q).now ≢ Missing → folder_of q ≢ [] → (put state name Missing (folder_of q)).now ≡ Folder
@@ -87,5 +87,5 @@ housed_removed state name empty housed = record { each = λ q stands inner. remo
           ]
     ]
 
-pub housed_crashed : (keep : ℕ) (state : State) → IsHoused state → IsHoused (disk_of (crashed keep state))
+pub housed_crashed : (keep : ℕ) (state : DiskState) → IsHoused state → IsHoused (disk_of (crashed keep state))
 housed_crashed keep state = housed_along state (disk_of (crashed keep state)) (λ q stands none. stands (ap (keeping keep) none)) (λ q stands. ap (keeping keep) stands)

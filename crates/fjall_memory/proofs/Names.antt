@@ -4,11 +4,11 @@ use Rattle.std.specs.List.{position_or_len}
 use Rattle.std.proofs.lemmas.Bool.Decides.{nat_tests}
 use Rattle.std.proofs.lemmas.List.Quantifiers.{position-Some}
 use Rattle.std.specs.Str.{bytes_eq}
-use Rattle.fjall_base.specs.Disk.{Name, Entry, Missing, File, Folder, Place, State, IsThere, standing, put, alter}
+use Rattle.fjall_base.specs.Disk.{Name, DiskEntry, Missing, File, Folder, Place, DiskState, IsThere, standing, put, alter}
 use Rattle.fjall_memory.specs.declared.node.Named.{Named}
 use Rattle.fjall_memory.specs.declared.node.FileChange.{FileChange}
 use Rattle.fjall_memory.specs.declared.node.FileChange.TheVariants.{Append, Sync, Cut}
-use Rattle.fjall_memory.specs.Memory.{entry_of, place_of, state_of, Fits, IsKind}
+use Rattle.fjall_memory.specs.Memory.{entry_of, place_of, state_of, FitsEntry, IsKind}
 use Rattle.fjall_memory.specs.declared.node.Kind.{Kind}
 use Rattle.fjall_memory.specs.declared.node.Kind.TheVariants as kinds
 use Rattle.fjall_base.proofs.Names.{bool_cases, same, same_test}
@@ -93,7 +93,7 @@ position_none : (p : Named → Bool) (names : List Named) → position p names �
 position_none p names is = none_before p names (grind (arith, nat_tests))
 
 -- a change of the entry of that name
-pub alter_names : (names : List Named) (q : Name) (i : ℕ) (d new : Named) (f : Entry → Entry) → position (is_named q) names ≡ Some i → d ≡ get_or names i d
+pub alter_names : (names : List Named) (q : Name) (i : ℕ) (d new : Named) (f : DiskEntry → DiskEntry) → position (is_named q) names ≡ Some i → d ≡ get_or names i d
     → string_bytes new.name ≡ string_bytes d.name → entry_of new.now ≡ f (entry_of d.now)
     → map entry_of new.older.items ≡ map entry_of d.older.items
     → state_of (set names i new) ≡ alter (state_of names) q f
@@ -109,7 +109,7 @@ alter_names names q i d new f at item name_same now_is older_same =
     λ j r. each r j
 
 -- another entry at that name, where it has one
-pub put_names : (names : List Named) (q : Name) (i : ℕ) (d new : Named) (entry : Entry) → position (is_named q) names ≡ Some i → d ≡ get_or names i d
+pub put_names : (names : List Named) (q : Name) (i : ℕ) (d new : Named) (entry : DiskEntry) → position (is_named q) names ≡ Some i → d ≡ get_or names i d
     → string_bytes new.name ≡ string_bytes d.name → entry_of new.now ≡ entry
     → map entry_of new.older.items ≡ map entry_of d.older.items ++ entry_of d.now ∷ []
     → state_of (set names i new) ≡ put (state_of names) q entry
@@ -125,7 +125,7 @@ put_names names q i d new entry at item name_same now_is older_is =
     λ j r. each r j
 
 -- a new entry, where the name has none
-pub put_new : (names : List Named) (q : Name) (new : Named) (entry : Entry) → position (is_named q) names ≡ None
+pub put_new : (names : List Named) (q : Name) (new : Named) (entry : DiskEntry) → position (is_named q) names ≡ None
     → string_bytes new.name ≡ q → entry_of new.now ≡ entry → map entry_of new.older.items ≡ Missing ∷ []
     → state_of (names ++ new ∷ []) ≡ put (state_of names) q entry
 unfolding put
@@ -175,16 +175,16 @@ present (x ∷ xs) q there = elim (bool_cases (bytes_eq q (string_bytes x.name))
 ]
 
 -- no folder that is not the root is there where something else stands
-pub not_there : (state : State) (folder : Name) → folder ≢ [] → ((state folder).now ≡ Folder → ⊥) → IsTrue false ↔ IsThere (standing state) folder
+pub not_there : (state : DiskState) (folder : Name) → folder ≢ [] → ((state folder).now ≡ Folder → ⊥) → IsTrue false ↔ IsThere (standing state) folder
 not_there state folder inner none = (λ bad. cc, λ there. elim there [ inl root ↦ absurd (inner root) | inr stands ↦ absurd (none stands) ])
 
 -- no change fits where nothing stands
-pub never_fits : (change : FileChange) → IsTrue false ↔ Fits change Missing
+pub never_fits : (change : FileChange) → IsTrue false ↔ FitsEntry change Missing
 never_fits (Append bytes) = (λ bad. cc, λ fits. absurd fits)
 never_fits Sync = (λ bad. cc, λ fits. absurd fits)
 never_fits (Cut len) = (λ bad. cc, λ fits. absurd fits)
 
-pub no_folder : (kind : Kind) (entry : Entry) → IsKind kind entry → (kind ≡ kinds.Folder → ⊥) → entry ≡ Folder → ⊥
+pub no_folder : (kind : Kind) (entry : DiskEntry) → IsKind kind entry → (kind ≡ kinds.Folder → ⊥) → entry ≡ Folder → ⊥
 no_folder kinds.Missing entry is not folder = let both : Missing ≡ Folder = sym is ∙ folder in cc
 no_folder kinds.File entry is not folder = let both : File is.0 is.1 ≡ Folder = sym is.2 ∙ folder in cc
 no_folder kinds.Folder entry is not folder = not refl

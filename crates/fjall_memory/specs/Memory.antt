@@ -3,7 +3,7 @@ use Rattle.std.specs.Prelude.{◌≡◌, ◌⊎◌, ℕ, List, [], ◌∷◌, ta
 use Rattle.std.specs.declared.io.ErrorKind.TheVariants.{NotFound}
 use Rattle.fjall_base.specs.declared.error.Error.{Error}
 use Rattle.fjall_base.specs.declared.error.Error.TheVariants.{Io, OutOfMemory}
-use Rattle.fjall_base.specs.Disk.{Name, placed, Entry, Missing, File, Folder, Place, State, Step, Put, Append, Sync, Loosen, Cut, SyncFolder, appended, all_synced, cut_to, IsFile, IsLong}
+use Rattle.fjall_base.specs.Disk.{Name, placed, DiskEntry, Missing, File, Folder, Place, DiskState, DiskStep, Put, Append, Sync, Loosen, Cut, SyncFolder, appended, all_synced, cut_to, IsFile, IsLong}
 use Rattle.fjall_memory.specs.declared.node.Node.{Node}
 use Rattle.fjall_memory.specs.declared.node.Node as node
 use Rattle.fjall_memory.specs.declared.node.Named.{Named}
@@ -15,7 +15,7 @@ use Rattle.fjall_memory.specs.declared.node.FileChange.{FileChange}
 use Rattle.fjall_memory.specs.declared.node.FileChange as of_file
 
 -- what stands at a name
-abbrev pub entry_of : Node → Entry
+abbrev pub entry_of : Node → DiskEntry
 entry_of node.TheVariants.Missing = Missing
 entry_of (node.TheVariants.File bytes synced) = File (take synced bytes.items) (drop synced bytes.items)
 entry_of node.TheVariants.Folder = Folder
@@ -29,11 +29,11 @@ abbrev pub named_place : Named → Name × Place
 named_place named = (string_bytes named.name, place_of named)
 
 -- what stands at a name: the first of that name counts
-abbrev pub state_of : List Named → State
+abbrev pub state_of : List Named → DiskState
 state_of names = placed (map named_place names)
 
 -- the steps that a change is
-abbrev pub steps_of : Change → List Step
+abbrev pub steps_of : Change → List DiskStep
 steps_of (taken.TheVariants.Put name node) = Put name.now (entry_of node.now) ∷ []
 steps_of (taken.TheVariants.Append name bytes) = Append name.now bytes.now ∷ []
 steps_of (taken.TheVariants.Sync name) = Sync name.now ∷ []
@@ -41,16 +41,16 @@ steps_of (taken.TheVariants.Cut name len) = Loosen name.now len ∷ Cut name.now
 steps_of (taken.TheVariants.SyncFolder folder) = SyncFolder folder.now ∷ []
 
 -- what the change makes of an entry
-abbrev pub changed : FileChange → Entry → Entry
+abbrev pub changed : FileChange → DiskEntry → DiskEntry
 changed (of_file.TheVariants.Append bytes) = appended bytes.now
 changed of_file.TheVariants.Sync = all_synced
 changed (of_file.TheVariants.Cut len) = cut_to len
 
 -- the change can be made of such an entry
-abbrev pub Fits : FileChange → Entry → Type 0
-Fits (of_file.TheVariants.Append bytes) = IsFile
-Fits of_file.TheVariants.Sync = IsFile
-Fits (of_file.TheVariants.Cut len) = IsLong len
+abbrev pub FitsEntry : FileChange → DiskEntry → Type 0
+FitsEntry (of_file.TheVariants.Append bytes) = IsFile
+FitsEntry of_file.TheVariants.Sync = IsFile
+FitsEntry (of_file.TheVariants.Cut len) = IsLong len
 
 -- the change takes no memory
 abbrev pub TakesNone : FileChange → Type 0
@@ -59,7 +59,7 @@ TakesNone of_file.TheVariants.Sync = Unit {0}
 TakesNone (of_file.TheVariants.Cut len) = Unit {0}
 
 -- the entry is of that kind
-abbrev pub IsKind : Kind → Entry → Type 0
+abbrev pub IsKind : Kind → DiskEntry → Type 0
 IsKind kind.TheVariants.Missing entry = entry ≡ Missing
 IsKind kind.TheVariants.File entry = (synced : List ℕ) × (unsynced : List ℕ) × (entry ≡ File synced unsynced)
 IsKind kind.TheVariants.Folder entry = entry ≡ Folder

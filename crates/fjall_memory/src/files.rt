@@ -1,7 +1,7 @@
 //! Named entries, and the history of their changes.
 
 ghost use Rattle.std.specs.Prelude.{◌≡◌, ◌≢◌, ◌↔◌, [], ◌∷◌, IfOk, IfErr, IsOk, IsOkUnless, OnOk, OnErr, IsTrue};
-ghost use Rattle.fjall_base.specs.Disk.{Took, Append, Sync, Loosen, Cut, Put, SyncFolder, HasFolder, IsThere, standing, put, Reads, IsFile, IsLong, IsNoFile, IsNoFolder, CanCreate, CanMakeFolder, CanRemoveFolder};
+ghost use Rattle.fjall_base.specs.Disk.{Took, Append, Sync, Loosen, Cut, Put, SyncFolder, HasFolder, IsThere, standing, put, ReadsFile, IsFile, IsLong, IsNoFile, IsNoFolder, CanCreate, CanMakeFolder, CanRemoveFolder};
 ghost use Rattle.fjall_memory.specs.Memory.{entry_of, IsKind, IsRefusedUnless, state_of};
 ghost use Rattle.fjall_base.specs.Crash.{IsHoused};
 
@@ -35,7 +35,7 @@ impl Files {
         alloc: Global,
         name: &str,
     ) -> std::result::Result<Option<Vec<u8>>, AllocError>
-        ensures { IfOk result (Reads (state_of self.now.names.items name.now).now) }
+        ensures { IfOk result (ReadsFile (state_of self.now.names.items name.now).now) }
     {
         read_at(alloc, self.names.as_slice(), name)
     }

@@ -2,7 +2,7 @@
 
 ghost use Rattle.std.specs.Prelude.{◌≡◌, List, [], ◌++◌};
 ghost use Rattle.std.specs.Borrow.{ftrue};
-ghost use Rattle.fjall_base.specs.Disk.{Step};
+ghost use Rattle.fjall_base.specs.Disk.{DiskStep};
 ghost use Rattle.fjall_memory.specs.History.{coded_steps};
 
 use crate::node::Node;
@@ -11,7 +11,7 @@ use std::marker::Model;
 /// The steps that a disk took, in order. They exist in the proofs alone: the value has no bytes.
 #[derive(Drop)]
 pub struct History {
-    pub ghost steps: { List Step } by { coded_steps },
+    pub ghost steps: { List DiskStep } by { coded_steps },
 }
 
 impl Model for History {

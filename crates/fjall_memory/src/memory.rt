@@ -1,9 +1,7 @@
 //! A disk in memory, for tests of crashes and of faults.
 
 ghost use Rattle.std.specs.Prelude.{◌≡◌, ◌≢◌, [], ◌∷◌, true, map, IfOk, IsOk, IsOkUnless, OnErr, OnOk};
-ghost use Rattle.fjall_base.specs.Disk.{IsImage, disk_of, state_in};
-ghost use Rattle.fjall_base.specs.Disk.{Append, Cut, File, Folder, HasCause, Judged, Loosen, OnlyFaults, Sync, SyncFolder, Took, TookCut, TookOrNot, TookPart, making, removing};
-ghost use Rattle.fjall_base.specs.Disk.{CanCreate, CanMakeFolder, CanRemoveFolder, HasFolder, IsEmpty, IsFile, IsLong, IsNoFile, IsNoFolder, IsThere, Lists, Reads, ReadsAt, standing};
+ghost use Rattle.fjall_base.specs.Disk.{IsImage, disk_of, state_in, Append, Cut, File, Folder, HasCause, Judged, Loosen, OnlyFaults, Sync, SyncFolder, Took, TookCut, TookOrNot, TookPart, making, removing, CanCreate, CanMakeFolder, CanRemoveFolder, HasFolder, IsEmpty, IsFile, IsLong, IsNoFile, IsNoFolder, IsThere, Lists, ReadsFile, ReadsAt, standing};
 ghost use Rattle.fjall_base.specs.Crash.{crashed};
 ghost use Rattle.fjall_memory.specs.Memory.{named_place};
 
@@ -111,7 +109,7 @@ impl Disk for MemoryDisk {
     }
 
     fn read(&mut self, alloc: Global, name: &str) -> Result<Option<Vec<u8>>>
-        ensures found { IfOk result (Reads (state_in (meaning_in self.old) name.now).now) }
+        ensures found { IfOk result (ReadsFile (state_in (meaning_in self.old) name.now).now) }
         ensures same { Took (meaning_in self.old) (meaning_in self.new) [] }
         ensures judged { (meaning_in self.new).misuses ≡ (meaning_in self.old).misuses }
         ensures cause { HasCause (meaning_in self.old) (meaning_in self.new) result }

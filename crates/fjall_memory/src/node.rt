@@ -5,8 +5,8 @@ ghost use Rattle.std.specs.Prelude.{List, All, AllPairs, Any, ◌≢◌, ◌≡�
 ghost use Rattle.std.specs.Bool.{OnTrue, OnFalse};
 ghost use Rattle.std.specs.List.{list_any};
 ghost use Rattle.std.specs.Str.{bytes_eq};
-ghost use Rattle.fjall_base.specs.Disk.{File, Folder, Missing, IsEmpty, IsFile, IsListed, IsLong, IsThere, Lists, Reads, standing, disk_of, folder_of, put, alter, settle, settled, appended, all_synced, cut_to};
-ghost use Rattle.fjall_memory.specs.Memory.{entry_of, place_of, state_of, changed, Fits, IsKind, TakesNone};
+ghost use Rattle.fjall_base.specs.Disk.{File, Folder, Missing, IsEmpty, IsFile, IsInList, IsLong, IsThere, Lists, ReadsFile, standing, disk_of, folder_of, put, alter, settle, settled, appended, all_synced, cut_to};
+ghost use Rattle.fjall_memory.specs.Memory.{entry_of, place_of, state_of, changed, FitsEntry, IsKind, TakesNone};
 ghost use Rattle.fjall_base.specs.Crash.{keeping, crashed};
 
 use fjall_base::DirEntry;
@@ -112,7 +112,7 @@ impl Node {
     /// Changes a file; false where there is none, or it is too short.
     pub fn alter(&mut self, change: FileChange) -> Result<bool, AllocError>
         ensures ok { IfOk result (λ done. OnTrue done (entry_of self.new ≡ changed change.entry (entry_of self.old))) }
-        ensures fits { IfOk result (λ done. IsTrue done ↔ Fits change.entry (entry_of self.old)) }
+        ensures fits { IfOk result (λ done. IsTrue done ↔ FitsEntry change.entry (entry_of self.old)) }
         ensures no { IfOk result (λ done. OnFalse done (entry_of self.new ≡ entry_of self.old)) }
         ensures err { OnErr result (entry_of self.new ≡ entry_of self.old) }
         ensures room { TakesNone change.entry → IsOk result }
@@ -158,7 +158,7 @@ impl Node {
 
     /// What a read of it gives.
     pub fn read(&self, alloc: Global) -> Result<Option<Vec<u8>>, AllocError>
-        ensures { IfOk result (Reads (entry_of self.now)) }
+        ensures { IfOk result (ReadsFile (entry_of self.now)) }
     {
         match self {
             Node::File { bytes, .. } => Ok(Some(Vec::from_slice(alloc, bytes.as_slice())?)),
@@ -187,7 +187,7 @@ pub fn find(names: &[Named], name: &str) -> Option<usize>
 /// Changes the file of a name; false where there is none, or it is too short.
 pub fn alter_at(names: &mut Vec<Named>, name: &str, change: FileChange) -> Result<bool, AllocError>
     ensures ok { IfOk result (λ done. OnTrue done (state_of names.new.items ≡ alter (state_of names.old.items) name.now (changed change.entry))) }
-    ensures fits { IfOk result (λ done. IsTrue done ↔ Fits change.entry (state_of names.old.items name.now).now) }
+    ensures fits { IfOk result (λ done. IsTrue done ↔ FitsEntry change.entry (state_of names.old.items name.now).now) }
     ensures no { IfOk result (λ done. OnFalse done (state_of names.new.items ≡ state_of names.old.items)) }
     ensures err { OnErr result (state_of names.new.items ≡ state_of names.old.items) }
     ensures room { TakesNone change.entry → IsOk result }
@@ -274,7 +274,7 @@ pub fn is_long_at(names: &[Named], name: &str, len: usize) -> bool
 
 /// What a read of a name gives.
 pub fn read_at(alloc: Global, names: &[Named], name: &str) -> Result<Option<Vec<u8>>, AllocError>
-    ensures { IfOk result (Reads (state_of names.now name.now).now) }
+    ensures { IfOk result (ReadsFile (state_of names.now name.now).now) }
 {
     let Some(at) = find(names, name) else {
         return Ok(None);
@@ -420,9 +420,9 @@ fn list_name(
     folder: &str,
     listed: &mut Vec<DirEntry>,
 ) -> Result<(), AllocError>
-    requires each { All (IsListed (state_of names.now) folder.now) listed.old.items }
+    requires each { All (IsInList (state_of names.now) folder.now) listed.old.items }
     requires once { AllPairs (λ first later. string_bytes first.name ≢ string_bytes later.name) listed.old.items }
-    ensures each { OnOk result (All (IsListed (state_of names.now) folder.now) listed.new.items) }
+    ensures each { OnOk result (All (IsInList (state_of names.now) folder.now) listed.new.items) }
     ensures once { OnOk result (AllPairs (λ first later. string_bytes first.name ≢ string_bytes later.name) listed.new.items) }
     ensures more { OnOk result ((more : List DirEntry) × (listed.new.items ≡ listed.old.items ++ more)) }
     ensures it { OnOk result (folder_of (string_bytes named.entry.now.name) ≡ folder.now

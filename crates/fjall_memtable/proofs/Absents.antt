@@ -16,7 +16,7 @@ use Rattle.std.proofs.lemmas.Slice.Eq.{bytes_eq-Decides}
 use Rattle.fjall_table.specs.Blocks.{Entry}
 use Rattle.fjall_memtable.specs.declared.place.Place.{Place}
 use Rattle.fjall_memtable.specs.Stamps.{Stamp, stamp_cmp, stamp_total}
-use Rattle.fjall_memtable.specs.Places.{entry_of}
+use Rattle.fjall_memtable.specs.Places.{entry_at_place}
 use Rattle.fjall_memtable.specs.Entries.{stamp_of, IsAbsent}
 use Rattle.fjall_memtable.specs.Presence.{has_entry}
 use Rattle.fjall_memtable.proofs.Orders.{Apart, same_stamp}
@@ -34,15 +34,15 @@ same_test s x = elim (cases_Bool (bytes_eq x.key s.key && x.number == s.number))
       true≢false (sym (and_from (bytes_eq x.key s.key) (x.number == s.number) ((bytes_eq-Decides x.key s.key).1 (ap (λ (y : Stamp). y.key) (sym same))) (eq-eqb x.number s.number (ap (λ (y : Stamp). y.number) (sym same)))) ∙ f))) ∙ sym f
 ]
 
-found_there : (t : List ℕ) (s : Stamp) (es : List (Stamp × Place)) → list_any (is_at (stamp_cmp s)) (keys_of es) ≡ has_entry s.key s.number (map (entry_of t) es)
+found_there : (t : List ℕ) (s : Stamp) (es : List (Stamp × Place)) → list_any (is_at (stamp_cmp s)) (keys_of es) ≡ has_entry s.key s.number (map (entry_at_place t) es)
 found_there t s [] = refl
 found_there t s (e ∷ es) = λ i. same_test s e.0 i || found_there t s es i
 
 -- it has none if the map finds no place
 pub told_by : (t : List ℕ) (s : Stamp) (key : List ℕ) (number : ℕ) (es : List (Stamp × Place)) → s.key ≡ key → s.number ≡ number
-    → not (is_some (lookup (is_at (stamp_cmp s)) es)) ≡ not (has_entry key number (map (entry_of t) es))
+    → not (is_some (lookup (is_at (stamp_cmp s)) es)) ≡ not (has_entry key number (map (entry_at_place t) es))
 told_by t s key number es k n =
-    ap not (is_some-lookup (is_at (stamp_cmp s)) es ∙ found_there t s es ∙ (λ i. has_entry (k i) (n i) (map (entry_of t) es)))
+    ap not (is_some-lookup (is_at (stamp_cmp s)) es ∙ found_there t s es ∙ (λ i. has_entry (k i) (n i) (map (entry_at_place t) es)))
 
 pub apart_unfound : (s : Stamp) (es : List (Stamp × Place)) → lookup (is_at (stamp_cmp s)) es ≡ None → Apart s es
 apart_unfound s [] none = tt

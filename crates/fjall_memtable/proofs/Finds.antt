@@ -21,7 +21,7 @@ use Rattle.fjall_table.specs.Blocks.{Entry}
 use Rattle.fjall_table.specs.Tables.{versions_at}
 use Rattle.fjall_memtable.specs.declared.place.Place.{Place}
 use Rattle.fjall_memtable.specs.Stamps.{Stamp, stamp_cmp}
-use Rattle.fjall_memtable.specs.Places.{key_at, value_at, entry_of, IsPlaced}
+use Rattle.fjall_memtable.specs.Places.{key_at, value_at, entry_at_place, IsPlaced}
 use Rattle.fjall_memtable.proofs.Fronts.{less, greater, same}
 use Rattle.fjall_memtable.proofs.Texts.{all_filter}
 
@@ -130,11 +130,11 @@ find_is s (x ∷ xs) sorted =
     ]
 
 pub newest_is : (t : List ℕ) (s : Stamp) (es part : List (Stamp × Place)) → IsStrictlySortedBy stamp_cmp (keys_of es) → part ≡ filter (λ e. range_contains stamp_cmp (Included s) Unbounded e.0) es
-    → slice_get (versions_at s.key (s.number + 1) (map (entry_of t) es)) 0 ≡ option_map (entry_of t) (pick s.key part)
+    → slice_get (versions_at s.key (s.number + 1) (map (entry_at_place t) es)) 0 ≡ option_map (entry_at_place t) (pick s.key part)
 newest_is t s es part sorted is =
-    ap (λ (xs : List Entry). slice_get xs 0) (filter_of_map (λ e. bytes_eq e.key s.key && nat_lt e.number (s.number + 1)) (entry_of t) es)
-    ∙ first_of_map (entry_of t) (filter (wanted s.key (s.number + 1)) es)
-    ∙ ap (option_map (entry_of t)) (find_is s es sorted ∙ ap (pick s.key) (sym is))
+    ap (λ (xs : List Entry). slice_get xs 0) (filter_of_map (λ e. bytes_eq e.key s.key && nat_lt e.number (s.number + 1)) (entry_at_place t) es)
+    ∙ first_of_map (entry_at_place t) (filter (wanted s.key (s.number + 1)) es)
+    ∙ ap (option_map (entry_at_place t)) (find_is s es sorted ∙ ap (pick s.key) (sym is))
 
 pub none_at_zero : (key : List ℕ) (es : List Entry) → versions_at key 0 es ≡ []
 none_at_zero key [] = refl
@@ -158,34 +158,34 @@ the_last P (x ∷ xs) y h = the_last P xs y h.1
 abbrev pub from_stamp : Stamp → List (Stamp × Place) → List (Stamp × Place)
 from_stamp s es = filter (λ e. range_contains stamp_cmp (Included s) Unbounded e.0) es
 
-picked : (t : List ℕ) (x : Stamp × Place) (o : Ordering) → option_map (entry_of t) (match_ordering o None (Some x) None) ≡ match_ordering o None (Some (entry_of t x)) None
+picked : (t : List ℕ) (x : Stamp × Place) (o : Ordering) → option_map (entry_at_place t) (match_ordering o None (Some x) None) ≡ match_ordering o None (Some (entry_at_place t x)) None
 picked t x Less = refl
 picked t x Equal = refl
 picked t x Greater = refl
 
 newest_first : (t : List ℕ) (s : Stamp) (es part : List (Stamp × Place)) (x : Stamp × Place) (rest : List (Stamp × Place)) (o : Ordering) → IsStrictlySortedBy stamp_cmp (keys_of es) → part ≡ from_stamp s es → part ≡ x ∷ rest → o ≡ byte_order x.0.key s.key
-    → slice_get (versions_at s.key (s.number + 1) (map (entry_of t) es)) 0 ≡ match_ordering o None (Some (entry_of t x)) None
+    → slice_get (versions_at s.key (s.number + 1) (map (entry_at_place t) es)) 0 ≡ match_ordering o None (Some (entry_at_place t x)) None
 newest_first t s es part x rest o sorted is first order =
     newest_is t s es part sorted is
-    ∙ ap (λ (p : List (Stamp × Place)). option_map (entry_of t) (pick s.key p)) first
-    ∙ ap (λ (o : Ordering). option_map (entry_of t) (match_ordering o None (Some x) None)) (sym order)
+    ∙ ap (λ (p : List (Stamp × Place)). option_map (entry_at_place t) (pick s.key p)) first
+    ∙ ap (λ (o : Ordering). option_map (entry_at_place t) (match_ordering o None (Some x) None)) (sym order)
     ∙ picked t x o
 
 pub newest_some : (t : List ℕ) (s : Stamp) (es part : List (Stamp × Place)) (x : Stamp × Place) (rest : List (Stamp × Place)) (o : Ordering) → IsStrictlySortedBy stamp_cmp (keys_of es) → part ≡ from_stamp s es → part ≡ x ∷ rest → o ≡ byte_order x.0.key s.key → o ≡ Equal
-    → slice_get (versions_at s.key (s.number + 1) (map (entry_of t) es)) 0 ≡ Some (entry_of t x)
-newest_some t s es part x rest o sorted is first order equal = newest_first t s es part x rest o sorted is first order ∙ ap (λ (o : Ordering). match_ordering o None (Some (entry_of t x)) None) equal
+    → slice_get (versions_at s.key (s.number + 1) (map (entry_at_place t) es)) 0 ≡ Some (entry_at_place t x)
+newest_some t s es part x rest o sorted is first order equal = newest_first t s es part x rest o sorted is first order ∙ ap (λ (o : Ordering). match_ordering o None (Some (entry_at_place t x)) None) equal
 
-unpicked : (t : List ℕ) (x : Stamp × Place) (o : Ordering) → (o ≡ Equal → ⊥) → match_ordering o None (Some (entry_of t x)) None ≡ None
+unpicked : (t : List ℕ) (x : Stamp × Place) (o : Ordering) → (o ≡ Equal → ⊥) → match_ordering o None (Some (entry_at_place t x)) None ≡ None
 unpicked t x Less h = refl
 unpicked t x Equal h = absurd (h refl)
 unpicked t x Greater h = refl
 
 pub newest_other : (t : List ℕ) (s : Stamp) (es part : List (Stamp × Place)) (x : Stamp × Place) (rest : List (Stamp × Place)) (o : Ordering) → IsStrictlySortedBy stamp_cmp (keys_of es) → part ≡ from_stamp s es → part ≡ x ∷ rest → o ≡ byte_order x.0.key s.key → (o ≡ Equal → ⊥)
-    → slice_get (versions_at s.key (s.number + 1) (map (entry_of t) es)) 0 ≡ None
+    → slice_get (versions_at s.key (s.number + 1) (map (entry_at_place t) es)) 0 ≡ None
 newest_other t s es part x rest o sorted is first order other = newest_first t s es part x rest o sorted is first order ∙ unpicked t x o other
 
-pub newest_none : (t : List ℕ) (s : Stamp) (es part : List (Stamp × Place)) → IsStrictlySortedBy stamp_cmp (keys_of es) → part ≡ from_stamp s es → part ≡ [] → slice_get (versions_at s.key (s.number + 1) (map (entry_of t) es)) 0 ≡ None
-newest_none t s es part sorted is over = newest_is t s es part sorted is ∙ ap (λ (p : List (Stamp × Place)). option_map (entry_of t) (pick s.key p)) over
+pub newest_none : (t : List ℕ) (s : Stamp) (es part : List (Stamp × Place)) → IsStrictlySortedBy stamp_cmp (keys_of es) → part ≡ from_stamp s es → part ≡ [] → slice_get (versions_at s.key (s.number + 1) (map (entry_at_place t) es)) 0 ≡ None
+newest_none t s es part sorted is over = newest_is t s es part sorted is ∙ ap (λ (p : List (Stamp × Place)). option_map (entry_at_place t) (pick s.key p)) over
 
 pub first_placed : (t : List ℕ) (s : Stamp) (es part : List (Stamp × Place)) (x : Stamp × Place) (rest : List (Stamp × Place)) → AllByRecursion (IsPlaced t) es → part ≡ from_stamp s es → part ≡ x ∷ rest → IsPlaced t x
 first_placed t s es part x rest all is first =
@@ -194,7 +194,7 @@ first_placed t s es part x rest all is first =
 
 -- a version that was read at its place
 pub read_is : (t : List ℕ) (x : Stamp × Place) (key : List ℕ) (number : ℕ) (value : Option (List ℕ)) → IsPlaced t x → key ≡ key_at t x.1 → number ≡ x.0.number → value ≡ value_at t x.1
-    → record { key = key; number = number; value = value } ≡ entry_of t x
+    → record { key = key; number = number; value = value } ≡ entry_at_place t x
 read_is t x key number value h k n v = λ i. record { key = (k ∙ h.key) i; number = n i; value = v i }
 
 -- ---- parts

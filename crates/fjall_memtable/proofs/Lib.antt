@@ -1,10 +1,22 @@
 pub mod Fronts
 pub mod Orders
-pub mod Absents
-pub mod Texts
-pub mod Puts
-pub mod Finds
-pub mod Ranges
-pub mod Gathers
-pub mod Copies
-pub mod Newest
+mod Absents
+mod Texts
+mod Puts
+mod Finds
+mod Ranges
+mod Newest
+pub mod Barriers
+pub mod Keeping
+pub mod SortedOrders
+mod Paging
+mod PagingBack
+pub mod SortedRanges
+pub mod Sorting
+pub mod Taking
+pub mod Viewing
+pub mod Apart
+pub mod PartBarriers
+pub mod Changes
+pub mod PartFinds
+pub mod Onces

@@ -15,8 +15,8 @@ use Rattle.fjall_base.specs.Pairs.{byte_order}
 use Rattle.fjall_table.specs.Blocks.{StandsBefore, IsOrdered}
 use Rattle.fjall_memtable.specs.declared.place.Place.{Place}
 use Rattle.fjall_memtable.specs.Stamps.{Stamp, stamp_cmp}
-use Rattle.fjall_memtable.specs.Places.{entry_of, value_at}
-use Rattle.fjall_memtable.specs.Entries.{stamp_of, inserted}
+use Rattle.fjall_memtable.specs.Places.{entry_at_place, value_at}
+use Rattle.fjall_memtable.specs.Entries.{inserted}
 
 -- ---- stamps
 
@@ -40,10 +40,6 @@ same_stamp s t e =
 abbrev pub Apart : Stamp → List (Stamp × Place) → Type 0
 Apart s es = AllByRecursion (λ e. stamp_cmp s e.0 ≢ Equal) es
 
-pub apart_from : (t : List ℕ) (s : Stamp) (es : List (Stamp × Place)) → AllByRecursion (λ x. stamp_of x ≢ s) (map (entry_of t) es) → Apart s es
-apart_from t s [] h = tt
-apart_from t s (e ∷ es) h = (λ same. h.0 (sym (same_stamp s e.0 same)), apart_from t s es h.1)
-
 -- ---- the order of entries
 
 before : (o : Ordering) (n m : ℕ) → ordering_then o (nat_cmp m n) ≡ Less → StandsBefore o n m
@@ -51,26 +47,26 @@ before Less n m e = tt
 before Equal n m e = ranked m n Less (sym e)
 before Greater n m e = absurd cc
 
-pub ordered_is : (t : List ℕ) (es : List (Stamp × Place)) → IsStrictlySortedBy stamp_cmp (keys_of es) → IsOrdered (map (entry_of t) es)
+pub ordered_is : (t : List ℕ) (es : List (Stamp × Place)) → IsStrictlySortedBy stamp_cmp (keys_of es) → IsOrdered (map (entry_at_place t) es)
 ordered_is t [] s = tt
 ordered_is t (x ∷ []) s = tt
 ordered_is t (x ∷ y ∷ es) s = (before (byte_order x.0.key y.0.key) x.0.number y.0.number (sorted_head stamp_cmp x.0 (y.0 ∷ keys_of es) s).0, ordered_is t (y ∷ es) (sorted_tail stamp_cmp x.0 (y.0 ∷ keys_of es) s))
 
 -- ---- one more entry
 
-pub map_same : (t u : List ℕ) (es : List (Stamp × Place)) → AllByRecursion (λ x. entry_of u x ≡ entry_of t x) es → map (entry_of u) es ≡ map (entry_of t) es
+pub map_same : (t u : List ℕ) (es : List (Stamp × Place)) → AllByRecursion (λ x. entry_at_place u x ≡ entry_at_place t x) es → map (entry_at_place u) es ≡ map (entry_at_place t) es
 map_same t u [] h = refl
 map_same t u (x ∷ es) h = λ i. h.0 i ∷ map_same t u es h.1 i
 
-pub map_insert : (t u : List ℕ) (s : Stamp) (p : Place) (v : Option (List ℕ)) → value_at u p ≡ v → (es : List (Stamp × Place)) → Apart s es → AllByRecursion (λ x. entry_of u x ≡ entry_of t x) es
-    → map (entry_of u) (insert_entry stamp_cmp es s p) ≡ inserted (record { key = s.key; number = s.number; value = v }) (map (entry_of t) es)
+pub map_insert : (t u : List ℕ) (s : Stamp) (p : Place) (v : Option (List ℕ)) → value_at u p ≡ v → (es : List (Stamp × Place)) → Apart s es → AllByRecursion (λ x. entry_at_place u x ≡ entry_at_place t x) es
+    → map (entry_at_place u) (insert_entry stamp_cmp es s p) ≡ inserted (record { key = s.key; number = s.number; value = v }) (map (entry_at_place t) es)
 map_insert t u s p v is [] a h = λ i. record { key = s.key; number = s.number; value = is i } ∷ []
 map_insert t u s p v is (x ∷ xs) a h = by (stamp_cmp s x.0) refl (map_insert t u s p v is xs a.1 h.1)
   where
     by : (o : Ordering) → stamp_cmp s x.0 ≡ o
-        → map (entry_of u) (insert_entry stamp_cmp xs s p) ≡ inserted (record { key = s.key; number = s.number; value = v }) (map (entry_of t) xs)
-        → map (entry_of u) (match_ordering o ((s, p) ∷ x ∷ xs) ((x.0, p) ∷ xs) (x ∷ insert_entry stamp_cmp xs s p))
-        ≡ match_ordering o (record { key = s.key; number = s.number; value = v } ∷ map (entry_of t) (x ∷ xs)) (record { key = s.key; number = s.number; value = v } ∷ map (entry_of t) xs) (entry_of t x ∷ inserted (record { key = s.key; number = s.number; value = v }) (map (entry_of t) xs))
+        → map (entry_at_place u) (insert_entry stamp_cmp xs s p) ≡ inserted (record { key = s.key; number = s.number; value = v }) (map (entry_at_place t) xs)
+        → map (entry_at_place u) (match_ordering o ((s, p) ∷ x ∷ xs) ((x.0, p) ∷ xs) (x ∷ insert_entry stamp_cmp xs s p))
+        ≡ match_ordering o (record { key = s.key; number = s.number; value = v } ∷ map (entry_at_place t) (x ∷ xs)) (record { key = s.key; number = s.number; value = v } ∷ map (entry_at_place t) xs) (entry_at_place t x ∷ inserted (record { key = s.key; number = s.number; value = v }) (map (entry_at_place t) xs))
     by Less e more = λ i. record { key = s.key; number = s.number; value = is i } ∷ map_same t u (x ∷ xs) h i
     by Equal e more = absurd (a.0 e)
     by Greater e more = λ i. h.0 i ∷ more i

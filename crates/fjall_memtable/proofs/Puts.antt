@@ -3,7 +3,7 @@ use Rattle.std.proofs.Common.{◌≡◌, ℕ, List, ◌++◌, map, Some, None, i
 use Rattle.std.specs.BTreeMap.{insert_entry}
 use Rattle.fjall_memtable.specs.declared.place.Place.{Place}
 use Rattle.fjall_memtable.specs.Stamps.{Stamp, stamp_cmp}
-use Rattle.fjall_memtable.specs.Places.{entry_of, AreAll}
+use Rattle.fjall_memtable.specs.Places.{entry_at_place, AreAll}
 use Rattle.fjall_memtable.specs.Entries.{inserted}
 use Rattle.fjall_memtable.proofs.Orders.{Apart}
 use Rattle.fjall_memtable.proofs.Texts.{IsNext, next_all, next_entries, next_marks, KeepsMarksOf}
@@ -24,8 +24,8 @@ pub put_all : (t k v : List ℕ) (s : Stamp) (p : Place) (es : List (Stamp × Pl
 put_all t k v s p es u fs h = subst (λ (w : List ℕ). AreAll w fs) (sym h.text) (subst (AreAll ((t ++ k) ++ v)) (sym h.entries) (next_all t k v s p es h.all h.apart h.next))
 
 pub put_entries : (t k v : List ℕ) (s : Stamp) (p : Place) (es : List (Stamp × Place)) (u : List ℕ) (fs : List (Stamp × Place)) → IsPut t k v s p es u fs
-    → map (entry_of u) fs ≡ inserted (record { key = s.key; number = s.number; value = if p.is_value then Some v else None }) (map (entry_of t) es)
-put_entries t k v s p es u fs h = (λ i. map (entry_of (h.text i)) (h.entries i)) ∙ next_entries t k v s p es h.all h.apart h.next
+    → map (entry_at_place u) fs ≡ inserted (record { key = s.key; number = s.number; value = if p.is_value then Some v else None }) (map (entry_at_place t) es)
+put_entries t k v s p es u fs h = (λ i. map (entry_at_place (h.text i)) (h.entries i)) ∙ next_entries t k v s p es h.all h.apart h.next
 
 pub put_marks : (t k v : List ℕ) (s : Stamp) (p : Place) (es : List (Stamp × Place)) (u : List ℕ) (fs : List (Stamp × Place)) → IsPut t k v s p es u fs → KeepsMarksOf t es u fs
 put_marks t k v s p es u fs h = subst (λ (w : List ℕ). KeepsMarksOf t es w fs) (sym h.text) (subst (λ (gs : List (Stamp × Place)). KeepsMarksOf t es ((t ++ k) ++ v) gs) (sym h.entries) (next_marks t k v s p es h.all h.apart h.next))

@@ -18,7 +18,7 @@ use Rattle.fjall_base.specs.Pairs.{Bytes, KeyRange, byte_order, is_within}
 use Rattle.fjall_table.specs.Blocks.{Entry, IsOrdered}
 use Rattle.fjall_memtable.specs.declared.place.Place.{Place}
 use Rattle.fjall_memtable.specs.Stamps.{Stamp, stamp_cmp}
-use Rattle.fjall_memtable.specs.Places.{entry_of, IsPlaced}
+use Rattle.fjall_memtable.specs.Places.{entry_at_place, IsPlaced}
 use Rattle.fjall_table.specs.Tables.{entries_within}
 use Rattle.fjall_memtable.specs.Ranges.{is_reversed, stamp_bound, start_of, end_of}
 use Rattle.fjall_memtable.specs.Entries.{stamp_of}
@@ -96,22 +96,22 @@ within_is n range x h = λ i. start_is n range.0 x h i && not (end_is n range.1 
 
 -- the versions between two bounds on stamps are those whose keys lie between the bounds on keys
 pub range_is : (t : List ℕ) (range : KeyRange) (es : List (Stamp × Place)) → AllByRecursion (IsPlaced t) es
-    → filter (λ e. range_contains stamp_cmp (start_of range) (end_of range) (stamp_of e)) (map (entry_of t) es) ≡ entries_within range (map (entry_of t) es)
+    → filter (λ e. range_contains stamp_cmp (start_of range) (end_of range) (stamp_of e)) (map (entry_at_place t) es) ≡ entries_within range (map (entry_at_place t) es)
 range_is t range [] h = refl
 range_is t range (x ∷ xs) h =
     let n = h.0.number in
     let test = within_is (2 ^ 64 - 1) range x.0 (omega (arith, n)) in
     let more = range_is t range xs h.1 in
-    λ i. cond (test i) (entry_of t x ∷ more i) (more i)
+    λ i. cond (test i) (entry_at_place t x ∷ more i) (more i)
 
 -- ---- parts between bounds on stamps
 
 pub part_is : (t : List ℕ) (start end : Bound Stamp) (es : List (Stamp × Place))
-    → map (entry_of t) (entries_between stamp_cmp start end es) ≡ filter (λ e. range_contains stamp_cmp start end (stamp_of e)) (map (entry_of t) es)
-part_is t start end es = sym (filter_of_map (λ e. range_contains stamp_cmp start end (stamp_of e)) (entry_of t) es)
+    → map (entry_at_place t) (entries_between stamp_cmp start end es) ≡ filter (λ e. range_contains stamp_cmp start end (stamp_of e)) (map (entry_at_place t) es)
+part_is t start end es = sym (filter_of_map (λ e. range_contains stamp_cmp start end (stamp_of e)) (entry_at_place t) es)
 
-pub ordered_part : (t : List ℕ) (start end : Bound Stamp) (es part : List (Stamp × Place)) → IsStrictlySortedBy stamp_cmp (keys_of es) → part ≡ entries_between stamp_cmp start end es → IsOrdered (map (entry_of t) part)
-ordered_part t start end es part sorted is = subst (λ (p : List (Stamp × Place)). IsOrdered (map (entry_of t) p)) (sym is) (ordered_is t (entries_between stamp_cmp start end es) (sorted_filter (range_contains stamp_cmp start end) es sorted))
+pub ordered_part : (t : List ℕ) (start end : Bound Stamp) (es part : List (Stamp × Place)) → IsStrictlySortedBy stamp_cmp (keys_of es) → part ≡ entries_between stamp_cmp start end es → IsOrdered (map (entry_at_place t) part)
+ordered_part t start end es part sorted is = subst (λ (p : List (Stamp × Place)). IsOrdered (map (entry_at_place t) p)) (sym is) (ordered_is t (entries_between stamp_cmp start end es) (sorted_filter (range_contains stamp_cmp start end) es sorted))
 
 pub same_within : (p q : Bytes → Bool) → ((key : Bytes) → p key ≡ q key) → (es : List Entry) → filter (λ e. p e.key) es ≡ filter (λ e. q e.key) es
 same_within p q h [] = refl

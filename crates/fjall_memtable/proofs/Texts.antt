@@ -1,5 +1,5 @@
 -- Entries by their places, where the text grows or is cut.
-use Rattle.std.proofs.Common.{◌≡◌, ℕ, ◌+◌, ◌-◌, ◌*◌, ◌<◌, ◌≤◌, ◌^◌, Bool, true, false, nat_le, List, [], ◌∷◌, ◌++◌, length, take, drop, map, filter, Some, None, if◌then◌else◌, refl, sym, ap, subst, ◌∙◌, arith, inl, inr}
+use Rattle.std.proofs.Common.{◌≡◌, ℕ, ◌+◌, ◌-◌, ◌*◌, ◌<◌, ◌≤◌, ◌^◌, Bool, true, false, nat_le, List, [], ◌∷◌, ◌++◌, length, take, drop, map, filter, Some, None, if◌then◌else◌, refl, sym, ap, ◌∙◌, arith, inl, inr}
 use Rattle.std.specs.List.{AllByRecursion, sum_by}
 use Rattle.std.specs.BTreeMap.{insert_entry}
 use Rattle.std.proofs.lemmas.Bool.{cases_Bool, leb-true, le-leb, lt-leb}
@@ -8,7 +8,7 @@ use Rattle.std.proofs.lemmas.List.Sums.{sum_by-cons}
 use Rattle.fjall_table.specs.Blocks.{value_bytes}
 use Rattle.fjall_memtable.specs.declared.place.Place.{Place}
 use Rattle.fjall_memtable.specs.Stamps.{Stamp, stamp_cmp}
-use Rattle.fjall_memtable.specs.Places.{key_at, value_at, place_len, end_of, entry_of, IsPlaced, AreAll, up_to, IsMarkOf}
+use Rattle.fjall_memtable.specs.Places.{key_at, value_at, place_len, end_of, entry_at_place, IsPlaced, AreAll, up_to, IsMarkOf}
 use Rattle.fjall_memtable.specs.Entries.{size_of, inserted}
 use Rattle.fjall_memtable.proofs.Orders.{Apart, map_same, map_insert, sum_insert, filter_insert, all_insert}
 
@@ -34,7 +34,7 @@ grown t more p fits = (part_grown p.at p.key_len t more (omega (arith, fits)), a
 cut : (t : List ℕ) (m : ℕ) (p : Place) → end_of p ≤ m → Sees t (take m t) p
 cut t m p fits = (part_cut p.at p.key_len m t (omega (arith, fits)), ap (λ (v : List ℕ). if p.is_value then Some v else None) (part_cut (p.at + p.key_len) p.value_len m t (omega (arith, fits))))
 
-same_entry : (t u : List ℕ) (e : Stamp × Place) → Sees t u e.1 → entry_of u e ≡ entry_of t e
+same_entry : (t u : List ℕ) (e : Stamp × Place) → Sees t u e.1 → entry_at_place u e ≡ entry_at_place t e
 same_entry t u e h = λ i. record { key = e.0.key; number = e.0.number; value = h.1 i }
 
 still_placed : (t u : List ℕ) (e : Stamp × Place) → IsPlaced t e → Sees t u e.1 → end_of e.1 ≤ length u → IsPlaced u e
@@ -44,7 +44,7 @@ pub placed_grown : (t more : List ℕ) (es : List (Stamp × Place)) → AllByRec
 placed_grown t more [] h = tt
 placed_grown t more (e ∷ es) h = let l = length-append t more in (still_placed t (t ++ more) e h.0 (grown t more e.1 h.0.fits) (let f = h.0.fits in omega (arith, f, l)), placed_grown t more es h.1)
 
-pub same_grown : (t more : List ℕ) (es : List (Stamp × Place)) → AllByRecursion (IsPlaced t) es → AllByRecursion (λ e. entry_of (t ++ more) e ≡ entry_of t e) es
+pub same_grown : (t more : List ℕ) (es : List (Stamp × Place)) → AllByRecursion (IsPlaced t) es → AllByRecursion (λ e. entry_at_place (t ++ more) e ≡ entry_at_place t e) es
 same_grown t more [] h = tt
 same_grown t more (e ∷ es) h = (same_entry t (t ++ more) e (grown t more e.1 h.0.fits), same_grown t more es h.1)
 
@@ -111,11 +111,11 @@ next_placed t k v s p h =
 twice_grown : (t k v : List ℕ) (es : List (Stamp × Place)) → AllByRecursion (IsPlaced t) es → AllByRecursion (IsPlaced ((t ++ k) ++ v)) es
 twice_grown t k v es h = placed_grown (t ++ k) v es (placed_grown t k es h)
 
-both_same : (t u w : List ℕ) (es : List (Stamp × Place)) → AllByRecursion (λ e. entry_of u e ≡ entry_of t e) es → AllByRecursion (λ e. entry_of w e ≡ entry_of u e) es → AllByRecursion (λ e. entry_of w e ≡ entry_of t e) es
+both_same : (t u w : List ℕ) (es : List (Stamp × Place)) → AllByRecursion (λ e. entry_at_place u e ≡ entry_at_place t e) es → AllByRecursion (λ e. entry_at_place w e ≡ entry_at_place u e) es → AllByRecursion (λ e. entry_at_place w e ≡ entry_at_place t e) es
 both_same t u w [] g h = tt
 both_same t u w (e ∷ es) g h = (h.0 ∙ g.0, both_same t u w es g.1 h.1)
 
-twice_same : (t k v : List ℕ) (es : List (Stamp × Place)) → AllByRecursion (IsPlaced t) es → AllByRecursion (λ e. entry_of ((t ++ k) ++ v) e ≡ entry_of t e) es
+twice_same : (t k v : List ℕ) (es : List (Stamp × Place)) → AllByRecursion (IsPlaced t) es → AllByRecursion (λ e. entry_at_place ((t ++ k) ++ v) e ≡ entry_at_place t e) es
 twice_same t k v es h = both_same t (t ++ k) ((t ++ k) ++ v) es (same_grown t k es h) (same_grown (t ++ k) v es (placed_grown t k es h))
 
 pub next_all : (t k v : List ℕ) (s : Stamp) (p : Place) (es : List (Stamp × Place)) → AreAll t es → Apart s es → IsNext t k v s p → AreAll ((t ++ k) ++ v) (insert_entry stamp_cmp es s p)
@@ -132,15 +132,12 @@ next_all t k v s p es all apart h = record {
 }
 
 pub next_entries : (t k v : List ℕ) (s : Stamp) (p : Place) (es : List (Stamp × Place)) → AreAll t es → Apart s es → IsNext t k v s p
-    → map (entry_of ((t ++ k) ++ v)) (insert_entry stamp_cmp es s p) ≡ inserted (record { key = s.key; number = s.number; value = if p.is_value then Some v else None }) (map (entry_of t) es)
+    → map (entry_at_place ((t ++ k) ++ v)) (insert_entry stamp_cmp es s p) ≡ inserted (record { key = s.key; number = s.number; value = if p.is_value then Some v else None }) (map (entry_at_place t) es)
 next_entries t k v s p es all apart h = map_insert t ((t ++ k) ++ v) s p (if p.is_value then Some v else None) (next_value t k v s p h) es apart (twice_same t k v es all.placed)
 
 -- marks of the one, and what they stand for
 abbrev pub KeepsMarksOf : List ℕ → List (Stamp × Place) → List ℕ → List (Stamp × Place) → Type 0
-KeepsMarksOf t es u fs = (mark : ℕ) → IsMarkOf t es mark → IsMarkOf u fs mark × (map (entry_of u) (up_to mark fs) ≡ map (entry_of t) (up_to mark es))
-
-pub same_marks : (t u : List ℕ) (es fs : List (Stamp × Place)) → u ≡ t → fs ≡ es → KeepsMarksOf t es u fs
-same_marks t u es fs e f = λ mark m. (subst (λ (gs : List (Stamp × Place)). IsMarkOf u gs mark) (sym f) (subst (λ (w : List ℕ). IsMarkOf w es mark) (sym e) m), λ i. map (entry_of (e i)) (up_to mark (f i)))
+KeepsMarksOf t es u fs = (mark : ℕ) → IsMarkOf t es mark → IsMarkOf u fs mark × (map (entry_at_place u) (up_to mark fs) ≡ map (entry_at_place t) (up_to mark es))
 
 past : (t k v : List ℕ) (s : Stamp) (p : Place) (mark : ℕ) → IsNext t k v s p → mark ≤ length t → nat_le (end_of p) mark ≡ false
 past t k v s p mark h within =
@@ -156,7 +153,7 @@ next_marks t k v s p es all apart h = λ mark m.
     let n = length-append (t ++ k) v in
     let w = m.within in (
       record { within = omega (arith, l, n, w); filled = ap (λ (fs : List (Stamp × Place)). sum_by (λ e. place_len e.1) fs) e ∙ m.filled },
-      ap (map (entry_of ((t ++ k) ++ v))) e ∙ map_same t ((t ++ k) ++ v) (up_to mark es) (all_filter (λ x. entry_of ((t ++ k) ++ v) x ≡ entry_of t x) (λ x. nat_le (end_of x.1) mark) es (twice_same t k v es all.placed)),
+      ap (map (entry_at_place ((t ++ k) ++ v))) e ∙ map_same t ((t ++ k) ++ v) (up_to mark es) (all_filter (λ x. entry_at_place ((t ++ k) ++ v) x ≡ entry_at_place t x) (λ x. nat_le (end_of x.1) mark) es (twice_same t k v es all.placed)),
     )
 
 -- ---- back to a mark
@@ -167,8 +164,8 @@ cut_all t es mark all m = record {
   filled = length-take-le mark t m.within ∙ sym m.filled;
 }
 
-pub cut_entries : (t : List ℕ) (es : List (Stamp × Place)) (mark : ℕ) → AllByRecursion (IsPlaced t) es → map (entry_of (take mark t)) (up_to mark es) ≡ map (entry_of t) (up_to mark es)
-cut_entries t es mark all = map_same t (take mark t) (up_to mark es) (all_up_to (IsPlaced t) (λ e. entry_of (take mark t) e ≡ entry_of t e) mark (λ e h ends. same_entry t (take mark t) e (cut t mark e.1 ends)) es all)
+pub cut_entries : (t : List ℕ) (es : List (Stamp × Place)) (mark : ℕ) → AllByRecursion (IsPlaced t) es → map (entry_at_place (take mark t)) (up_to mark es) ≡ map (entry_at_place t) (up_to mark es)
+cut_entries t es mark all = map_same t (take mark t) (up_to mark es) (all_up_to (IsPlaced t) (λ e. entry_at_place (take mark t) e ≡ entry_at_place t e) mark (λ e h ends. same_entry t (take mark t) e (cut t mark e.1 ends)) es all)
 
 -- ---- the mark at the end
 
@@ -191,18 +188,18 @@ value_len_by : (t : List ℕ) (at n : ℕ) (b : Bool) → at + n ≤ length t �
 value_len_by t at n true fits none = let l = length-drop at t in length-take-le n (drop at t) (omega (arith, fits, l))
 value_len_by t at n false fits none = sym none
 
-size_is : (t : List ℕ) (e : Stamp × Place) → IsPlaced t e → size_of (entry_of t e) ≡ place_len e.1 + 16
+size_is : (t : List ℕ) (e : Stamp × Place) → IsPlaced t e → size_of (entry_at_place t e) ≡ place_len e.1 + 16
 size_is t e h =
     let k = key_len_is t e h in
     let f = h.fits in
     let v = value_len_by t (e.1.at + e.1.key_len) e.1.value_len e.1.is_value (omega (arith, f)) h.tombstone in
     omega (arith, k, v)
 
-pub sizes_are : (t : List ℕ) (es : List (Stamp × Place)) → AllByRecursion (IsPlaced t) es → sum_by (λ e. place_len e.1) es + 16 * length es ≡ sum_by size_of (map (entry_of t) es)
+pub sizes_are : (t : List ℕ) (es : List (Stamp × Place)) → AllByRecursion (IsPlaced t) es → sum_by (λ e. place_len e.1) es + 16 * length es ≡ sum_by size_of (map (entry_at_place t) es)
 sizes_are t [] h = refl
 sizes_are t (e ∷ es) h =
     let a = sum_by-cons (λ e. place_len e.1) e es in
-    let b = sum_by-cons size_of (entry_of t e) (map (entry_of t) es) in
+    let b = sum_by-cons size_of (entry_at_place t e) (map (entry_at_place t) es) in
     let s = size_is t e h.0 in
     let more = sizes_are t es h.1 in
     omega (arith, a, b, s, more)

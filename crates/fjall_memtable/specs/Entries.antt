@@ -5,11 +5,11 @@ use Rattle.std.specs.Ordering.{match_ordering}
 use Rattle.fjall_table.specs.Blocks.{Entry, value_bytes}
 use Rattle.fjall_memtable.specs.declared.memtable.Memtable.{Memtable}
 use Rattle.fjall_memtable.specs.Stamps.{Stamp, stamp_cmp}
-use Rattle.fjall_memtable.specs.Places.{entry_of, up_to, IsMarkOf}
+use Rattle.fjall_memtable.specs.Places.{entry_at_place, up_to, IsMarkOf}
 
 -- its entries: by key ascending, then by number descending
-abbrev pub entries_of : Memtable → List Entry
-entries_of m = map (entry_of m.text.items) m.map.entries
+abbrev pub entries_kept : Memtable → List Entry
+entries_kept m = map (entry_at_place m.text.items) m.map.entries
 
 -- what the change of this number made of a key
 abbrev pub version : List ℕ → ℕ → Option (List ℕ) → Entry
@@ -36,7 +36,7 @@ size_of e = length e.key + length (value_bytes e.value) + 16
 
 -- the entries that it had when its text was so long
 abbrev pub entries_at : ℕ → Memtable → List Entry
-entries_at mark m = map (entry_of m.text.items) (up_to mark m.map.entries)
+entries_at mark m = map (entry_at_place m.text.items) (up_to mark m.map.entries)
 
 -- its text was once so long
 abbrev pub IsMark : Memtable → ℕ → Type 0

@@ -2,5 +2,11 @@ pub mod Stamps
 pub mod Places
 pub mod Ranges
 pub mod Entries
-pub mod Pages
 pub mod Presence
+pub mod Sorted
+pub mod SortedPages
+pub mod Kept
+pub mod Parts
+pub mod Held
+pub mod Shares
+pub mod Memories

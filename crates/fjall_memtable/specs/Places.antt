@@ -20,8 +20,8 @@ abbrev pub end_of : Place → ℕ
 end_of p = p.at + place_len p
 
 -- the entry of a key with its number and its place
-abbrev pub entry_of : List ℕ → Stamp × Place → Entry
-entry_of text e = record { key = e.0.key; number = e.0.number; value = value_at text e.1 }
+abbrev pub entry_at_place : List ℕ → Stamp × Place → Entry
+entry_at_place text e = record { key = e.0.key; number = e.0.number; value = value_at text e.1 }
 
 -- The key stands there, and a tombstone has no value.
 pub record IsPlaced (text : List ℕ) (e : Stamp × Place) : Type 0 where

@@ -1,7 +1,6 @@
 //! Versions of keys in memory.
 
-ghost use Rattle.std.specs.Prelude.{◌≡◌, ◌↔◌, ◌+◌, ◌-◌, ◌<◌, ◌^◌, [], length, slice_get, filter, min, not, IsTrue, IfOk, OnOk, OnErr, Ok, true, false};
-ghost use Rattle.std.specs.Prelude.{Some, None, if◌then◌else◌};
+ghost use Rattle.std.specs.Prelude.{◌≡◌, ◌↔◌, ◌+◌, ◌-◌, ◌<◌, ◌^◌, [], length, slice_get, filter, min, not, IsTrue, IfOk, OnOk, OnErr, Ok, true, false, Some, None, if◌then◌else◌};
 ghost use Rattle.std.specs.List.{sum_by};
 ghost use Rattle.std.specs.Option.{option_map};
 ghost use Rattle.std.specs.BTreeMap.Range.{range_contains};
@@ -37,11 +36,11 @@ pub struct Memtable {
 }
 
 impl Memtable {
-    ghost use Rattle.fjall_memtable.specs.Entries.{entries_of, version, inserted, size_of, stamp_of, entries_at, IsAbsent, IsMark, KeepsMarks};
+    ghost use Rattle.fjall_memtable.specs.Entries.{entries_kept, version, inserted, size_of, stamp_of, entries_at, IsAbsent, IsMark, KeepsMarks};
 
     /// A memtable of no entries. It takes no memory.
     pub fn new(alloc: Global) -> Memtable
-        ensures { entries_of result ≡ [] }
+        ensures { entries_kept result ≡ [] }
     {
         Memtable {
             alloc,
@@ -52,15 +51,15 @@ impl Memtable {
 
     /// How many entries it has.
     pub fn len(&self) -> usize
-        ensures len { result ≡ length (entries_of self.now) }
-        ensures ordered { IsOrdered (entries_of self.now) }
+        ensures len { result ≡ length (entries_kept self.now) }
+        ensures ordered { IsOrdered (entries_kept self.now) }
     {
         self.map.len()
     }
 
     /// Whether it has no entry.
     pub fn is_empty(&self) -> bool
-        ensures { IsTrue result ↔ (entries_of self.now ≡ []) }
+        ensures { IsTrue result ↔ (entries_kept self.now ≡ []) }
     {
         self.map.is_empty()
     }
@@ -68,7 +67,7 @@ impl Memtable {
     /// How many bytes its entries count for: each as many as its key and its value have, and 16 more. It is at most the
     /// greatest u64, at which it stops.
     pub fn size(&self) -> u64
-        ensures { result ≡ min (sum_by size_of (entries_of self.now)) (2 ^ 64 - 1) }
+        ensures { result ≡ min (sum_by size_of (entries_kept self.now)) (2 ^ 64 - 1) }
     {
         let text_len = self.text.as_slice().len() as u64;
         (self.map.len() as u64)
@@ -88,9 +87,9 @@ impl Memtable {
         requires some { 0 < length key.now }
         requires key { length key.now < 2 ^ 16 }
         requires value { length (value_bytes (option_map (λ v. v.now) value)) < 2 ^ 32 }
-        requires absent { IsAbsent key.now number (entries_of self.old) }
-        ensures ok { OnOk result (entries_of self.new ≡ inserted (version key.now number (option_map (λ v. v.now) value.entry)) (entries_of self.old)) }
-        ensures err { OnErr result (entries_of self.new ≡ entries_of self.old) }
+        requires absent { IsAbsent key.now number (entries_kept self.old) }
+        ensures ok { OnOk result (entries_kept self.new ≡ inserted (version key.now number (option_map (λ v. v.now) value.entry)) (entries_kept self.old)) }
+        ensures err { OnErr result (entries_kept self.new ≡ entries_kept self.old) }
         ensures marks { KeepsMarks self.old self.new }
     {
         self.insert_once(key, number, value)?;
@@ -108,10 +107,10 @@ impl Memtable {
         requires some { 0 < length key.now }
         requires key { length key.now < 2 ^ 16 }
         requires value { length (value_bytes (option_map (λ v. v.now) value)) < 2 ^ 32 }
-        ensures told { IfOk result (λ is_new. is_new ≡ not (has_entry key.now number (entries_of self.old))) }
-        ensures new { result ≡ Ok true → entries_of self.new ≡ inserted (version key.now number (option_map (λ v. v.now) value.entry)) (entries_of self.old) }
-        ensures there { result ≡ Ok false → entries_of self.new ≡ entries_of self.old }
-        ensures err { OnErr result (entries_of self.new ≡ entries_of self.old) }
+        ensures told { IfOk result (λ is_new. is_new ≡ not (has_entry key.now number (entries_kept self.old))) }
+        ensures new { result ≡ Ok true → entries_kept self.new ≡ inserted (version key.now number (option_map (λ v. v.now) value.entry)) (entries_kept self.old) }
+        ensures there { result ≡ Ok false → entries_kept self.new ≡ entries_kept self.old }
+        ensures err { OnErr result (entries_kept self.new ≡ entries_kept self.old) }
         ensures marks { KeepsMarks self.old self.new }
     {
         match value {
@@ -131,10 +130,10 @@ impl Memtable {
         requires key { length key.now < 2 ^ 16 }
         requires value { length bytes.now < 2 ^ 32 }
         requires tombstone { (if is_value then 0 else length bytes.now) ≡ 0 }
-        ensures told { IfOk result (λ is_new. is_new ≡ not (has_entry key.now number (entries_of self.old))) }
-        ensures new { result ≡ Ok true → entries_of self.new ≡ inserted (version key.now number (if is_value then Some bytes.now else None)) (entries_of self.old) }
-        ensures there { result ≡ Ok false → entries_of self.new ≡ entries_of self.old }
-        ensures err { OnErr result (entries_of self.new ≡ entries_of self.old) }
+        ensures told { IfOk result (λ is_new. is_new ≡ not (has_entry key.now number (entries_kept self.old))) }
+        ensures new { result ≡ Ok true → entries_kept self.new ≡ inserted (version key.now number (if is_value then Some bytes.now else None)) (entries_kept self.old) }
+        ensures there { result ≡ Ok false → entries_kept self.new ≡ entries_kept self.old }
+        ensures err { OnErr result (entries_kept self.new ≡ entries_kept self.old) }
         ensures marks { KeepsMarks self.old self.new }
     {
         self.text.reserve(key.len() + bytes.len())?;
@@ -159,7 +158,7 @@ impl Memtable {
     /// The newest version of a key that is numbered below an instant, by one look-up; None where no version is. It is
     /// refused for want of memory alone, which it takes at a key above 16 bytes.
     pub fn get_at(&self, key: &[u8], instant: u64) -> Result<Option<TableEntry<'_>>, AllocError>
-        ensures { IfOk result (λ found. option_map seen found ≡ slice_get (versions_at key.now instant (entries_of self.now)) 0) }
+        ensures { IfOk result (λ found. option_map seen found ≡ slice_get (versions_at key.now instant (entries_kept self.now)) 0) }
     {
         if instant == 0 {
             return Ok(None);
@@ -169,7 +168,7 @@ impl Memtable {
     }
 
     fn first_from(&self, from: VersionKey) -> Option<TableEntry<'_>>
-        ensures { option_map seen result ≡ slice_get (versions_at from.key (from.number + 1) (entries_of self.now)) 0 }
+        ensures { option_map seen result ≡ slice_get (versions_at from.key (from.number + 1) (entries_kept self.now)) 0 }
     {
         let wanted = &from;
         match self.map.range(wanted..).next() {
@@ -189,7 +188,7 @@ impl Memtable {
 
     /// All versions, in order, to be read from both ends.
     pub fn versions(&self) -> Versions<'_>
-        ensures versions { result ≡ entries_of self.now }
+        ensures versions { result ≡ entries_kept self.now }
         ensures ordered { IsOrdered result }
     {
         Versions {
@@ -201,7 +200,7 @@ impl Memtable {
     /// The versions whose keys lie between the bounds, in order, to be read from both ends; reversed bounds have none
     /// between them. It is refused for want of memory alone, which a bound at a key above 16 bytes takes.
     pub fn range(&self, range: KeyBounds<'_>) -> Result<Versions<'_>, AllocError>
-        ensures versions { IfOk result (λ vs. vs ≡ entries_within (key_range range.entry) (entries_of self.now)) }
+        ensures versions { IfOk result (λ vs. vs ≡ entries_within (key_range range.entry) (entries_kept self.now)) }
         ensures ordered { IfOk result IsOrdered }
     {
         let (start, end) = run_forward(range);
@@ -212,7 +211,7 @@ impl Memtable {
 
     fn part(&self, start: Bound<VersionKey>, end: Bound<VersionKey>) -> Versions<'_>
         requires { IsForwardBy start end }
-        ensures versions { result ≡ filter (λ e. range_contains stamp_cmp start end (stamp_of e)) (entries_of self.now) }
+        ensures versions { result ≡ filter (λ e. range_contains stamp_cmp start end (stamp_of e)) (entries_kept self.now) }
         ensures ordered { IsOrdered result }
     {
         Versions {
@@ -224,7 +223,7 @@ impl Memtable {
     /// A mark of what it holds now, to which `undo` goes back: how many bytes its keys and values have.
     pub fn mark(&self) -> usize
         ensures mark { IsMark self.now result }
-        ensures entries { entries_at result self.now ≡ entries_of self.now }
+        ensures entries { entries_at result self.now ≡ entries_kept self.now }
     {
         self.text.as_slice().len()
     }
@@ -232,7 +231,7 @@ impl Memtable {
     /// Takes back all that was inserted since a mark. It takes no memory and can't fail, and looks at each entry.
     pub fn undo(&mut self, mark: usize)
         requires { IsMark self.old mark }
-        ensures { entries_of self.new ≡ entries_at mark self.old }
+        ensures { entries_kept self.new ≡ entries_at mark self.old }
     {
         self.map.retain(|_, place| place.ends_by(mark));
         self.text.truncate(mark);

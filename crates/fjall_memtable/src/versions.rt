@@ -22,11 +22,11 @@ impl<'a> Model for Versions<'a> {
     ghost use Rattle.std.specs.Prelude.{List, map};
     ghost use Rattle.std.specs.List.{AllByRecursion};
     ghost use Rattle.fjall_table.specs.Blocks.{Entry};
-    ghost use Rattle.fjall_memtable.specs.Places.{entry_of, IsPlaced};
+    ghost use Rattle.fjall_memtable.specs.Places.{entry_at_place, IsPlaced};
 
     ghost Value = { List Entry };
 
-    ghost view = { λ v. map (entry_of v.text.now) v.range };
+    ghost view = { λ v. map (entry_at_place v.text.now) v.range };
 
     ghost invariant = { λ v. AllByRecursion (IsPlaced v.text.now) v.range };
 }

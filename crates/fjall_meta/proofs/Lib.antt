@@ -1,17 +1,14 @@
-pub mod Options
+mod Options
 pub mod Changes
 pub mod Rising
 pub mod Orders
-pub mod Faults
-pub mod Entries
-pub mod Keys
+mod Faults
+mod Entries
+mod Keys
 pub mod Alike
-pub mod Grouping
-pub mod States
-pub mod Distinct
-pub mod Back
-pub mod Searches
-pub mod Without
-mod TrackerEntries
-pub mod TrackerOpenings
-pub mod TrackerSound
+mod Grouping
+mod States
+mod Distinct
+mod Back
+mod Searches
+mod Without

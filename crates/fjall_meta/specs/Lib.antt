@@ -1,4 +1,3 @@
 pub mod Keyspaces
 pub mod Entries
 pub mod Reading
-pub mod Trackers

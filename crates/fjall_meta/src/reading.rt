@@ -2,7 +2,7 @@
 
 ghost use Rattle.std.specs.Prelude.{◌≡◌, ◌↔◌, ℕ, ◌==◌, if◌then◌else◌, ◌∷◌, [], ◌++◌, map, filter_map, All, IsTrue, IfOk, IfErr, OnOk, MatchOption, None, Some, Ok};
 ghost use Rattle.fjall_base.specs.declared.error.Error.TheVariants.{OutOfMemory};
-ghost use Rattle.fjall_options.specs.Options.{Reads, Refuses, value_of};
+ghost use Rattle.fjall_options.specs.Options.{ReadsStored, RefusesStored, value_of};
 ghost use Rattle.fjall_meta.specs.Reading.{key_id, AreIds, pairs_of, stored_name, stored_keyspace, first_fault, IsFirstFault, IsReadingRefusal, ReadsBack, own_entries, number_in, entries_at, IsStored};
 ghost use Rattle.fjall_meta.specs.Keyspaces.{AreKeyspaces};
 ghost use Rattle.fjall_meta.specs.Entries.{entries_of};
@@ -80,7 +80,7 @@ fn find<'a>(pairs: &'a [KvPair], key: &[u8]) -> Option<&'a Slice>
 
 /// The name that the pairs give to a keyspace.
 fn stored_name(alloc: Global, id: u64, pairs: &[KvPair]) -> Result<Slice>
-    ensures { Reads result (stored_name id pairs.now) }
+    ensures { ReadsStored result (stored_name id pairs.now) }
 {
     let found = {
         let key = encode_name_key(alloc, id)?;
@@ -101,7 +101,7 @@ fn stored_keyspace(
     id: u64,
     pairs: &[KvPair],
 ) -> Result<(Slice, KeyspaceCreateOptions)>
-    ensures { Reads result (stored_keyspace id pairs.now) }
+    ensures { ReadsStored result (stored_keyspace id pairs.now) }
 {
     let name = stored_name(alloc, id, pairs)?;
     let options = KeyspaceCreateOptions::from_kvs(alloc, id, pairs)?;
@@ -123,7 +123,7 @@ fn keyspace_of(alloc: Global, id: u64, own: &[MetaEntry]) -> Result<LivingKeyspa
     ensures id { IfOk result (λ k. k.id ≡ id) }
     ensures given { IfOk result (λ k. stored_keyspace id (pairs_of own.now) ≡ Ok (k.name, k.options)) }
     ensures number { IfOk result (λ k. k.number ≡ number_in own.now) }
-    ensures cause { IfErr result (λ e. Refuses e (stored_keyspace id (pairs_of own.now))) }
+    ensures cause { IfErr result (λ e. RefusesStored e (stored_keyspace id (pairs_of own.now))) }
 {
     let pairs = pairs_of(alloc, own)?;
     let (name, options) = stored_keyspace(alloc, id, &pairs)?;

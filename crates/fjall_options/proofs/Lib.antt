@@ -1,3 +1,3 @@
-pub mod Spelled
+mod Spelled
 pub mod OptionTables
 pub mod StoredPairs

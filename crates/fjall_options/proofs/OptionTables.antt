@@ -1,11 +1,11 @@
--- The table of options: each stands at its place, no two have one name, and each default is a value of its option.
+-- The table of options: each stands at its place, which no other one has, and keeps to valid values.
 use Rattle.std.proofs.Common.{◌≡◌, ℕ, ◌<◌, true, not, List, [], length, refl, sym, ap, ◌∙◌, arith, inl, inr, Some}
 use Rattle.std.proofs.lemmas.Bool.{cases_eq}
 use Rattle.std.proofs.lemmas.List.{length-set, get_or-set_same, get_or-set_other}
 use Rattle.std.specs.List.{slice_get}
 use Rattle.fjall_options.specs.declared.options.stored_option.StoredOption.{StoredOption}
 use Rattle.fjall_options.specs.declared.options.stored_option.StoredOption.TheVariants.{CompactionStrategy, DataBlockCompressionPolicy, DataBlockHashRatioPolicy, DataBlockRestartIntervalPolicy, DataBlockSizePolicy, ExpectPointReadHits, FilterBlockPartitioningPolicy, FilterBlockPinningPolicy, FilterPolicy, IndexBlockCompressionPolicy, IndexBlockPartitioningPolicy, IndexBlockPinningPolicy, IndexBlockRestartIntervalPolicy, LevelCount, ManualJournalPersist, MaxMemtableSize, Version, LeveledL0Threshold, LeveledTargetSize, LeveledLevelRatioPolicy}
-use Rattle.fjall_options.specs.Options.{stored_options, place, default_options, is_value, value_at, with_value, AreOptions}
+use Rattle.fjall_options.specs.Options.{stored_options, place, is_value, with_value, AreOptions}
 
 pub placed : (option : StoredOption) → slice_get stored_options (place option) ≡ Some option
 placed CompactionStrategy = refl
@@ -50,33 +50,6 @@ place_below Version = omega arith
 place_below LeveledL0Threshold = omega arith
 place_below LeveledTargetSize = omega arith
 place_below LeveledLevelRatioPolicy = omega arith
-
-default_valid : (option : StoredOption) → is_value option (value_at option default_options) ≡ true
-unfolding default_options
-default_valid CompactionStrategy = refl
-default_valid DataBlockCompressionPolicy = refl
-default_valid DataBlockHashRatioPolicy = refl
-default_valid DataBlockRestartIntervalPolicy = refl
-default_valid DataBlockSizePolicy = refl
-default_valid ExpectPointReadHits = refl
-default_valid FilterBlockPartitioningPolicy = refl
-default_valid FilterBlockPinningPolicy = refl
-default_valid FilterPolicy = refl
-default_valid IndexBlockCompressionPolicy = refl
-default_valid IndexBlockPartitioningPolicy = refl
-default_valid IndexBlockPinningPolicy = refl
-default_valid IndexBlockRestartIntervalPolicy = refl
-default_valid LevelCount = refl
-default_valid ManualJournalPersist = refl
-default_valid MaxMemtableSize = refl
-default_valid Version = refl
-default_valid LeveledL0Threshold = refl
-default_valid LeveledTargetSize = refl
-default_valid LeveledLevelRatioPolicy = refl
-
-pub defaults : AreOptions default_options
-unfolding default_options
-defaults = record { complete = refl; valid = default_valid }
 
 -- an option has one place
 pub one_place : (a b : StoredOption) → place a ≡ place b → a ≡ b

@@ -15,7 +15,7 @@ use Rattle.fjall_options.specs.declared.options.stored_option.StoredOption.{Stor
 use Rattle.fjall_options.specs.declared.options.stored_option.StoredOption.TheVariants.{CompactionStrategy}
 use Rattle.fjall_base.specs.Results.{◌>>=◌}
 use Rattle.fjall_base.proofs.Results.{bind_ok}
-use Rattle.fjall_options.specs.Options.{stored_options, place, option_name, is_value, value_at, AreOptions, config_key, config_pair, config_pairs, value_of, valid_value, stored_value, stored_values, Refuses}
+use Rattle.fjall_options.specs.Options.{stored_options, place, option_name, is_value, value_at, AreOptions, config_key, config_pair, config_pairs, value_of, valid_value, stored_value, stored_values, RefusesStored}
 use Rattle.fjall_options.proofs.OptionTables.{placed}
 
 -- ---- keys
@@ -151,8 +151,8 @@ value_read id pairs front i value total lt h so_far =
     rw (next_option i lt, h) (regroup front value (stored_values id pairs (drop (i + 1) stored_options))) in
     sym one ∙ so_far
 
-pub value_refused : (error : Error) (id : ℕ) (pairs : List Pair) (front : List (List ℕ)) (i : ℕ) (total : Result (List (List ℕ)) StorageError) → i < 20 → Refuses error (stored_value id pairs (item i))
-    → with_before front (stored_values id pairs (drop i stored_options)) ≡ total → Refuses error total
+pub value_refused : (error : Error) (id : ℕ) (pairs : List Pair) (front : List (List ℕ)) (i : ℕ) (total : Result (List (List ℕ)) StorageError) → i < 20 → RefusesStored error (stored_value id pairs (item i))
+    → with_before front (stored_values id pairs (drop i stored_options)) ≡ total → RefusesStored error total
 unfolding stored_values
 value_refused errors.OutOfMemory id pairs front i total lt h so_far = tt
 value_refused (errors.Storage cause) id pairs front i total lt h so_far = sym so_far ∙ rw (next_option i lt, h) refl

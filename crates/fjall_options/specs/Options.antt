@@ -224,12 +224,12 @@ stored_values id pairs (option ∷ options) = do
   Ok (value ∷ others)
 
 -- the error is the refusal that reading met, or memory ran out
-abbrev pub Refuses : {Y : Type 0} → Error → Result Y StorageError → Type 0
-Refuses errors.OutOfMemory read = ⊤
-Refuses (errors.Storage cause) read = read ≡ Err cause
-Refuses error read = ⊥
+abbrev pub RefusesStored : {Y : Type 0} → Error → Result Y StorageError → Type 0
+RefusesStored errors.OutOfMemory read = ⊤
+RefusesStored (errors.Storage cause) read = read ≡ Err cause
+RefusesStored error read = ⊥
 
 -- what a function answered is what reading gives, unless memory ran out
-abbrev pub Reads : {Y : Type 0} → Result Y Error → Result Y StorageError → Type 0
-Reads (Ok x) read = read ≡ Ok x
-Reads (Err e) read = Refuses e read
+abbrev pub ReadsStored : {Y : Type 0} → Result Y Error → Result Y StorageError → Type 0
+ReadsStored (Ok x) read = read ≡ Ok x
+ReadsStored (Err e) read = RefusesStored e read

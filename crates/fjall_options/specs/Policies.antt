@@ -9,7 +9,7 @@ use Rattle.fjall_options.specs.declared.options.filter.BloomConstructionPolicy.T
 use Rattle.fjall_options.specs.declared.options.filter.FilterPolicyEntry.{FilterPolicyEntry}
 use Rattle.fjall_options.specs.declared.options.filter.FilterPolicyEntry.TheVariants as filters
 use Rattle.fjall_base.specs.Results.{◌>>=◌}
-use Rattle.fjall_options.specs.Reading.{Fault, Invalid, Reader, byte_at, number_at}
+use Rattle.fjall_options.specs.Reading.{Fault, Invalid, ValueReader, byte_at, number_at}
 
 -- ---- a policy
 
@@ -18,7 +18,7 @@ abbrev pub policy_bytes : {T : Type 0} → (T → List ℕ) → List T → List 
 policy_bytes spelled entries = length entries ∷ flat_map spelled entries
 
 -- so many entries, one after another
-abbrev pub entries_at : {T : Type 0} → Reader T → ℕ → List ℕ → Result (List T) Fault
+abbrev pub entries_at : {T : Type 0} → ValueReader T → ℕ → List ℕ → Result (List T) Fault
 entries_at entry_at zero bytes = Ok []
 entries_at entry_at (suc n) bytes = do
   first ← entry_at bytes
@@ -26,7 +26,7 @@ entries_at entry_at (suc n) bytes = do
   Ok (first.0 ∷ others)
 
 -- A policy has at least one entry. What stands behind the last one is passed over.
-abbrev pub policy_at : {T : Type 0} → Reader T → List ℕ → Result (List T) Fault
+abbrev pub policy_at : {T : Type 0} → ValueReader T → List ℕ → Result (List T) Fault
 policy_at entry_at bytes = do
   count ← byte_at bytes
   if count.0 == 0 then Err (Invalid (codes "PolicyLength") 0) else entries_at entry_at count.0 count.1
@@ -44,7 +44,7 @@ flag_bytes true = 1 ∷ []
 flag_bytes false = 0 ∷ []
 
 -- only 1 is true
-abbrev pub flag_at : Reader Bool
+abbrev pub flag_at : ValueReader Bool
 flag_at bytes = do
   flag ← byte_at bytes
   Ok (flag.0 == 1, flag.1)
@@ -52,7 +52,7 @@ flag_at bytes = do
 abbrev pub compression_bytes : CompressionType → List ℕ
 compression_bytes compressions.None = 0 ∷ []
 
-abbrev pub compression_at : Reader CompressionType
+abbrev pub compression_at : ValueReader CompressionType
 compression_at bytes = do
   kind ← byte_at bytes
   if kind.0 == 0 then Ok (compressions.None, kind.1) else Err (Invalid (codes "CompressionType") kind.0)
@@ -63,13 +63,13 @@ filter_bytes filters.None = 0 ∷ []
 filter_bytes (filters.Bloom (BitsPerKey bits)) = 1 ∷ 0 ∷ number_bytes bits
 filter_bytes (filters.Bloom (FalsePositiveRate rate)) = 1 ∷ 1 ∷ number_bytes rate
 
-abbrev pub bloom_at : Reader BloomConstructionPolicy
+abbrev pub bloom_at : ValueReader BloomConstructionPolicy
 bloom_at bytes = do
   kind ← byte_at bytes
   if kind.0 == 0 then (number_at kind.1 >>= λ bits. Ok (BitsPerKey bits.0, bits.1)) else (
       if kind.0 == 1 then (number_at kind.1 >>= λ rate. Ok (FalsePositiveRate rate.0, rate.1)) else Err (Invalid (codes "BloomPolicy") kind.0))
 
-abbrev pub filter_at : Reader FilterPolicyEntry
+abbrev pub filter_at : ValueReader FilterPolicyEntry
 filter_at bytes = do
   tag ← byte_at bytes
   if tag.0 == 0 then Ok (filters.None, tag.1) else (

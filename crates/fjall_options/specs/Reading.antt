@@ -27,17 +27,17 @@ abbrev pub Read : Type 0 → Type 0
 Read T = Result T Fault
 
 -- What reads a value of type T: the value and the bytes behind it, or a fault.
-abbrev pub Reader : Type 0 → Type 0
-Reader T = List ℕ → Result (T × List ℕ) Fault
+abbrev pub ValueReader : Type 0 → Type 0
+ValueReader T = List ℕ → Result (T × List ℕ) Fault
 
 -- A field that isn't whole is short.
 abbrev pub whole : {A : Type 0} → Option A → Read A
 whole (Some x) = Ok x
 whole None = Err Short
 
-abbrev pub byte_at : Reader ℕ
+abbrev pub byte_at : ValueReader ℕ
 byte_at bytes = whole (fields.byte_at bytes)
 
 -- a number of four bytes, the lowest first
-abbrev pub number_at : Reader ℕ
+abbrev pub number_at : ValueReader ℕ
 number_at bytes = whole (fields.number_at 4 bytes)

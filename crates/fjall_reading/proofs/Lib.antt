@@ -1,6 +1,6 @@
-pub mod Paging
-pub mod Leaving
-pub mod Prefixing
-pub mod Raising
-pub mod Counting
-pub mod Beginning
+mod Paging
+mod Leaving
+mod Prefixing
+mod Raising
+mod Counting
+mod Beginning

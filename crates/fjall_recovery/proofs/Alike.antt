@@ -4,32 +4,32 @@ use Rattle.std.proofs.lemmas.List.{append-nil}
 use Rattle.std.specs.Prelude.{◌↔◌}
 use Rattle.std.specs.List.{AllByRecursion}
 use Rattle.fjall_base.specs.Store.{Store, Command}
-use Rattle.fjall_base.specs.Disk.{Name, Entry, Missing, File, Folder, State, Image, IsFile, IsImage, all_synced, standing}
+use Rattle.fjall_base.specs.Disk.{Name, DiskEntry, Missing, File, Folder, DiskState, Image, IsFile, IsImage, all_synced, standing}
 use Rattle.fjall_base.specs.Crash.{IsHoused}
 use Rattle.fjall_base.proofs.Wholes.{all_kept, all_kept-is, all_kept_is_left}
 use Rattle.fjall_files.specs.Texts.{text_in}
 use Rattle.fjall_journal.specs.declared.batch.Tail.TheVariants.{Clean, Torn}
 use Rattle.fjall_journal.specs.Batches.{NoneAt}
 use Rattle.fjall_table.specs.declared.table_info.TableInfo.{TableInfo}
-use Rattle.fjall_tree.specs.Records.{IsRecords}
+use Rattle.fjall_manifest.specs.Records.{IsRecords}
 use Rattle.fjall_files.specs.Marker.{marker_tells}
 use Rattle.fjall_files.specs.Names.{journal_name, keyspace_folder, current_name, table_name}
 use Rattle.fjall_meta.specs.declared.living.LivingKeyspace.{LivingKeyspace}
 use Rattle.fjall_meta.specs.Entries.{entries_of}
-use Rattle.fjall_home.specs.Homes.{HoldTables, Home}
+use Rattle.fjall_manifest.specs.Homes.{HoldTables, Home}
 use Rattle.fjall_catalog.specs.Catalog.{HoldsEntries, listed}
 use Rattle.fjall_catalog.specs.Catalog as catalog
-use Rattle.fjall_recovery.specs.Folders.{Contents, IsBegun, IsOpenable, IsUnfinished, StandsFor, file_bytes}
+use Rattle.fjall_recovery.specs.Folders.{Contents, ImageStandsFor, IsBegun, IsOpenable, IsUnfinished, file_bytes}
 use Rattle.fjall_recovery.specs.Homes.{HasOpenableHome, HaveHomes, Homes}
 use Rattle.fjall_recovery.proofs.Housing.{homes_alike}
-use Rattle.fjall_recovery.specs.Journals.{Journal, ReadsAs, AreRead, journal_text}
+use Rattle.fjall_recovery.specs.Journals.{WholeJournal, ReadsAs, AreJournalsRead, journal_text}
 use Rattle.fjall_recovery.specs.Naming.{JournalsAreNamed, KeyspacesAreNamed}
 use Rattle.fjall_recovery.specs.Amid.{StandsAmid}
 
 -- ---- by what counts
 
 -- these journals read alike
-pub read_by : (image other : Image) (journals : List Journal) → AllByRecursion (λ (j : Journal). journal_text other j.id ≡ journal_text image j.id) journals → AreRead image journals → AreRead other journals
+pub read_by : (image other : Image) (journals : List WholeJournal) → AllByRecursion (λ (j : WholeJournal). journal_text other j.id ≡ journal_text image j.id) journals → AreJournalsRead image journals → AreJournalsRead other journals
 read_by image other [] texts read = tt
 read_by image other (j ∷ []) texts read =
     elim read [ inl clean ↦ inl (subst (λ t. ReadsAs t j.batches Clean) (sym texts.0) clean) | inr torn ↦ inr (subst (λ t. ReadsAs t j.batches Torn) (sym texts.0) torn) ]
@@ -37,7 +37,7 @@ read_by image other (j ∷ k ∷ journals) texts read = (subst (λ t. ReadsAs t 
 
 -- An opening finds nothing wrong in an image where its marker, its journals and its records are those of another one that it finds right, and its table and its homes say the same.
 pub sound_by : (image other : Image) (c : Contents) → IsOpenable image c → file_bytes (other (codes "version")) ≡ file_bytes (image (codes "version")) → JournalsAreNamed other
-    → ((id : ℕ) → id < 2 ^ 64 → IsFile (other (journal_name id)) ↔ IsFile (image (journal_name id))) → AllByRecursion (λ (j : Journal). journal_text other j.id ≡ journal_text image j.id) c.journals
+    → ((id : ℕ) → id < 2 ^ 64 → IsFile (other (journal_name id)) ↔ IsFile (image (journal_name id))) → AllByRecursion (λ (j : WholeJournal). journal_text other j.id ≡ journal_text image j.id) c.journals
     → KeyspacesAreNamed other → other (keyspace_folder 0) ≡ Folder → IsFile (other (current_name 0)) → catalog.records_in other ≡ catalog.records_in image
     → HoldsEntries other c.last.table (entries_of c.keyspaces.living) → HaveHomes other c.keyspaces.living c.homes → IsOpenable other c
 sound_by image other c sound marker named files texts keyspaces folder file records entries homes = record {
@@ -77,7 +77,7 @@ sound_by image other c sound marker named files texts keyspaces folder file reco
 -- ---- everywhere
 
 -- the two entries read alike
-pub record Alike (e d : Entry) : Type 0 where
+pub record Alike (e d : DiskEntry) : Type 0 where
   pub bytes : file_bytes d ≡ file_bytes e
   pub text : text_in d ≡ text_in e
   pub counted : text_in d ≡ text_in e
@@ -85,7 +85,7 @@ pub record Alike (e d : Entry) : Type 0 where
   pub folder : (e ≡ Folder) ↔ (d ≡ Folder)
 
 -- an entry, and all its bytes synced
-pub alike_synced : (e : Entry) → Alike (all_synced e) e
+pub alike_synced : (e : DiskEntry) → Alike (all_synced e) e
 alike_synced Missing = record { bytes = refl; text = refl; counted = refl; file = ((λ f. f), (λ f. f)); folder = ((λ f. f), (λ f. f)) }
 alike_synced Folder = record { bytes = refl; text = refl; counted = refl; file = ((λ f. f), (λ f. f)); folder = ((λ f. f), (λ f. f)) }
 alike_synced (File synced unsynced) = record {
@@ -97,7 +97,7 @@ alike_synced (File synced unsynced) = record {
 }
 
 module _ (image other : Image) (alike : (q : Name) → Alike (image q) (other q)) where
-  texts_all : (journals : List Journal) → AllByRecursion (λ (j : Journal). journal_text other j.id ≡ journal_text image j.id) journals
+  texts_all : (journals : List WholeJournal) → AllByRecursion (λ (j : WholeJournal). journal_text other j.id ≡ journal_text image j.id) journals
   texts_all [] = tt
   texts_all (j ∷ journals) = ((alike (journal_name j.id)).text, texts_all journals)
 
@@ -150,17 +150,17 @@ module _ (image other : Image) (alike : (q : Name) → Alike (image q) (other q)
     catalog = subst IsBegun (sym (alike (current_name 0)).counted) begun.catalog;
   }
 
-  pub alike_stands : (store : Store) → StandsFor image store → StandsFor other store
+  pub alike_stands : (store : Store) → ImageStandsFor image store → ImageStandsFor other store
   alike_stands store (inl (c, sound, is)) = inl (c, record { openable = alike_sound c sound.openable; versions = sound.versions }, is)
   alike_stands store (inr (begun, is)) = inr (alike_unfinished begun, is)
 
 -- ---- what stands
 
-pub kept_alike : (state : State) (q : Name) → Alike (all_kept state q) (standing state q)
-kept_alike state q = subst (λ (e : Entry). Alike e (state q).now) (sym (all_kept-is state q)) (alike_synced (state q).now)
+pub kept_alike : (state : DiskState) (q : Name) → Alike (all_kept state q) (standing state q)
+kept_alike state q = subst (λ (e : DiskEntry). Alike e (state q).now) (sym (all_kept-is state q)) (alike_synced (state q).now)
 
 -- Where whatever a crash leaves stands for the base and a beginning of the commands, what stands does.
-pub standing_amid : (state : State) (base : Store) (least all : List Command) → IsHoused state → ((image : Image) → IsImage state image → StandsAmid base least all image) → StandsAmid base least all (standing state)
+pub standing_amid : (state : DiskState) (base : Store) (least all : List Command) → IsHoused state → ((image : Image) → IsImage state image → StandsAmid base least all image) → StandsAmid base least all (standing state)
 standing_amid state base least all housed crash =
     let whole = crash (all_kept state) (all_kept_is_left state housed) in
     record { front = whole.front; holds = whole.holds; within = whole.within; stands = alike_stands (all_kept state) (standing state) (kept_alike state) _ whole.stands }

@@ -9,19 +9,19 @@ use Rattle.fjall_base.specs.Disk.{Image}
 use Rattle.fjall_journal.specs.Batches.{IsWhole}
 use Rattle.fjall_journal.proofs.Wholes as Wholes
 use Rattle.std.specs.FinMap.{get}
-use Rattle.fjall_home.specs.Homes.{Home}
-use Rattle.fjall_home.proofs.Meanings.{one_home}
+use Rattle.fjall_manifest.specs.Homes.{Home}
+use Rattle.fjall_manifest.proofs.Meanings.{one_home}
 use Rattle.fjall_meta.specs.Keyspaces.{Keyspaces, keyspace_at}
 use Rattle.fjall_meta.specs.declared.living.LivingKeyspace.{LivingKeyspace}
 use Rattle.fjall_meta.proofs.Rising.{Rises, from_pairs}
 use Rattle.fjall_files.specs.declared.marker.Marker.{Marker}
 use Rattle.fjall_files.specs.declared.marker.Marker.TheVariants.{Whole, Unfinished}
 use Rattle.fjall_files.specs.Marker.{marker_tells}
-use Rattle.fjall_versions.proofs.Slots.{same_maps}
+use Rattle.fjall_contents.proofs.Slots.{same_maps}
 use Rattle.fjall_catalog.proofs.Meanings.{one_catalog}
-use Rattle.fjall_recovery.specs.Folders.{Contents, IsOpenable, IsSound, StandsFor, marker_bytes, store_of, with_versions}
+use Rattle.fjall_recovery.specs.Folders.{Contents, ImageStandsFor, IsOpenable, IsSound, marker_bytes, store_of_contents, with_versions}
 use Rattle.fjall_recovery.specs.Homes.{HasHomeAt, HaveHomes, HaveVersions, Homes, Versions}
-use Rattle.fjall_recovery.specs.Journals.{Journal, AreRead, AreJournalIds, HoldsJournals, journal_text}
+use Rattle.fjall_recovery.specs.Journals.{WholeJournal, AreJournalsRead, AreJournalIds, HoldsJournals, journal_text}
 use Rattle.fjall_recovery.proofs.Storing.{one_map_of_versions}
 
 -- ---- rising lists
@@ -65,31 +65,31 @@ one_list_of_ids image ids others a b =
 
 -- ---- journals
 
-some_end : (image : Image) (j : Journal) (journals : List Journal) → AreRead image (j ∷ journals) → (end : ℕ) × IsWhole (journal_text image j.id) j.batches end
+some_end : (image : Image) (j : WholeJournal) (journals : List WholeJournal) → AreJournalsRead image (j ∷ journals) → (end : ℕ) × IsWhole (journal_text image j.id) j.batches end
 some_end image j [] (inl clean) = (clean.end, clean.whole)
 some_end image j [] (inr torn) = (torn.end, torn.whole)
 some_end image j (k ∷ journals) read = (read.0.end, read.0.whole)
 
-rest_read : (image : Image) (j : Journal) (journals : List Journal) → AreRead image (j ∷ journals) → AreRead image journals
+rest_read : (image : Image) (j : WholeJournal) (journals : List WholeJournal) → AreJournalsRead image (j ∷ journals) → AreJournalsRead image journals
 rest_read image j [] read = tt
 rest_read image j (k ∷ journals) read = read.1
 
-same_journal : (j k : Journal) → j.id ≡ k.id → j.batches ≡ k.batches → j ≡ k
-same_journal j k ids batches = ap (λ i. let r : Journal = record { id = i; batches = j.batches } in r) ids ∙ ap (λ bs. let r : Journal = record { id = k.id; batches = bs } in r) batches
+same_journal : (j k : WholeJournal) → j.id ≡ k.id → j.batches ≡ k.batches → j ≡ k
+same_journal j k ids batches = ap (λ i. let r : WholeJournal = record { id = i; batches = j.batches } in r) ids ∙ ap (λ bs. let r : WholeJournal = record { id = k.id; batches = bs } in r) batches
 
-pub one_reading : (image : Image) (journals others : List Journal) → map (λ (j : Journal). j.id) journals ≡ map (λ (j : Journal). j.id) others → AreRead image journals → AreRead image others → journals ≡ others
+pub one_reading : (image : Image) (journals others : List WholeJournal) → map (λ (j : WholeJournal). j.id) journals ≡ map (λ (j : WholeJournal). j.id) others → AreJournalsRead image journals → AreJournalsRead image others → journals ≡ others
 one_reading image [] [] same a b = refl
 one_reading image [] (k ∷ others) same a b = let no : ⊥ = cc in absurd no
 one_reading image (j ∷ journals) [] same a b = let no : ⊥ = cc in absurd no
 one_reading image (j ∷ journals) (k ∷ others) same a b =
     let ids : j.id ≡ k.id = cc in
-    let rest : map (λ (j : Journal). j.id) journals ≡ map (λ (j : Journal). j.id) others = cc in
+    let rest : map (λ (j : WholeJournal). j.id) journals ≡ map (λ (j : WholeJournal). j.id) others = cc in
     let mine = some_end image j journals a in
     let theirs = some_end image k others b in
     let batches : j.batches ≡ k.batches = (Wholes.one_reading (journal_text image k.id) j.batches k.batches mine.0 theirs.0 (subst (λ i. IsWhole (journal_text image i) j.batches mine.0) ids mine.1) theirs.1).0 in
-    ap (λ (z : Journal). z ∷ journals) (same_journal j k ids batches) ∙ ap (λ (l : List Journal). k ∷ l) (one_reading image journals others rest (rest_read image j journals a) (rest_read image k others b))
+    ap (λ (z : WholeJournal). z ∷ journals) (same_journal j k ids batches) ∙ ap (λ (l : List WholeJournal). k ∷ l) (one_reading image journals others rest (rest_read image j journals a) (rest_read image k others b))
 
-pub one_list_of_journals : (image : Image) (journals others : List Journal) → HoldsJournals image journals → HoldsJournals image others → journals ≡ others
+pub one_list_of_journals : (image : Image) (journals others : List WholeJournal) → HoldsJournals image journals → HoldsJournals image others → journals ≡ others
 one_list_of_journals image journals others a b = one_reading image journals others (one_list_of_ids image _ _ a.ids b.ids) a.read b.read
 
 -- ---- keyspaces
@@ -127,8 +127,8 @@ one_contents image c d a b =
 not_both : (told : Result Marker Error) → told ≡ Ok Whole → told ≡ Ok Unfinished → ⊥
 not_both told whole unfinished = let no = sym whole ∙ unfinished in cc
 
-pub one_store : (image : Image) (s t : Store) → StandsFor image s → StandsFor image t → s ≡ t
-one_store image s t (inl (c, sound, is)) (inl (d, other, at)) = is ∙ ap store_of (one_contents image c d sound other) ∙ sym at
+pub one_store : (image : Image) (s t : Store) → ImageStandsFor image s → ImageStandsFor image t → s ≡ t
+one_store image s t (inl (c, sound, is)) (inl (d, other, at)) = is ∙ ap store_of_contents (one_contents image c d sound other) ∙ sym at
 one_store image s t (inl (c, sound, is)) (inr (begun, at)) = absurd (not_both (marker_tells (marker_bytes image)) sound.openable.marker begun.marker)
 one_store image s t (inr (begun, is)) (inl (c, sound, at)) = absurd (not_both (marker_tells (marker_bytes image)) sound.openable.marker begun.marker)
 one_store image s t (inr (begun, is)) (inr (other, at)) = is ∙ sym at

@@ -5,14 +5,14 @@ use Rattle.std.proofs.lemmas.List.Elements.{All-append}
 use Rattle.std.proofs.Math.Seq.{take-suc}
 use Rattle.std.specs.Prelude.{Contains}
 use Rattle.std.specs.List.{flat_map}
-use Rattle.fjall_base.specs.Disk.{Entry, Missing, File, Folder, Image, IsFile}
+use Rattle.fjall_base.specs.Disk.{DiskEntry, Missing, File, Folder, Image, IsFile}
 use Rattle.fjall_files.specs.Texts.{text_in}
 use Rattle.fjall_journal.specs.declared.batch.Tail.{Tail}
 use Rattle.fjall_journal.specs.Spelling.{spelling}
 use Rattle.fjall_journal.specs.Batches.{Shown, Written, IsWhole, NoneAt, batch_text}
 use Rattle.fjall_table.specs.Frame.{NoFrame}
-use Rattle.fjall_tree.specs.Records.{Fields, HasContradiction, IsRecord, IsRecords, record_text}
-use Rattle.fjall_tree.proofs.Currents.{contradiction_has_no_reading}
+use Rattle.fjall_manifest.specs.Records.{Fields, HasContradiction, IsRecord, IsRecords, record_text}
+use Rattle.fjall_manifest.proofs.Currents.{contradiction_has_no_reading}
 use Rattle.fjall_files.specs.Names.{journal_name}
 use Rattle.fjall_catalog.specs.Catalog.{fields, first_catalog}
 use Rattle.fjall_recovery.specs.Folders.{AreEmpty, IsBegun}
@@ -59,7 +59,7 @@ none_more image ids n lt all one =
 at_id : (image : Image) (ids : List ℕ) (id : ℕ) → AreNone image ids → Contains ids id → NoneAt (journal_text image id)
 at_id image ids id all (k, lt, at) = subst (λ n. NoneAt (journal_text image n)) at (all k id lt)
 
-by_entry : (entry : Entry) → (IsFile entry → NoneAt (text_in entry)) → NoneAt (text_in entry)
+by_entry : (entry : DiskEntry) → (IsFile entry → NoneAt (text_in entry)) → NoneAt (text_in entry)
 by_entry Missing file = nothing_none
 by_entry Folder file = nothing_none
 by_entry (File synced unsynced) file = file tt

@@ -14,11 +14,11 @@ use Rattle.fjall_journal.specs.declared.batch.Tail.TheVariants.{Clean, Torn, Dam
 use Rattle.fjall_journal.specs.Batches.{IsTail, Shown, Written, shown}
 use Rattle.fjall_journal.specs.Steps.{batch_at}
 use Rattle.fjall_journal.proofs.Batches.{some_early, some_goes_on, some_other}
-use Rattle.fjall_versions.specs.Replays.{Fault, Unordered, Indirect, first_fault, least_after, Names, NamesFault}
-use Rattle.fjall_tree.specs.Records.{Fields, HasContradiction}
-use Rattle.fjall_home.specs.Homes.{records_text}
-use Rattle.fjall_home.specs.Reading as home
-use Rattle.fjall_home.proofs.Openings.{openable_no_damage}
+use Rattle.fjall_contents.specs.Replays.{JournalFault, Unordered, Indirect, first_fault, least_after, Names, NamesFault}
+use Rattle.fjall_manifest.specs.Records.{Fields, HasContradiction}
+use Rattle.fjall_manifest.specs.Homes.{records_text}
+use Rattle.fjall_manifest.specs.Reading as home
+use Rattle.fjall_manifest.proofs.Openings.{openable_no_damage}
 use Rattle.fjall_meta.specs.declared.entry.MetaEntry.{MetaEntry}
 use Rattle.fjall_meta.specs.declared.living.LivingKeyspace.{LivingKeyspace}
 use Rattle.fjall_meta.specs.Keyspaces.{Keyspaces}
@@ -29,7 +29,7 @@ use Rattle.fjall_files.specs.Marker.{marker_tells}
 use Rattle.fjall_files.specs.Names.{keyspace_folder}
 use Rattle.fjall_catalog.specs.declared.catalog.Catalog.{Catalog}
 use Rattle.fjall_catalog.specs.Catalog.{HoldsEntries, Says, records_in}
-use Rattle.fjall_catalog.specs.Refusals.{HasLast, HasNoLast, HasNoTable, IsDamage, IsRefused}
+use Rattle.fjall_catalog.specs.Refusals.{ArePairsRefused, HasLast, HasNoLast, HasNoTable, IsCatalogDamage}
 use Rattle.fjall_catalog.proofs.Meanings.{held_one, last_one, one_catalog}
 use Rattle.fjall_recovery.specs.Folders.{AreMade, marker_bytes}
 use Rattle.fjall_recovery.specs.Journals.{ReadsAs, journal_text}
@@ -108,7 +108,7 @@ unordered_tells Unrecoverable is = refl
 unordered_tells (InvalidTag tag) is = let e = is.0 in cc
 unordered_tells error is = absurd is
 
-one_of_fault : (fault : Fault) (a b : Error) → Names a fault → Names b fault → AreOne a b
+one_of_fault : (fault : JournalFault) (a b : Error) → Names a fault → Names b fault → AreOne a b
 one_of_fault Unordered a b x y = alike a b (unordered_tells a x ∙ sym (unordered_tells b y))
 one_of_fault Indirect (InvalidTag tag) (InvalidTag other) x y = (x.1 ∙ sym y.1, x.2 ∙ sym y.2)
 one_of_fault Indirect Unrecoverable b x y = let e = x in cc
@@ -116,7 +116,7 @@ one_of_fault Indirect a Unrecoverable x y = let e = y in cc
 one_of_fault Indirect (InvalidTag tag) b x y = absurd y
 one_of_fault Indirect a b x y = absurd x
 
-one_of_faults : (fault : Option Fault) (a b : Error) → NamesFault fault a → NamesFault fault b → AreOne a b
+one_of_faults : (fault : Option JournalFault) (a b : Error) → NamesFault fault a → NamesFault fault b → AreOne a b
 one_of_faults None a b x y = absurd x
 one_of_faults (Some fault) a b x y = one_of_fault fault a b x y
 
@@ -215,7 +215,7 @@ module _ (image : Image) where
 
   -- what the table says is refused with this
   abbrev Misreads : StorageError → Type 0
-  Misreads cause = IsRefused image (λ entries. reading.IsReadingRefusal entries (Storage cause))
+  Misreads cause = ArePairsRefused image (λ entries. reading.IsReadingRefusal entries (Storage cause))
 
   entries_held : (a b : StorageError) (x : Misreads a) → (y : Misreads b) → HoldsEntries image x.last.table y.entries
   entries_held a b x y = subst (λ (c : Catalog). HoldsEntries image c.table y.entries) (one_last y.last x.last y.has x.has) y.holds
@@ -223,7 +223,7 @@ module _ (image : Image) where
   abbrev DamageTells : StorageError → Type 0
   DamageTells cause = ((cause ≡ RecordDamaged) × HasNoLast (records_in image)) ⊎ (((cause ≡ TableDamaged) × HasNoTable image) ⊎ Misreads cause)
 
-  damage_tells : (cause : StorageError) → IsDamage image cause → DamageTells cause
+  damage_tells : (cause : StorageError) → IsCatalogDamage image cause → DamageTells cause
   damage_tells RecordDamaged is = inl (refl, is)
   damage_tells TableDamaged is = inr (inl (refl, is))
   damage_tells OptionMissing is = inr (inr is)
@@ -246,7 +246,7 @@ module _ (image : Image) where
       one_of_entries x.entries a b x.refused (subst (λ (l : List MetaEntry). reading.IsReadingRefusal l (Storage b)) same y.refused)
 
   -- a catalog is damaged in one way
-  pub one_damage : (a b : StorageError) → IsDamage image a → IsDamage image b → a ≡ b
+  pub one_damage : (a b : StorageError) → IsCatalogDamage image a → IsCatalogDamage image b → a ≡ b
   one_damage a b x y = one_of_told a b (damage_tells a x) (damage_tells b y)
 
   -- why what a catalog says is refused
@@ -261,7 +261,7 @@ module _ (image : Image) where
 
   abbrev CatalogTells : Error → Type 0
   CatalogTells error =
-      ((cause : StorageError) × (error ≡ Storage cause) × IsDamage image cause × SaysNothing image)
+      ((cause : StorageError) × (error ≡ Storage cause) × IsCatalogDamage image cause × SaysNothing image)
       ⊎ ((records : List Fields) × (last : Catalog) × (s : Keyspaces) × Says image records last s × SaidRefuses last s error)
 
   catalog_tells : (error : Error) → CatalogRefuses image error → CatalogTells error

@@ -1,22 +1,22 @@
 -- A change within one keyspace's folder, or within tree 0's, leaves all else of the tree as it is.
 use Rattle.std.proofs.Common.{◌≡◌, ◌≢◌, ℕ, ◌<◌, ◌^◌, ◌==◌, true, false, List, All, Option, None, Some, is_some, refl, sym, ◌∙◌, subst, arith}
 use Rattle.std.proofs.lemmas.Bool.Decides.{nat_tests}
-use Rattle.fjall_base.specs.Disk.{Name, Folder, State, Image, Survives}
+use Rattle.fjall_base.specs.Disk.{Name, Folder, DiskState, Image, Survives}
 use Rattle.fjall_files.specs.Regions.{IsImageIn, is_under}
 use Rattle.fjall_files.specs.Names.{keyspace_folder}
 use Rattle.fjall_files.proofs.Changes.{SameOutside}
 use Rattle.fjall_files.proofs.Under.{under_self}
 use Rattle.fjall_table.specs.Blocks.{Entry}
-use Rattle.fjall_tree.specs.Records.{Fields}
-use Rattle.fjall_home.specs.Homes.{Home, is_counted}
-use Rattle.fjall_home.proofs.Naming.{other_folder}
-use Rattle.fjall_home.proofs.Outside.{counted_outside, misnamed_outside}
-use Rattle.fjall_home.proofs.Resting.{region_home, rests_where}
-use Rattle.fjall_home.proofs.Views.{usual_region}
+use Rattle.fjall_manifest.specs.Records.{Fields}
+use Rattle.fjall_manifest.specs.Homes.{Home, is_counted}
+use Rattle.fjall_manifest.proofs.Naming.{other_folder}
+use Rattle.fjall_manifest.proofs.Outside.{counted_outside, misnamed_outside}
+use Rattle.fjall_manifest.proofs.Resting.{region_home, rests_where}
+use Rattle.fjall_manifest.proofs.Views.{usual_region}
 use Rattle.fjall_meta.specs.declared.living.LivingKeyspace.{LivingKeyspace}
 use Rattle.fjall_meta.specs.Keyspaces.{AreKeyspaces, Keyspaces, keyspace_at}
-use Rattle.fjall_versions.proofs.Ids.{living_has}
-use Rattle.fjall_catalog.specs.Catalog.{Rests, Says, home_of}
+use Rattle.fjall_contents.proofs.Ids.{living_has}
+use Rattle.fjall_catalog.specs.Catalog.{CatalogRests, Says, home_of}
 use Rattle.fjall_catalog.proofs.Meanings as Meanings
 use Rattle.fjall_catalog.proofs.Resting.{rests_with}
 use Rattle.fjall_recovery.specs.Folders.{AreMade}
@@ -66,7 +66,7 @@ module _ (id : ℕ) (small : id < 2 ^ 64) where
     other_alike : (i : ℕ) (h : Home) → IsOther id i → HasOpenableHome image i h → HasOpenableHome other i h
     other_alike i h is has = plain_alike image other i h (λ q under. agree q (under_out i is q under)) has
 
-  module _ (old new : State) (agree : (q : Name) → outside id q ≡ true → new q ≡ old q) where
+  module _ (old new : DiskState) (agree : (q : Name) → outside id q ≡ true → new q ≡ old q) where
     never_along : AreNamed old → AreNamed new
     never_along named name at none = subst IsNeverFolder (sym (agree name (outside_test id name (misnamed_outside id name small at none)))) (named name at none)
 
@@ -97,7 +97,7 @@ module _ (id : ℕ) (h : Home) (versions : List Entry) (t : Tree) (lives : is_so
         versions = versions_inserted t.homes t.versions id h versions stored has.versions;
       }
 
-  pub home_rests : (old new : State) (records : List Fields) → RestsInTree old records t → ((q : Name) → outside id q ≡ true → new q ≡ old q) → HasSafeHome new id h → HasVersions h versions
+  pub home_rests : (old new : DiskState) (records : List Fields) → RestsInTree old records t → ((q : Name) → outside id q ≡ true → new q ≡ old q) → HasSafeHome new id h → HasVersions h versions
       → RestsInTree new records (with_home_at id h versions t)
   home_rests old new records lies agree one stored =
       let are = lies.catalog.are in
@@ -113,7 +113,7 @@ module _ (id : ℕ) (h : Home) (versions : List Entry) (t : Tree) (lives : is_so
         versions = versions_inserted t.homes t.versions id h versions stored lies.versions;
       }
 
-  pub home_in_crash : (state : State) (image : Image) (records : List Fields) → RestsInTree state records t → IsImageIn Survives (outside id) state image → HasOpenableHome image id h → HasVersions h versions
+  pub home_in_crash : (state : DiskState) (image : Image) (records : List Fields) → RestsInTree state records t → IsImageIn Survives (outside id) state image → HasOpenableHome image id h → HasVersions h versions
       → HasTree image (with_home_at id h versions t)
   home_in_crash state image records lies is one stored =
       let are = lies.catalog.are in
@@ -149,8 +149,8 @@ module _ (t next : Tree) where
     versions = versions;
   }
 
-  pub catalog_rests : (old new : State) (records others : List Fields) → RestsInTree old records t → HaveSafeHomes old next.keyspaces.living next.homes → HaveVersions next.homes next.versions → AreMade next.last next.keyspaces
-      → ((q : Name) → outside 0 q ≡ true → new q ≡ old q) → Rests new others next.last next.keyspaces → RestsInTree new others next
+  pub catalog_rests : (old new : DiskState) (records others : List Fields) → RestsInTree old records t → HaveSafeHomes old next.keyspaces.living next.homes → HaveVersions next.homes next.versions → AreMade next.last next.keyspaces
+      → ((q : Name) → outside 0 q ≡ true → new q ≡ old q) → CatalogRests new others next.last next.keyspaces → RestsInTree new others next
   catalog_rests old new records others lies homes versions made agree catalog = record {
     named = never_along 0 zero old new agree lies.named;
     catalog = catalog;
@@ -159,7 +159,7 @@ module _ (t next : Tree) where
     versions = versions;
   }
 
-  pub catalog_crash : (state : State) (image : Image) (records others : List Fields) → RestsInTree state records t → HaveSafeHomes state next.keyspaces.living next.homes → HaveVersions next.homes next.versions → AreMade next.last next.keyspaces
+  pub catalog_crash : (state : DiskState) (image : Image) (records others : List Fields) → RestsInTree state records t → HaveSafeHomes state next.keyspaces.living next.homes → HaveVersions next.homes next.versions → AreMade next.last next.keyspaces
       → IsImageIn Survives (outside 0) state image → image (keyspace_folder 0) ≡ Folder → Says image others next.last next.keyspaces → HasTree image next
   catalog_crash state image records others lies homes versions made is folder says =
       tree_left 0 zero state image is others next (places next.keyspaces says.are)

@@ -2,20 +2,20 @@
 use Rattle.std.proofs.Common.{◌≡◌, ◌≢◌, inl, inr, ℕ, ◌<◌, ◌^◌, true, false, List, [], ◌∷◌, codes, All, refl, sym, ◌∙◌, ap, subst}
 use Rattle.std.specs.Str.{bytes_eq}
 use Rattle.std.specs.List.{AllByRecursion}
-use Rattle.fjall_base.specs.Disk.{Name, Entry, File, Folder, Place, State, Image, Survives, folder_of, settle}
+use Rattle.fjall_base.specs.Disk.{Name, DiskEntry, File, Folder, Place, DiskState, Image, Survives, folder_of, settle}
 use Rattle.fjall_base.proofs.Names.{bool_cases, same}
 use Rattle.fjall_base.proofs.States.{settle-in, settle-out}
 use Rattle.fjall_files.specs.Regions.{IsImageIn, is_under}
 use Rattle.fjall_files.proofs.Changes.{SameOutside}
 use Rattle.fjall_files.proofs.Parts.{left_at}
 use Rattle.fjall_table.specs.declared.table_info.TableInfo.{TableInfo}
-use Rattle.fjall_tree.specs.Records.{Fields}
+use Rattle.fjall_manifest.specs.Records.{Fields}
 use Rattle.fjall_files.specs.Names.{IsNameOf, current_name, keyspace_folder, table_name}
-use Rattle.fjall_home.specs.Homes as homes
-use Rattle.fjall_home.specs.Homes.{AreSafe, Home, only}
-use Rattle.fjall_home.proofs.Outside.{counted_outside, keyspaces_outside, misnamed_outside}
-use Rattle.fjall_home.proofs.Resting.{region_home, rests_along, rests_where}
-use Rattle.fjall_home.proofs.Views.{usual_region}
+use Rattle.fjall_manifest.specs.Homes as homes
+use Rattle.fjall_manifest.specs.Homes.{AreSafe, Home, only}
+use Rattle.fjall_manifest.proofs.Outside.{counted_outside, keyspaces_outside, misnamed_outside}
+use Rattle.fjall_manifest.proofs.Resting.{region_home, rests_along, rests_where}
+use Rattle.fjall_manifest.proofs.Views.{usual_region}
 use Rattle.fjall_meta.specs.declared.living.LivingKeyspace.{LivingKeyspace}
 use Rattle.fjall_catalog.specs.Catalog.{Says}
 use Rattle.fjall_recovery.specs.Folders.{AreMade}
@@ -27,11 +27,11 @@ use Rattle.fjall_recovery.proofs.Housing.{homes_along, homes_left}
 use Rattle.fjall_recovery.proofs.Seen.{never_folder}
 
 -- no folder in `keyspaces` is named but by an id, and none was since its last sync
-abbrev pub AreNamed : State → Type 0
+abbrev pub AreNamed : DiskState → Type 0
 AreNamed state = (name : Name) → folder_of name ≡ codes "keyspaces" → ((id : ℕ) → IsNameOf keyspace_folder name id → ⊥) → IsNeverFolder (state name)
 
 -- the folder of all keyspaces is safe, and so are these homes
-pub record Beside (state : State) (living : List LivingKeyspace) (homes : Homes) : Type 0 where
+pub record Beside (state : DiskState) (living : List LivingKeyspace) (homes : Homes) : Type 0 where
   pub folder : state (codes "keyspaces") ≡ only Folder
   pub named : AreNamed state
   pub safe : HaveSafeHomes state living homes
@@ -53,26 +53,26 @@ not_under id q out = elim (bool_cases (is_under (keyspace_folder id) q)) [ inl i
 
 -- ---- a sync of a folder
 
-pub settled_at : (state : State) (folder q : Name) (entry : Entry) → state q ≡ only entry → settle state folder q ≡ state q
+pub settled_at : (state : DiskState) (folder q : Name) (entry : DiskEntry) → state q ≡ only entry → settle state folder q ≡ state q
 settled_at state folder q entry is = elim (bool_cases (bytes_eq (folder_of q) folder)) [
   | inl at ↦ settle-in state folder q (same at) ∙ ap (λ (p : Place). only p.now) is ∙ sym is
   | inr not_in ↦ settle-out state folder q not_in
 ]
 
-settled_never : (state : State) (folder q : Name) → IsNeverFolder (state q) → IsNeverFolder (settle state folder q)
+settled_never : (state : DiskState) (folder q : Name) → IsNeverFolder (state q) → IsNeverFolder (settle state folder q)
 settled_never state folder q never = elim (bool_cases (bytes_eq (folder_of q) folder)) [
   | inl at ↦ subst IsNeverFolder (sym (settle-in state folder q (same at))) (never.0, tt)
   | inr not_in ↦ subst IsNeverFolder (sym (settle-out state folder q not_in)) never
 ]
 
-settled_tables : (state : State) (folder : Name) (id : ℕ) (tables : List TableInfo) (texts : List (List ℕ)) → AreSafe state id tables texts
+settled_tables : (state : DiskState) (folder : Name) (id : ℕ) (tables : List TableInfo) (texts : List (List ℕ)) → AreSafe state id tables texts
     → AllByRecursion (λ t. settle state folder (table_name id t.id) ≡ state (table_name id t.id)) tables
 settled_tables state folder id [] texts safe = tt
 settled_tables state folder id (t ∷ tables) [] safe = absurd safe
 settled_tables state folder id (t ∷ tables) (bytes ∷ texts) safe = (settled_at state folder (table_name id t.id) (File bytes []) safe.0, settled_tables state folder id tables texts safe.1)
 
 -- a home that rests does so still
-pub settled_home : (state : State) (folder : Name) (id : ℕ) (records : List Fields) (h : Home) → homes.Rests state id records h → homes.Rests (settle state folder) id records h
+pub settled_home : (state : DiskState) (folder : Name) (id : ℕ) (records : List Fields) (h : Home) → homes.Rests state id records h → homes.Rests (settle state folder) id records h
 settled_home state folder id records h rests = rests_along state (settle state folder) id records h (record {
   keyspaces_folder = settled_at state folder (codes "keyspaces") Folder rests.keyspaces_folder;
   folder = settled_at state folder (keyspace_folder id) Folder rests.folder;
@@ -80,7 +80,7 @@ settled_home state folder id records h rests = rests_along state (settle state f
   each = settled_tables state folder id h.last.tables h.texts rests.tables;
 }) rests
 
-pub beside_settled : (state : State) (folder : Name) (living : List LivingKeyspace) (homes : Homes) → Beside state living homes → Beside (settle state folder) living homes
+pub beside_settled : (state : DiskState) (folder : Name) (living : List LivingKeyspace) (homes : Homes) → Beside state living homes → Beside (settle state folder) living homes
 beside_settled state folder living homes beside = record {
   folder = settled_at state folder (codes "keyspaces") Folder beside.folder ∙ beside.folder;
   named = λ name at none. settled_never state folder name (beside.named name at none);
@@ -92,7 +92,7 @@ beside_settled state folder living homes beside = record {
 
 module _ (id : ℕ) (small : id < 2 ^ 64) where
   -- another home stays
-  pub other_along : (old new : State) → SameOutside (is_under (keyspace_folder id)) old new → (other : ℕ) (h : Home) → IsOther id other → HasSafeHome old other h → HasSafeHome new other h
+  pub other_along : (old new : DiskState) → SameOutside (is_under (keyspace_folder id)) old new → (other : ℕ) (h : Home) → IsOther id other → HasSafeHome old other h → HasSafeHome new other h
   other_along old new agree other h is home = record {
     records = home.records;
     rests = rests_where old new other home.records h (λ q counts. agree q (counted_outside id other q small is.0 is.1 counts)) home.rests;
@@ -101,7 +101,7 @@ module _ (id : ℕ) (small : id < 2 ^ 64) where
     clears = home.clears;
   }
 
-  pub beside_along : (old new : State) (living : List LivingKeyspace) (homes : Homes) → SameOutside (is_under (keyspace_folder id)) old new → AreOthers id living → Beside old living homes → Beside new living homes
+  pub beside_along : (old new : DiskState) (living : List LivingKeyspace) (homes : Homes) → SameOutside (is_under (keyspace_folder id)) old new → AreOthers id living → Beside old living homes → Beside new living homes
   beside_along old new living homes agree others beside = record {
     folder = agree (codes "keyspaces") (keyspaces_outside id) ∙ beside.folder;
     named = λ name at none. subst IsNeverFolder (sym (agree name (misnamed_outside id name small at none))) (beside.named name at none);
@@ -110,7 +110,7 @@ module _ (id : ℕ) (small : id < 2 ^ 64) where
 
   -- ---- what a crash leaves
 
-  module _ (state : State) (image : Image) (is : IsImageIn Survives (outside id) state image) where
+  module _ (state : DiskState) (image : Image) (is : IsImageIn Survives (outside id) state image) where
     pub keyspaces_left : state (codes "keyspaces") ≡ only Folder → image (codes "keyspaces") ≡ Folder
     keyspaces_left at = left_at (outside id) state image (codes "keyspaces") Folder (outside_test id (codes "keyspaces") (keyspaces_outside id)) is at (inl refl)
 

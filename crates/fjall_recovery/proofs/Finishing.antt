@@ -10,30 +10,30 @@ use Rattle.std.specs.declared.alloc.Global.{Global}
 use Rattle.fjall_base.specs.declared.error.Error.{Error}
 use Rattle.fjall_base.specs.declared.error.Error.TheVariants.{Io, JournalRecovery, OutOfMemory, Storage, Unrecoverable}
 use Rattle.fjall_base.specs.declared.error.JournalRecoveryError.TheVariants.{InvalidFileName}
-use Rattle.fjall_base.specs.Disk.{Entry, Missing, File, Folder, Image, Reads}
+use Rattle.fjall_base.specs.Disk.{DiskEntry, Missing, File, Folder, Image, ReadsFile}
 use Rattle.fjall_journal.specs.Batches.{Shown, view}
-use Rattle.fjall_tree.specs.Records.{Fields}
-use Rattle.fjall_tree.specs.Records as records
-use Rattle.fjall_home.specs.Homes.{Home}
+use Rattle.fjall_manifest.specs.Records.{Fields}
+use Rattle.fjall_manifest.specs.Records as records
+use Rattle.fjall_manifest.specs.Homes.{Home}
 use Rattle.fjall_meta.specs.Keyspaces.{Keyspaces, keyspace_at}
 use Rattle.fjall_meta.specs.declared.living.LivingKeyspace.{LivingKeyspace}
 use Rattle.fjall_files.specs.declared.marker.Marker.{Marker}
 use Rattle.fjall_files.specs.declared.marker.Marker.TheVariants.{Whole, Unfinished}
 use Rattle.fjall_files.specs.Marker.{marker_tells}
 use Rattle.fjall_files.specs.Names.{keyspace_folder}
-use Rattle.fjall_versions.proofs.Slots.{get_put, same_id}
+use Rattle.fjall_contents.proofs.Slots.{get_put, same_id}
 use Rattle.fjall_catalog.specs.declared.catalog.Catalog.{Catalog}
 use Rattle.fjall_catalog.specs.Catalog.{HasEnd, Says, records_in}
 use Rattle.fjall_catalog.specs.Refusals.{IsRefusal}
 use Rattle.fjall_base.specs.Errors.{IsFaultOrMemory}
 use Rattle.fjall_recovery.specs.declared.folder.RecoveredFolder.{RecoveredFolder}
-use Rattle.fjall_home.specs.declared.reading.LoadedHome.{LoadedHome}
-use Rattle.fjall_recovery.specs.Folders.{AreEmpty, AreMade, Contents, IsBegun, IsFinished, IsOpenable, ReadsFolder, Shows, file_bytes, marker_bytes}
+use Rattle.fjall_manifest.specs.declared.reading.LoadedHome.{LoadedHome}
+use Rattle.fjall_recovery.specs.Folders.{AreEmpty, AreMade, Contents, IsBegun, IsFinished, IsOpenable, ReadsFolder, ShowsContents, file_bytes, marker_bytes}
 use Rattle.fjall_recovery.specs.Homes.{AreHomesRead, HasHomeAt, HasOpenableHome, HaveHomes, Homes, last_in, lasts}
-use Rattle.fjall_recovery.specs.Journals.{Journal, AreFound, AreJournalIds, HoldsJournals}
+use Rattle.fjall_recovery.specs.Journals.{WholeJournal, AreFound, AreJournalIds, HoldsJournals}
 use Rattle.fjall_recovery.specs.Told.{AreTold}
 use Rattle.fjall_recovery.specs.Naming.{AreFolderIds, JournalsAreNamed, KeyspacesAreNamed}
-use Rattle.fjall_recovery.specs.Refusals.{BegunRefuses, CatalogRefuses, FinishedRefuses, FolderRefuses, HomesRefuse, IsDue, JournalsRefuse, TreeRefuses, UnfinishedRefuses}
+use Rattle.fjall_recovery.specs.Refusals.{BegunRefuses, CatalogRefuses, FinishedRefuses, FolderRefuses, HomesRefuse, IsDue, TreeRefuses, UnfinishedRefuses}
 use Rattle.fjall_recovery.proofs.Gathering.{due}
 use Rattle.fjall_recovery.proofs.Housing.{IsHoused, all_housed, home_was_read, last_was_read}
 
@@ -44,18 +44,15 @@ due_as P Q OutOfMemory f is = tt
 due_as P Q (Io kind) f is = tt
 due_as P Q error f is = f error is
 
-pub holds_journals : (image : Image) (ids : List ℕ) (least end : ℕ) (torn : Bool) → AreJournalIds image ids → AreFound image ids least end torn → (journals : List Journal) × HoldsJournals image journals
+pub holds_journals : (image : Image) (ids : List ℕ) (least end : ℕ) (torn : Bool) → AreJournalIds image ids → AreFound image ids least end torn → (journals : List WholeJournal) × HoldsJournals image journals
 holds_journals image ids least end torn are found =
     (found.journals, record { ids = subst (AreJournalIds image) (sym found.named) are; read = found.read; sound = found.gathers.sound })
 
-pub journals_refuse : (image : Image) (ids : List ℕ) (error : Error) → AreJournalIds image ids → IsDue (JournalsRefuse image 0 ids) error → IsDue (FinishedRefuses image) error
-journals_refuse image ids error are due = due_as (JournalsRefuse image 0 ids) (FinishedRefuses image) error (λ e refused. inl (ids, are, refused)) due
-
-pub names_refuse : (image other : Image) (error : Error) → other ≡ image → (journals : List Journal) × HoldsJournals image journals → IsDue (λ e. (e ≡ Unrecoverable) × (KeyspacesAreNamed other → ⊥)) error → IsDue (FinishedRefuses image) error
+pub names_refuse : (image other : Image) (error : Error) → other ≡ image → (journals : List WholeJournal) × HoldsJournals image journals → IsDue (λ e. (e ≡ Unrecoverable) × (KeyspacesAreNamed other → ⊥)) error → IsDue (FinishedRefuses image) error
 names_refuse image other error same holds due =
     due_as (λ e. (e ≡ Unrecoverable) × (KeyspacesAreNamed other → ⊥)) (FinishedRefuses image) error (λ e refused. inr (holds, inl (refused.0, subst (λ i. KeyspacesAreNamed i → ⊥) same refused.1))) due
 
-pub tree_refuses : (image other : Image) (error : Error) → other ≡ image → (journals : List Journal) × HoldsJournals image journals → KeyspacesAreNamed image → IsDue (TreeRefuses other) error → IsDue (FinishedRefuses image) error
+pub tree_refuses : (image other : Image) (error : Error) → other ≡ image → (journals : List WholeJournal) × HoldsJournals image journals → KeyspacesAreNamed image → IsDue (TreeRefuses other) error → IsDue (FinishedRefuses image) error
 tree_refuses image other error same holds named due =
     due_as (TreeRefuses other) (FinishedRefuses image) error (λ e refused. inr (holds, inr (named, subst (λ i. TreeRefuses i e) same refused))) due
 
@@ -63,7 +60,7 @@ homes_in : (image : Image) (records : List Fields) (last : Catalog) (s : Keyspac
 homes_in image records last s (Storage cause) says made refused = inr (records, last, s, says, inr (made, refused))
 homes_in image records last s error says made refused = (records, last, s, says, made, refused)
 
-pub homes_refuse : (image other : Image) (records : List Fields) (last : Catalog) (s : Keyspaces) (living : List LivingKeyspace) (error : Error) → other ≡ image → (journals : List Journal) × HoldsJournals image journals → KeyspacesAreNamed image
+pub homes_refuse : (image other : Image) (records : List Fields) (last : Catalog) (s : Keyspaces) (living : List LivingKeyspace) (error : Error) → other ≡ image → (journals : List WholeJournal) × HoldsJournals image journals → KeyspacesAreNamed image
     → image (keyspace_folder 0) ≡ Folder → Says image records last s → AreMade last s → living ≡ s.living → IsDue (HomesRefuse other living) error → IsDue (FinishedRefuses image) error
 homes_refuse image other records last s living error same holds named folder says made is due =
     due_as (HomesRefuse other living) (FinishedRefuses image) error
@@ -126,7 +123,7 @@ lasts_read image living found homes all have = of living found all (all_housed i
 pub record Holds (image : Image) (f : RecoveredFolder) : Type 0 where
   pub contents : Contents
   pub sound : IsOpenable image contents
-  pub shows : Shows f contents
+  pub shows : ShowsContents f contents
 
 pub held : (image : Image) (f : RecoveredFolder) → marker_tells (marker_bytes image) ≡ Ok Whole → JournalsAreNamed image → IsFinished image f → Holds image f
 held image f marker named finished =
@@ -190,7 +187,7 @@ pub marker_due : {X : Type 0} (result told other : Result X Error) → result �
 marker_due (Ok x) told other is same = tt
 marker_due (Err e) told other is same = due (λ error. other ≡ Err error) e (sym same ∙ sym is)
 
-pub file_read : (entry : Entry) (found : Option (Vec ℕ Global)) (bytes : Vec ℕ Global) → Reads entry found → found ≡ Some bytes → file_bytes entry ≡ Some bytes.items
+pub file_read : (entry : DiskEntry) (found : Option (Vec ℕ Global)) (bytes : Vec ℕ Global) → ReadsFile entry found → found ≡ Some bytes → file_bytes entry ≡ Some bytes.items
 file_read (File synced unsynced) found bytes reads is = ap Some (sym (subst (λ (o : Option (Vec ℕ Global)). IsSomeAnd o (λ b. b.items ≡ synced ++ unsynced)) is reads))
 file_read Missing found bytes reads is = absurd (true≢false (subst (λ (o : Option (Vec ℕ Global)). IsNone o) is reads))
 file_read Folder found bytes reads is = absurd (true≢false (subst (λ (o : Option (Vec ℕ Global)). IsNone o) is reads))

@@ -11,24 +11,24 @@ use Rattle.fjall_base.specs.declared.error.Error.TheVariants.{OutOfMemory, Io}
 use Rattle.fjall_journal.specs.declared.batch.Tail.{Tail}
 use Rattle.fjall_journal.specs.declared.batch.Tail.TheVariants.{Clean, Torn}
 use Rattle.fjall_journal.specs.Batches.{Written, Shown, IsWhole, IsTail, shown}
-use Rattle.fjall_versions.specs.Replays.{Fault, first_fault, least_after, NamesFault}
-use Rattle.fjall_recovery.specs.Journals.{Journal, ReadsAs, AreRead, IsSealed, batches_in, EndsAt, Gathers, AreSealed, AreFound, IsReadAs, journal_text, tail_of}
+use Rattle.fjall_contents.specs.Replays.{JournalFault, first_fault, least_after, NamesFault}
+use Rattle.fjall_recovery.specs.Journals.{WholeJournal, ReadsAs, AreJournalsRead, IsSealed, batches_in, EndsAt, Gathers, AreSealed, AreFound, IsReadAs, journal_text, tail_of}
 use Rattle.fjall_recovery.specs.Refusals.{IsDue, JournalsRefuse, TailRefuses, is_last}
-pub use Rattle.fjall_versions.proofs.Faults.{first_fault-append, least_after-append}
+pub use Rattle.fjall_contents.proofs.Faults.{first_fault-append, least_after-append}
 
 -- ---- batches behind batches
 
-pub batches-append : (front behind : List Journal) → map shown (batches_in (front ++ behind)) ≡ map shown (batches_in front) ++ map shown (batches_in behind)
-batches-append front behind = ap (map shown) (flat_map-append (λ (j : Journal). j.batches) front behind) ∙ map-append shown (batches_in front) (batches_in behind)
+pub batches-append : (front behind : List WholeJournal) → map shown (batches_in (front ++ behind)) ≡ map shown (batches_in front) ++ map shown (batches_in behind)
+batches-append front behind = ap (map shown) (flat_map-append (λ (j : WholeJournal). j.batches) front behind) ∙ map-append shown (batches_in front) (batches_in behind)
 
-one_journal : (j : Journal) → map shown (batches_in (j ∷ [])) ≡ map shown j.batches
+one_journal : (j : WholeJournal) → map shown (batches_in (j ∷ [])) ≡ map shown j.batches
 one_journal j = ap (map shown) (append-nil j.batches)
 
-none_of_both : (a b : Option Fault) → a ≡ None → b ≡ None → option_or a b ≡ None
+none_of_both : (a b : Option JournalFault) → a ≡ None → b ≡ None → option_or a b ≡ None
 none_of_both a b none other = ap (λ x. option_or x b) none ∙ other
 
 -- one journal more is gathered
-pub gathers_more : (front : List Journal) (j : Journal) (more : List Shown) (least next : ℕ) → Gathers front least → more ≡ map shown j.batches → first_fault least more ≡ None
+pub gathers_more : (front : List WholeJournal) (j : WholeJournal) (more : List Shown) (least next : ℕ) → Gathers front least → more ≡ map shown j.batches → first_fault least more ≡ None
     → next ≡ least_after least more → Gathers (front ++ j ∷ []) next
 gathers_more front j more least next gathers shows sound least_is =
     let shown_front = map shown (batches_in front) in
@@ -38,17 +38,14 @@ gathers_more front j more least next gathers shows sound least_is =
       next = least_is ∙ ap (λ n. least_after n more) gathers.next ∙ sym (least_after-append 0 shown_front more) ∙ ap (least_after 0) (sym all);
     }
 
-pub none_gathered : (least : ℕ) → least ≡ 0 → Gathers [] least
-none_gathered least zero = record { sound = refl; next = zero }
-
 -- ---- sealed journals
 
-pub sealed_more : (image : Image) (front : List Journal) (j : Journal) → AllByRecursion (IsSealed image) front → IsSealed image j → AllByRecursion (IsSealed image) (front ++ j ∷ [])
+pub sealed_more : (image : Image) (front : List WholeJournal) (j : WholeJournal) → AllByRecursion (IsSealed image) front → IsSealed image j → AllByRecursion (IsSealed image) (front ++ j ∷ [])
 sealed_more image [] j each one = (one, tt)
 sealed_more image (k ∷ front) j each one = (each.0, sealed_more image front j each.1 one)
 
-pub ids-append : (front : List Journal) (j : Journal) → map (λ (k : Journal). k.id) (front ++ j ∷ []) ≡ map (λ (k : Journal). k.id) front ++ j.id ∷ []
-ids-append front j = map-append (λ (k : Journal). k.id) front (j ∷ [])
+pub ids-append : (front : List WholeJournal) (j : WholeJournal) → map (λ (k : WholeJournal). k.id) (front ++ j ∷ []) ≡ map (λ (k : WholeJournal). k.id) front ++ j.id ∷ []
+ids-append front j = map-append (λ (k : WholeJournal). k.id) front (j ∷ [])
 
 pub clean_end : (text : List ℕ) (batches : List Shown) (end : ℕ) (tail : Tail) (read : IsReadAs text batches end tail) → tail ≡ Clean → ReadsAs text read.written Clean
 clean_end text batches end tail read clean = record { end = end; whole = read.whole; behind = subst (IsTail (drop end text)) clean read.behind }
@@ -56,7 +53,7 @@ clean_end text batches end tail read clean = record { end = end; whole = read.wh
 pub one_sealed_more : (image : Image) (ids : List ℕ) (id : ℕ) (more : List Shown) (least next end : ℕ) (tail : Tail) → AreSealed image ids least
     → IsReadAs (journal_text image id) more end tail → tail ≡ Clean → first_fault least more ≡ None → next ≡ least_after least more → AreSealed image (ids ++ id ∷ []) next
 one_sealed_more image ids id more least next end tail so_far read clean sound least_is =
-    let j : Journal = record { id = id; batches = read.written } in
+    let j : WholeJournal = record { id = id; batches = read.written } in
     record {
       journals = so_far.journals ++ j ∷ [];
       named = ids-append so_far.journals j ∙ ap (λ (l : List ℕ). l ++ id ∷ []) so_far.named;
@@ -66,12 +63,12 @@ one_sealed_more image ids id more least next end tail so_far read clean sound le
 
 -- ---- the active one behind them
 
-pub read_last : (image : Image) (front : List Journal) (j : Journal) → AllByRecursion (IsSealed image) front → ReadsAs (journal_text image j.id) j.batches Clean ⊎ ReadsAs (journal_text image j.id) j.batches Torn → AreRead image (front ++ j ∷ [])
+pub read_last : (image : Image) (front : List WholeJournal) (j : WholeJournal) → AllByRecursion (IsSealed image) front → ReadsAs (journal_text image j.id) j.batches Clean ⊎ ReadsAs (journal_text image j.id) j.batches Torn → AreJournalsRead image (front ++ j ∷ [])
 read_last image [] j each last = last
 read_last image (k ∷ []) j each last = (each.0, last)
 read_last image (k ∷ l ∷ front) j each last = (each.0, read_last image (l ∷ front) j each.1 last)
 
-ends_last : (image : Image) (front : List Journal) (j : Journal) (end : ℕ) (torn : Bool) → IsWhole (journal_text image j.id) j.batches end × IsTail (drop end (journal_text image j.id)) (tail_of torn) → EndsAt image (front ++ j ∷ []) end torn
+ends_last : (image : Image) (front : List WholeJournal) (j : WholeJournal) (end : ℕ) (torn : Bool) → IsWhole (journal_text image j.id) j.batches end × IsTail (drop end (journal_text image j.id)) (tail_of torn) → EndsAt image (front ++ j ∷ []) end torn
 ends_last image [] j end torn is = is
 ends_last image (k ∷ []) j end torn is = is
 ends_last image (k ∷ l ∷ front) j end torn is = ends_last image (l ∷ front) j end torn is
@@ -83,7 +80,7 @@ either_tail text batches end true whole tail = inr (record { end = end; whole = 
 pub active_found : (image : Image) (ids : List ℕ) (id : ℕ) (more : List Shown) (least next end : ℕ) (tail : Tail) (torn : Bool) → AreSealed image ids least
     → IsReadAs (journal_text image id) more end tail → tail ≡ tail_of torn → first_fault least more ≡ None → next ≡ least_after least more → AreFound image (ids ++ id ∷ []) next end torn
 active_found image ids id more least next end tail torn so_far read told sound least_is =
-    let j : Journal = record { id = id; batches = read.written } in
+    let j : WholeJournal = record { id = id; batches = read.written } in
     let behind = subst (IsTail (drop end (journal_text image id))) told read.behind in
     record {
       journals = so_far.journals ++ j ∷ [];
@@ -92,9 +89,6 @@ active_found image ids id more least next end tail torn so_far read told sound l
       gathers = gathers_more so_far.journals j more least next so_far.gathers read.shows sound least_is;
       ends = ends_last image so_far.journals j end torn (read.whole, behind);
     }
-
-pub none_found : (image : Image) (least end : ℕ) (torn : Bool) → least ≡ 0 → end ≡ 0 → torn ≡ false → AreFound image [] least end torn
-none_found image least end torn zero start clean = record { journals = []; named = refl; read = tt; gathers = none_gathered least zero; ends = (start, clean) }
 
 -- ---- refusals
 

@@ -1,14 +1,14 @@
 -- What a disk holds where nothing on it waits for a sync.
 use Rattle.std.proofs.Common.{◌≡◌, ◌⊎◌, inl, inr, ⊎_elim, ℕ, zero, suc, ◌+◌, ◌<◌, List, [], ◌∷◌, ◌++◌, length, Option, None, Some, refl, sym, ◌∙◌, subst, arith}
-use Rattle.fjall_base.specs.Disk.{Name, Entry, Missing, File, Folder, State, Image, Step, Survives, SomeSurvives, IsImage, IsThere, Leaves, change, disk_of, folder_of, standing}
+use Rattle.fjall_base.specs.Disk.{Name, DiskEntry, Missing, File, Folder, DiskState, Image, DiskStep, Survives, SomeSurvives, IsImage, IsThere, Leaves, change, disk_of, folder_of, standing}
 use Rattle.fjall_base.proofs.States.{survives_whole}
 use Rattle.fjall_files.proofs.Parts.{in_region}
 use Rattle.fjall_files.proofs.Under.{folder_is_shorter}
 use Rattle.fjall_journal.specs.Batches.{Written}
-use Rattle.fjall_tree.specs.Records.{Fields}
-use Rattle.fjall_recovery.specs.Folders.{Contents, IsOpenable, IsSound, StandsFor}
+use Rattle.fjall_manifest.specs.Records.{Fields}
+use Rattle.fjall_recovery.specs.Folders.{Contents, ImageStandsFor, IsOpenable, IsSound}
 use Rattle.fjall_recovery.specs.Halves.{HasRoot, HasTree, Tree, is_of_keyspaces, is_of_root}
-use Rattle.fjall_recovery.specs.Held.{Holds, IsFolder, store_held}
+use Rattle.fjall_recovery.specs.Held.{Holds, IsFolder, store_of_folder}
 use Rattle.fjall_recovery.specs.Places.{Journaling, LiesInRoot, RestsInTree, contents_with}
 use Rattle.fjall_recovery.proofs.Roots.{HasSomeRoot, crashes_leave_the_root, standing_root}
 use Rattle.fjall_recovery.proofs.Trees.{crashes_leave_the_tree, standing_tree}
@@ -37,33 +37,22 @@ made image c root tree = record {
 pub root_of : (image : Image) (c : Contents) → IsOpenable image c → HasRoot image c.journals
 root_of image c sound = record { marker = sound.marker; named = sound.journals_named; holds = sound.journals }
 
-pub tree_in : (image : Image) (c : Contents) → IsSound image c → HasTree image (tree_of c)
-tree_in image c sound = record {
-  named = sound.openable.keyspaces_named;
-  folder = sound.openable.folder;
-  records = sound.openable.records;
-  catalog = sound.openable.catalog;
-  made = sound.openable.made;
-  homes = sound.openable.homes;
-  versions = sound.versions;
-}
-
-pub folder_stands : (image : Image) (folder : Option Contents) → IsFolder image folder → StandsFor image (store_held folder)
+pub folder_stands : (image : Image) (folder : Option Contents) → IsFolder image folder → ImageStandsFor image (store_of_folder folder)
 folder_stands image None begun = inr (begun, refl)
 folder_stands image (Some c) sound = inl (c, sound, refl)
 
 -- ---- what a crash of a crash leaves
 
 -- nothing that waits for a sync
-abbrev pub IsRested : Entry → Type 0
-IsRested entry = (left : Entry) → Survives entry left → left ≡ entry
+abbrev pub IsRested : DiskEntry → Type 0
+IsRested entry = (left : DiskEntry) → Survives entry left → left ≡ entry
 
-rested_left : (entry left : Entry) → Survives entry left → IsRested left
+rested_left : (entry left : DiskEntry) → Survives entry left → IsRested left
 rested_left Missing left is = subst IsRested (sym is) (λ more at. at)
 rested_left (File synced unsynced) left some = subst IsRested (sym some.1) (λ more at. survives_whole _ more at)
 rested_left Folder left is = subst IsRested (sym is) (λ more at. at)
 
-some_rested : (entries : List Entry) (left : Entry) → SomeSurvives entries left → IsRested left
+some_rested : (entries : List DiskEntry) (left : DiskEntry) → SomeSurvives entries left → IsRested left
 some_rested [] left none = absurd none
 some_rested (entry ∷ entries) left (inl here) = rested_left entry left here
 some_rested (entry ∷ entries) left (inr later) = some_rested entries left later
@@ -71,7 +60,7 @@ some_rested (entry ∷ entries) left (inr later) = some_rested entries left late
 missing_rested : IsRested Missing
 missing_rested left is = is
 
-folder_or_not : (entry : Entry) → (entry ≡ Folder) ⊎ (entry ≡ Folder → ⊥)
+folder_or_not : (entry : DiskEntry) → (entry ≡ Folder) ⊎ (entry ≡ Folder → ⊥)
 folder_or_not Missing = inr (λ e. let no : Missing ≡ Folder = e in cc)
 folder_or_not (File synced unsynced) = inr (λ e. let no : File synced unsynced ≡ Folder = e in cc)
 folder_or_not Folder = inl refl
@@ -88,7 +77,7 @@ pub record IsLeft (image : Image) : Type 0 where
   pub rested : (name : Name) → IsRested (image name)
   pub lost : (name : Name) → (IsThere image (folder_of name) → ⊥) → image name ≡ Missing
 
-image_left : (state : State) (image : Image) → IsImage state image → IsLeft image
+image_left : (state : DiskState) (image : Image) → IsImage state image → IsLeft image
 image_left state image is = record {
   rested = λ name. elim (there_or_not image (folder_of name)) [
     | inl there ↦ some_rested ((state name).now ∷ (state name).older) (image name) (is.kept name there)
@@ -97,7 +86,7 @@ image_left state image is = record {
   lost = is.lost;
 }
 
-pub crash_left : (state : State) (steps : List Step) (image : Image) → Leaves state steps image → IsLeft image
+pub crash_left : (state : DiskState) (steps : List DiskStep) (image : Image) → Leaves state steps image → IsLeft image
 crash_left state [] image is = image_left state image is
 crash_left state (step ∷ steps) image (inl now) = image_left state image now
 crash_left state (step ∷ steps) image (inr later) = crash_left (change step state) steps image later
@@ -123,7 +112,7 @@ module _ (image other : Image) (left : IsLeft image) (is : IsImage (disk_of imag
   pub same_image : other ≡ image
   same_image = let each : (name : Name) → other name ≡ image name = λ name. stays_within (length name + 1) name (omega arith) in λ i name. each name i
 
-pub a_crash_holds : (state : State) (steps : List Step) (image : Image) (folder : Option Contents) → Leaves state steps image → IsFolder image folder → Holds (disk_of image) folder
+pub a_crash_holds : (state : DiskState) (steps : List DiskStep) (image : Image) (folder : Option Contents) → Leaves state steps image → IsFolder image folder → Holds (disk_of image) folder
 a_crash_holds state steps image folder leaves is = record {
   now = is;
   crash = λ other other_is. subst (λ (i : Image). IsFolder i folder) (sym (same_image image other (crash_left state steps image leaves) other_is)) is;
@@ -139,12 +128,12 @@ pub some_sound : (image : Image) (j : Journaling) (t : Tree) → HasSomeRoot ima
 some_sound image j t some tree = (some.0, some.1, some.2, made image (contents_with j t some.0) some.3 tree)
 
 -- whatever a crash leaves of it is sound
-pub crash_sound : (state : State) (image : Image) (j : Journaling) (records : List Fields) (t : Tree) → LiesInRoot state j → RestsInTree state records t → IsImage state image → IsSomeSound image j t
+pub crash_sound : (state : DiskState) (image : Image) (j : Journaling) (records : List Fields) (t : Tree) → LiesInRoot state j → RestsInTree state records t → IsImage state image → IsSomeSound image j t
 crash_sound state image j records t lies rests is =
     some_sound image j t (crashes_leave_the_root state image j lies (in_region is_of_root state image is)) (crashes_leave_the_tree state image records t rests (in_region is_of_keyspaces state image is))
 
 -- and so is what stands
-pub standing_sound : (state : State) (j : Journaling) (records : List Fields) (t : Tree) → LiesInRoot state j → RestsInTree state records t → IsSomeSound (standing state) j t
+pub standing_sound : (state : DiskState) (j : Journaling) (records : List Fields) (t : Tree) → LiesInRoot state j → RestsInTree state records t → IsSomeSound (standing state) j t
 standing_sound state j records t lies rests = some_sound (standing state) j t (standing_root state j lies) (standing_tree state records t rests)
 
 -- ---- a disk that rests
@@ -158,7 +147,7 @@ pub one_sound : (image : Image) (j : Journaling) (t : Tree) → j.later ≡ [] �
 one_sound image j t none some =
     subst (λ (l : List Written). IsSound image (contents_with j t l)) (none_behind some.0 some.1 (some.2 ∙ none)) some.3
 
-pub a_rest_holds : (state : State) (j : Journaling) (records : List Fields) (t : Tree) → j.later ≡ [] → LiesInRoot state j → RestsInTree state records t → Holds state (Some (contents_with j t []))
+pub a_rest_holds : (state : DiskState) (j : Journaling) (records : List Fields) (t : Tree) → j.later ≡ [] → LiesInRoot state j → RestsInTree state records t → Holds state (Some (contents_with j t []))
 a_rest_holds state j records t none lies rests = record {
   now = one_sound (standing state) j t none (standing_sound state j records t lies rests);
   crash = λ image is. one_sound image j t none (crash_sound state image j records t lies rests is);

@@ -6,11 +6,11 @@ use Rattle.std.proofs.Math.Seq.{take-suc}
 use Rattle.fjall_base.specs.Disk.{Image}
 use Rattle.fjall_base.specs.declared.error.Error.{Error}
 use Rattle.fjall_base.specs.declared.error.Error.TheVariants.{Io, OutOfMemory, Storage, Unrecoverable}
-use Rattle.fjall_tree.specs.Records.{view}
+use Rattle.fjall_manifest.specs.Records.{view}
 use Rattle.fjall_meta.specs.declared.living.LivingKeyspace.{LivingKeyspace}
-use Rattle.fjall_home.specs.declared.reading.LoadedHome.{LoadedHome}
-use Rattle.fjall_home.specs.Reading.{IsLoaded}
-use Rattle.fjall_recovery.specs.Homes.{AreHomesRead, ClearsAreWithin, IsRead}
+use Rattle.fjall_manifest.specs.declared.reading.LoadedHome.{LoadedHome}
+use Rattle.fjall_manifest.specs.Reading.{IsLoaded}
+use Rattle.fjall_recovery.specs.Homes.{AreHomesRead, ClearsAreWithin, IsHomeRead}
 use Rattle.fjall_recovery.specs.Refusals.{HasClearBeyond, HomeRefuses, HomesRefuse, IsDue}
 use Rattle.fjall_recovery.proofs.Housing.{home_was_read}
 
@@ -28,7 +28,7 @@ clear_beyond image id home is beyond = record {
 
 -- ---- keyspaces one after another
 
-homes_more : (image : Image) (front : List LivingKeyspace) (homes : List LoadedHome) (k : LivingKeyspace) (home : LoadedHome) → AreHomesRead image front homes → IsRead image k.id home → AreHomesRead image (front ++ k ∷ []) (homes ++ home ∷ [])
+homes_more : (image : Image) (front : List LivingKeyspace) (homes : List LoadedHome) (k : LivingKeyspace) (home : LoadedHome) → AreHomesRead image front homes → IsHomeRead image k.id home → AreHomesRead image (front ++ k ∷ []) (homes ++ home ∷ [])
 homes_more image [] [] k home all one = (one, tt)
 homes_more image [] (h ∷ homes) k home all one = absurd all
 homes_more image (j ∷ front) [] k home all one = absurd all
@@ -36,18 +36,18 @@ homes_more image (j ∷ front) (h ∷ homes) k home all one = (all.0, homes_more
 
 module _ (image text_image : Image) (living : List LivingKeyspace) (n : ℕ) (d k : LivingKeyspace) (at : k ≡ get_or living n d) (lt : n < length living) (same : text_image ≡ image) where
   -- one more was read
-  pub home_read : (homes : List LoadedHome) (home : LoadedHome) → AreHomesRead image (take n living) homes → IsRead text_image k.id home → AreHomesRead image (take (n + 1) living) (homes ++ home ∷ [])
+  pub home_read : (homes : List LoadedHome) (home : LoadedHome) → AreHomesRead image (take n living) homes → IsHomeRead text_image k.id home → AreHomesRead image (take (n + 1) living) (homes ++ home ∷ [])
   home_read homes home all one =
       subst (λ (l : List LivingKeyspace). AreHomesRead image l (homes ++ home ∷ [])) (sym (ap (λ m. take m living) (add-one n) ∙ take-suc living n d lt ∙ ap (λ (j : LivingKeyspace). take n living ++ j ∷ []) (sym at)))
-      (homes_more image (take n living) homes k home all (subst (λ i. IsRead i k.id home) same one))
+      (homes_more image (take n living) homes k home all (subst (λ i. IsHomeRead i k.id home) same one))
 
   here : (error : Error) → HomesRefuse image (k ∷ drop (n + 1) living) error → HomesRefuse image (drop n living) error
   here error refused = subst (λ (l : List LivingKeyspace). HomesRefuse image l error) (sym (drop_more living n d lt ∙ ap (λ (j : LivingKeyspace). j ∷ drop (n + 1) living) (sym at))) refused
 
   -- what refuses those behind refuses all
-  pub home_passed : (home : LoadedHome) (error : Error) → IsRead text_image k.id home → HomesRefuse image (drop (n + 1) living) error → HomesRefuse image (drop n living) error
+  pub home_passed : (home : LoadedHome) (error : Error) → IsHomeRead text_image k.id home → HomesRefuse image (drop (n + 1) living) error → HomesRefuse image (drop n living) error
   home_passed home error one refused =
-      let read : IsRead image k.id home = subst (λ i. IsRead i k.id home) same one in
+      let read : IsHomeRead image k.id home = subst (λ i. IsHomeRead i k.id home) same one in
       here error (inr ((read.loaded.h, home_was_read image k.id home read), refused))
 
   pub home_refused : (error : Error) → ((error : Error) → HomesRefuse image (drop n living) error → HomesRefuse image living error) → IsDue (HomeRefuses text_image k.id) error → IsDue (HomesRefuse image living) error

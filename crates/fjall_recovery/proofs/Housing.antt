@@ -3,30 +3,30 @@ use Rattle.std.proofs.Common.{◌≡◌, ℕ, ◌==◌, Bool, true, false, cond,
 use Rattle.std.specs.List.{AllByRecursion}
 use Rattle.std.proofs.lemmas.List.Elements.{All-weaker, recursion_from_All}
 use Rattle.std.specs.FinMap.{get, insert}
-use Rattle.fjall_base.specs.Disk.{Name, Image, State}
+use Rattle.fjall_base.specs.Disk.{Name, Image, DiskState}
 use Rattle.fjall_files.specs.Names.{keyspace_folder}
 use Rattle.fjall_files.specs.Regions.{is_under}
-use Rattle.fjall_tree.specs.Records.{view}
-use Rattle.fjall_home.specs.declared.reading.LoadedHome.{LoadedHome}
-use Rattle.fjall_home.specs.Homes.{Home}
-use Rattle.fjall_home.specs.Reading.{IsOpenable}
-use Rattle.fjall_home.proofs.Meanings.{home_alike}
-use Rattle.fjall_home.proofs.Openings.{one_loading}
+use Rattle.fjall_manifest.specs.Records.{view}
+use Rattle.fjall_manifest.specs.declared.reading.LoadedHome.{LoadedHome}
+use Rattle.fjall_manifest.specs.Homes.{Home}
+use Rattle.fjall_manifest.specs.Reading.{IsHomeOpenable}
+use Rattle.fjall_manifest.proofs.Meanings.{home_alike}
+use Rattle.fjall_manifest.proofs.Openings.{one_loading}
 use Rattle.fjall_meta.specs.declared.living.LivingKeyspace.{LivingKeyspace}
 use Rattle.fjall_meta.specs.Keyspaces.{keyspace_at}
-use Rattle.fjall_versions.proofs.Ids.{each_lives, living_has}
-use Rattle.fjall_versions.proofs.Slots.{get_put, same_id}
-use Rattle.fjall_recovery.specs.Homes.{ClearsAreWithin, HasHomeAt, HasOpenableHome, HaveHomes, Homes, IsRead}
+use Rattle.fjall_contents.proofs.Ids.{each_lives, living_has}
+use Rattle.fjall_contents.proofs.Slots.{get_put, same_id}
+use Rattle.fjall_recovery.specs.Homes.{ClearsAreWithin, HasHomeAt, HasOpenableHome, HaveHomes, Homes, IsHomeRead}
 use Rattle.fjall_recovery.specs.Places.{HasSafeHome, HasSafeHomeAt, HaveSafeHomes}
 
 -- ---- one home
 
 -- an opening finds its files right, to the ends of its tables
-pub openable_of : (image : Image) (id : ℕ) (h : Home) → (has : HasOpenableHome image id h) → IsOpenable image id has.records h has.indexes
+pub openable_of : (image : Image) (id : ℕ) (h : Home) → (has : HasOpenableHome image id h) → IsHomeOpenable image id has.records h has.indexes
 openable_of image id h has = record { files = has.home.files; indexed = has.indexed }
 
 -- a home that was read is there
-pub home_was_read : (image : Image) (id : ℕ) (home : LoadedHome) → (is : IsRead image id home) → HasOpenableHome image id is.loaded.h
+pub home_was_read : (image : Image) (id : ℕ) (home : LoadedHome) → (is : IsHomeRead image id home) → HasOpenableHome image id is.loaded.h
 home_was_read image id home is = record {
   records = is.loaded.records;
   home = record { folder = is.folder; files = is.loaded.openable.files };
@@ -36,7 +36,7 @@ home_was_read image id home is = record {
 }
 
 -- and its last record is the one that was read
-pub last_was_read : (image : Image) (id : ℕ) (h : Home) (home : LoadedHome) → HasOpenableHome image id h → IsRead image id home → view home.record ≡ h.last
+pub last_was_read : (image : Image) (id : ℕ) (h : Home) (home : LoadedHome) → HasOpenableHome image id h → IsHomeRead image id home → view home.record ≡ h.last
 last_was_read image id h home has is = (one_loading image id has.records h has.indexes home (openable_of image id h has) is.loaded).0
 
 -- two images that agree in the keyspace's folder have the same home
@@ -53,7 +53,7 @@ plain_alike image other id h agree has = record {
 
 module _ (P : ℕ → Type 0) (living : List LivingKeyspace) (homes : Homes) (all : All (λ k. P k.id) living) where
   -- to another state
-  pub along_at : (old new : State) (id : ℕ) → ((h : Home) → P id → HasSafeHome old id h → HasSafeHome new id h) → HasSafeHomeAt old id (keyspace_at id living) (get homes id)
+  pub along_at : (old new : DiskState) (id : ℕ) → ((h : Home) → P id → HasSafeHome old id h → HasSafeHome new id h) → HasSafeHomeAt old id (keyspace_at id living) (get homes id)
       → HasSafeHomeAt new id (keyspace_at id living) (get homes id)
   along_at old new id each = of (keyspace_at id living) refl (get homes id)
     where
@@ -63,11 +63,11 @@ module _ (P : ℕ → Type 0) (living : List LivingKeyspace) (homes : Homes) (al
       of None at (Some h) has = absurd has
       of None at None has = tt
 
-  pub homes_along : (old new : State) → ((id : ℕ) (h : Home) → P id → HasSafeHome old id h → HasSafeHome new id h) → HaveSafeHomes old living homes → HaveSafeHomes new living homes
+  pub homes_along : (old new : DiskState) → ((id : ℕ) (h : Home) → P id → HasSafeHome old id h → HasSafeHome new id h) → HaveSafeHomes old living homes → HaveSafeHomes new living homes
   homes_along old new each safe id = along_at old new id (each id) (safe id)
 
   -- to an image of it
-  pub left_at : (state : State) (image : Image) (id : ℕ) → ((h : Home) → P id → HasSafeHome state id h → HasOpenableHome image id h) → HasSafeHomeAt state id (keyspace_at id living) (get homes id)
+  pub left_at : (state : DiskState) (image : Image) (id : ℕ) → ((h : Home) → P id → HasSafeHome state id h → HasOpenableHome image id h) → HasSafeHomeAt state id (keyspace_at id living) (get homes id)
       → HasHomeAt image id (keyspace_at id living) (get homes id)
   left_at state image id each = of (keyspace_at id living) refl (get homes id)
     where
@@ -77,7 +77,7 @@ module _ (P : ℕ → Type 0) (living : List LivingKeyspace) (homes : Homes) (al
       of None at (Some h) has = absurd has
       of None at None has = tt
 
-  pub homes_left : (state : State) (image : Image) → ((id : ℕ) (h : Home) → P id → HasSafeHome state id h → HasOpenableHome image id h) → HaveSafeHomes state living homes → HaveHomes image living homes
+  pub homes_left : (state : DiskState) (image : Image) → ((id : ℕ) (h : Home) → P id → HasSafeHome state id h → HasOpenableHome image id h) → HaveSafeHomes state living homes → HaveHomes image living homes
   homes_left state image each safe id = left_at state image id (each id) (safe id)
 
   -- to another image
@@ -135,7 +135,7 @@ module _ (living : List LivingKeyspace) (homes : Homes) (id : ℕ) (h : Home) (l
           (at (keyspace_at q living) (lives_at q is) (subst (λ i. HasOpenableHome image i h) (sym (same_id q id is)) one))
       of false is = subst (λ (o : Option Home). HasHomeAt image q (keyspace_at q living) o) (sym (put_at q false is)) (others q is)
 
-  pub safe_homes_with : (state : State) → HasSafeHome state id h → ((q : ℕ) → (q == id) ≡ false → HasSafeHomeAt state q (keyspace_at q living) (get homes q)) → HaveSafeHomes state living (insert homes id h)
+  pub safe_homes_with : (state : DiskState) → HasSafeHome state id h → ((q : ℕ) → (q == id) ≡ false → HasSafeHomeAt state q (keyspace_at q living) (get homes q)) → HaveSafeHomes state living (insert homes id h)
   safe_homes_with state one others q = of (q == id) refl
     where
       at : (k : Option LivingKeyspace) → is_some k ≡ true → HasSafeHome state q h → HasSafeHomeAt state q k (Some h)

@@ -1,14 +1,13 @@
 -- What tree 0 says, and with it all of a folder in which an opening finds nothing wrong, is refused for no cause.
 use Rattle.std.proofs.Common.{◌≡◌, inl, inr, ℕ, List, Option, None, Some, Result, Ok, Err, sym, ◌∙◌, subst}
-use Rattle.std.specs.Prelude.{IfErr, MatchResult}
 use Rattle.fjall_base.specs.Disk.{Image}
 use Rattle.fjall_base.specs.Store.{Store}
 use Rattle.fjall_base.specs.Errors.{IsFaultOrMemory}
 use Rattle.fjall_base.specs.declared.error.Error.{Error}
 use Rattle.fjall_base.specs.declared.error.Error.TheVariants.{Io, OutOfMemory, Storage, Unrecoverable}
 use Rattle.fjall_base.specs.declared.error.StorageError.TheVariants.{RecordDamaged}
-use Rattle.fjall_tree.specs.Records.{Fields}
-use Rattle.fjall_tree.proofs.Currents.{contradiction_has_no_reading}
+use Rattle.fjall_manifest.specs.Records.{Fields}
+use Rattle.fjall_manifest.proofs.Currents.{contradiction_has_no_reading}
 use Rattle.fjall_meta.specs.declared.living.LivingKeyspace.{LivingKeyspace}
 use Rattle.fjall_meta.specs.Keyspaces.{Keyspaces}
 use Rattle.fjall_files.specs.declared.marker.Marker.{Marker}
@@ -17,7 +16,7 @@ use Rattle.fjall_files.specs.Marker.{marker_tells}
 use Rattle.fjall_catalog.specs.declared.catalog.Catalog.{Catalog}
 use Rattle.fjall_catalog.specs.Catalog.{Says}
 use Rattle.fjall_catalog.proofs.Meanings.{one_catalog}
-use Rattle.fjall_recovery.specs.Folders.{AreMade, Contents, IsBegun, IsOpenable, IsUnfinished, StandsFor, marker_bytes}
+use Rattle.fjall_recovery.specs.Folders.{AreMade, Contents, ImageStandsFor, IsBegun, IsOpenable, IsUnfinished, marker_bytes}
 use Rattle.fjall_recovery.specs.Held.{IsOpenFolder}
 use Rattle.fjall_recovery.specs.Journals.{AreJournalIds}
 use Rattle.fjall_recovery.specs.Naming.{JournalsAreNamed}
@@ -96,11 +95,11 @@ open_folder_is_kept image (Some c) error sound refused = sound_is_kept image c e
 open_folder_is_kept image None error begun refused = begun_folder_is_kept image error begun refused
 
 -- in what stands for a store an opening finds nothing wrong
-pub opens : (image : Image) (store : Store) → StandsFor image store → (folder : Option Contents) × IsOpenFolder image folder
+pub opens : (image : Image) (store : Store) → ImageStandsFor image store → (folder : Option Contents) × IsOpenFolder image folder
 opens image store (inl (c, sound, is)) = (Some c, sound.openable)
 opens image store (inr (begun, is)) = (None, begun)
 
-pub folder_is_kept : (image : Image) (store : Store) (error : Error) → StandsFor image store → FolderRefuses image error → ⊥
+pub folder_is_kept : (image : Image) (store : Store) (error : Error) → ImageStandsFor image store → FolderRefuses image error → ⊥
 folder_is_kept image store error stands refused = let it = opens image store stands in open_folder_is_kept image it.0 error it.1 refused
 
 -- ---- as it is read
@@ -109,18 +108,10 @@ folder_is_kept image store error stands refused = let it = opens image store sta
 pub spared : (P : Error → Type 0) (error : Error) → ((e : Error) → P e → ⊥) → IsDue P error → IsDue (λ e. ⊥) error
 spared P error none is = due_as P (λ e. ⊥) error none is
 
-pub spared_err : {X : Type 0} (P : Error → Type 0) (result : Result X Error) → ((e : Error) → P e → ⊥) → IfErr result (IsDue P) → IfErr result (IsDue (λ e. ⊥))
-spared_err P (Ok x) none is = tt
-spared_err P (Err e) none is = spared P e none is
-
 pub fault_spared : (old new : ℕ) (error : Error) → IsFaultOrMemory old new error → IsDue (λ e. ⊥) error
 fault_spared old new OutOfMemory is = tt
 fault_spared old new (Io kind) is = tt
 fault_spared old new error is = absurd is
-
-pub catalog_spared : {X : Type 0} (P : X → Type 0) (old new : ℕ) (result : Result X Error) → MatchResult result P (IsFaultOrMemory old new) → IfErr result (IsDue (λ e. ⊥))
-catalog_spared P old new (Ok x) is = tt
-catalog_spared P old new (Err e) is = fault_spared old new e is
 
 pub names_spared : (image other : Image) (Named : Image → Type 0) (cause error : Error) → other ≡ image → Named image → IsDue (λ e. (e ≡ cause) × (Named other → ⊥)) error → IsDue (λ e. ⊥) error
 names_spared image other Named cause error same named is = spared (λ e. (e ≡ cause) × (Named other → ⊥)) error (λ e refused. refused.1 (subst Named (sym same) named)) is

@@ -1,24 +1,43 @@
+mod Adding
+mod Putting
+mod Stepping
+mod Batches
+mod Keeping
+mod ReplayedStores
+mod Resting
+pub mod Behind
+mod Sealing
+pub mod Parting
+pub mod Following
+pub mod Staying
 pub mod Listed
 pub mod Gathering
-pub mod Looking
+mod Looking
 pub mod Telling
-pub mod Homing
+mod Homing
 pub mod Alone
-pub mod Finishing
-pub mod Beginnings
-pub mod Opened
+mod Finishing
+mod Beginnings
+mod Opened
 pub mod Kept
-pub mod Numbers
+mod Numbers
 pub mod Causes
 pub mod Housing
 pub mod Storing
 pub mod Shown
 pub mod Composing
 pub mod Named
-pub mod Seen
+mod Seen
 pub mod Trees
 pub mod Roots
 pub mod Holding
 pub mod Changing
 pub mod Alike
 pub mod Amidst
+mod Maps
+pub mod Turns
+pub mod Opening
+mod OpenedTables
+mod NamedTables
+pub mod ListedTables
+pub mod KnownHomes

@@ -6,7 +6,7 @@ use Rattle.std.specs.declared.alloc.Global.{Global}
 use Rattle.fjall_base.specs.declared.error.Error.{Error}
 use Rattle.fjall_base.specs.declared.error.Error.TheVariants.{OutOfMemory}
 use Rattle.fjall_base.specs.declared.disk.DirEntry.{DirEntry}
-use Rattle.fjall_base.specs.Disk.{Name, Entry, Missing, File, Folder, State, IsFile, Lists, IsListed, Tells, folder_of, standing}
+use Rattle.fjall_base.specs.Disk.{Name, DiskEntry, Missing, File, Folder, DiskState, IsFile, Lists, IsInList, TellsEntry, folder_of, standing}
 use Rattle.fjall_files.specs.Names.{IsMisnamed, IsNameOf, journal_name, keyspace_folder}
 use Rattle.fjall_files.specs.Lists.{AreIds, IsJournal, IsKeyspace, IsMisnamedFile, IsStrayFolder}
 use Rattle.fjall_recovery.specs.Naming.{AreFolderIds, JournalsAreNamed, KeyspacesAreNamed}
@@ -20,42 +20,42 @@ pub use Rattle.fjall_files.proofs.Fitting.{folder_of-journal as in_root, folder_
 -- ---- entries of a list
 
 -- what an entry tells of the image
-pub listed_at : (state : State) (folder : Name) (listed : List DirEntry) (P : DirEntry → Type 0) → Lists state folder listed → Any P listed → (entry : DirEntry) × P entry × IsListed state folder entry
-listed_at state folder listed P lists (k, x, lt, at, is) = (x, is, subst (IsListed state folder) at (lists.each k x lt))
+pub listed_at : (state : DiskState) (folder : Name) (listed : List DirEntry) (P : DirEntry → Type 0) → Lists state folder listed → Any P listed → (entry : DirEntry) × P entry × IsInList state folder entry
+listed_at state folder listed P lists (k, x, lt, at, is) = (x, is, subst (IsInList state folder) at (lists.each k x lt))
 
-file_told : (entry : Entry) (is_folder : Bool) → IsFalse is_folder → Tells entry is_folder → IsFile entry
+file_told : (entry : DiskEntry) (is_folder : Bool) → IsFalse is_folder → TellsEntry entry is_folder → IsFile entry
 file_told Missing is_folder is told = absurd told
 file_told (File synced unsynced) is_folder is told = tt
 file_told Folder is_folder is told = absurd (true≢false (sym told ∙ is))
 
-folder_told : (entry : Entry) (is_folder : Bool) → IsTrue is_folder → Tells entry is_folder → entry ≡ Folder
+folder_told : (entry : DiskEntry) (is_folder : Bool) → IsTrue is_folder → TellsEntry entry is_folder → entry ≡ Folder
 folder_told Missing is_folder is told = absurd told
 folder_told Folder is_folder is told = refl
 folder_told (File synced unsynced) is_folder is told = absurd (true≢false (sym is ∙ told))
 
-tells_file : (entry : Entry) (is_folder : Bool) → IsFile entry → Tells entry is_folder → IsFalse is_folder
+tells_file : (entry : DiskEntry) (is_folder : Bool) → IsFile entry → TellsEntry entry is_folder → IsFalse is_folder
 tells_file (File synced unsynced) is_folder file told = told
 tells_file Missing is_folder file told = absurd file
 tells_file Folder is_folder file told = absurd file
 
-tells_folder : (entry : Entry) (is_folder : Bool) → entry ≡ Folder → Tells entry is_folder → IsTrue is_folder
-tells_folder entry is_folder is told = subst (λ (e : Entry). Tells e is_folder) is told
+tells_folder : (entry : DiskEntry) (is_folder : Bool) → entry ≡ Folder → TellsEntry entry is_folder → IsTrue is_folder
+tells_folder entry is_folder is told = subst (λ (e : DiskEntry). TellsEntry e is_folder) is told
 
-some_file : (entry : Entry) → IsFile entry → entry ≢ Missing
+some_file : (entry : DiskEntry) → IsFile entry → entry ≢ Missing
 some_file entry file is = subst IsFile is file
 
-some_folder : (entry : Entry) → entry ≡ Folder → entry ≢ Missing
+some_folder : (entry : DiskEntry) → entry ≡ Folder → entry ≢ Missing
 some_folder entry is none = let e : Folder ≡ Missing = sym is ∙ none in cc
 
-module _ (state : State) (folder : Name) (listed : List DirEntry) (lists : Lists state folder listed) where
+module _ (state : DiskState) (folder : Name) (listed : List DirEntry) (lists : Lists state folder listed) where
   -- the entry of the list that has this name, with what the list tells of it
   at_name : (P : DirEntry → Type 0) (name : Name) → folder_of name ≡ folder → standing state name ≢ Missing
-      → ((entry : DirEntry) → string_bytes entry.name ≡ name → Tells (standing state name) entry.is_folder → P entry) → Any P listed
+      → ((entry : DirEntry) → string_bytes entry.name ≡ name → TellsEntry (standing state name) entry.is_folder → P entry) → Any P listed
   at_name P name inside some f =
       let (k, x, lt, at, is) = lists.whole name inside some in
-      (k, x, lt, at, f x is (subst (λ (n : Name). Tells (standing state n) x.is_folder) is (subst (IsListed state folder) at (lists.each k x lt)).1))
+      (k, x, lt, at, f x is (subst (λ (n : Name). TellsEntry (standing state n) x.is_folder) is (subst (IsInList state folder) at (lists.each k x lt)).1))
 
-module _ (state : State) (listed : List DirEntry) (lists : Lists state [] listed) where
+module _ (state : DiskState) (listed : List DirEntry) (lists : Lists state [] listed) where
   pub journal_ids : (ids : List ℕ) → AreIds IsJournal listed ids → AreJournalIds (standing state) ids
   journal_ids ids are = record {
     ascending = are.ascending;
@@ -79,7 +79,7 @@ module _ (state : State) (listed : List DirEntry) (lists : Lists state [] listed
       let (entry, is, told) = listed_at state [] listed IsMisnamedFile lists some in
       named (string_bytes entry.name) told.0 (file_told (standing state (string_bytes entry.name)) entry.is_folder is.0 told.1) is.1
 
-module _ (state : State) (listed : List DirEntry) (lists : Lists state (codes "keyspaces") listed) where
+module _ (state : DiskState) (listed : List DirEntry) (lists : Lists state (codes "keyspaces") listed) where
   pub folder_ids : (ids : List ℕ) → AreIds IsKeyspace listed ids → AreFolderIds (standing state) ids
   folder_ids ids are = record {
     ascending = are.ascending;
@@ -105,7 +105,7 @@ module _ (state : State) (listed : List DirEntry) (lists : Lists state (codes "k
 
 -- ---- over the answers
 
-pub journal_ids_ok : (state : State) (result : Result (Vec ℕ Global) Error) (listed : List DirEntry) → Lists state [] listed → IfOk result (λ ids. AreIds IsJournal listed ids.items) → IfOk result (λ ids. AreJournalIds (standing state) ids.items)
+pub journal_ids_ok : (state : DiskState) (result : Result (Vec ℕ Global) Error) (listed : List DirEntry) → Lists state [] listed → IfOk result (λ ids. AreIds IsJournal listed ids.items) → IfOk result (λ ids. AreJournalIds (standing state) ids.items)
 journal_ids_ok state (Ok ids) listed lists are = journal_ids state listed lists ids.items are
 journal_ids_ok state (Err e) listed lists are = tt
 
@@ -118,23 +118,23 @@ on_ok : {X : Type 0} (result : Result X Error) (P Q : Type 0) → (P → Q) → 
 on_ok (Ok x) P Q f p = f p
 on_ok (Err e) P Q f p = tt
 
-pub journals_named_ok : {X : Type 0} (state : State) (result : Result X Error) (error : Error) (listed : List DirEntry) → Lists state [] listed → (Any IsMisnamedFile listed → result ≡ Err error) → OnOk result (JournalsAreNamed (standing state))
+pub journals_named_ok : {X : Type 0} (state : DiskState) (result : Result X Error) (error : Error) (listed : List DirEntry) → Lists state [] listed → (Any IsMisnamedFile listed → result ≡ Err error) → OnOk result (JournalsAreNamed (standing state))
 journals_named_ok state result error listed lists refused = on_ok result (Any IsMisnamedFile listed → ⊥) (JournalsAreNamed (standing state)) (journals_named state listed lists) (unless result error (Any IsMisnamedFile listed) refused)
 
-pub journals_refused : {X : Type 0} (state : State) (result : Result X Error) (error : Error) (listed : List DirEntry) → Lists state [] listed → (result ≡ Err error → Any IsMisnamedFile listed)
+pub journals_refused : {X : Type 0} (state : DiskState) (result : Result X Error) (error : Error) (listed : List DirEntry) → Lists state [] listed → (result ≡ Err error → Any IsMisnamedFile listed)
     → IfErr result (λ e. (e ≡ error) ⊎ (e ≡ OutOfMemory)) → IfErr result (IsDue (λ e. (e ≡ error) × (JournalsAreNamed (standing state) → ⊥)))
 journals_refused state (Ok x) error listed lists some only = tt
 journals_refused state (Err e) error listed lists some (inl is) = due (λ e. (e ≡ error) × (JournalsAreNamed (standing state) → ⊥)) e (is, journals_misnamed state listed lists (some (ap Err is)))
 journals_refused state (Err e) error listed lists some (inr memory) = subst (IsDue (λ e. (e ≡ error) × (JournalsAreNamed (standing state) → ⊥))) (sym memory) tt
 
-pub folder_ids_ok : (state : State) (result : Result (Vec ℕ Global) Error) (listed : List DirEntry) → Lists state (codes "keyspaces") listed → IfOk result (λ ids. AreIds IsKeyspace listed ids.items) → IfOk result (λ ids. AreFolderIds (standing state) ids.items)
+pub folder_ids_ok : (state : DiskState) (result : Result (Vec ℕ Global) Error) (listed : List DirEntry) → Lists state (codes "keyspaces") listed → IfOk result (λ ids. AreIds IsKeyspace listed ids.items) → IfOk result (λ ids. AreFolderIds (standing state) ids.items)
 folder_ids_ok state (Ok ids) listed lists are = folder_ids state listed lists ids.items are
 folder_ids_ok state (Err e) listed lists are = tt
 
-pub keyspaces_named_ok : {X : Type 0} (state : State) (result : Result X Error) (error : Error) (listed : List DirEntry) → Lists state (codes "keyspaces") listed → (Any IsStrayFolder listed → result ≡ Err error) → OnOk result (KeyspacesAreNamed (standing state))
+pub keyspaces_named_ok : {X : Type 0} (state : DiskState) (result : Result X Error) (error : Error) (listed : List DirEntry) → Lists state (codes "keyspaces") listed → (Any IsStrayFolder listed → result ≡ Err error) → OnOk result (KeyspacesAreNamed (standing state))
 keyspaces_named_ok state result error listed lists refused = on_ok result (Any IsStrayFolder listed → ⊥) (KeyspacesAreNamed (standing state)) (keyspaces_named state listed lists) (unless result error (Any IsStrayFolder listed) refused)
 
-pub keyspaces_refused : {X : Type 0} (state : State) (result : Result X Error) (error : Error) (listed : List DirEntry) → Lists state (codes "keyspaces") listed → (result ≡ Err error → Any IsStrayFolder listed)
+pub keyspaces_refused : {X : Type 0} (state : DiskState) (result : Result X Error) (error : Error) (listed : List DirEntry) → Lists state (codes "keyspaces") listed → (result ≡ Err error → Any IsStrayFolder listed)
     → IfErr result (λ e. (e ≡ error) ⊎ (e ≡ OutOfMemory)) → IfErr result (IsDue (λ e. (e ≡ error) × (KeyspacesAreNamed (standing state) → ⊥)))
 keyspaces_refused state (Ok x) error listed lists some only = tt
 keyspaces_refused state (Err e) error listed lists some (inl is) = due (λ e. (e ≡ error) × (KeyspacesAreNamed (standing state) → ⊥)) e (is, keyspaces_misnamed state listed lists (some (ap Err is)))

@@ -1,29 +1,28 @@
 -- A journal, looked through batch by batch.
-use Rattle.std.proofs.Common.{◌≡◌, ℕ, false, IfOk, IfErr, OnOk, List, [], ◌∷◌, ◌++◌, length, ◌-◌, Option, None, Some, Result, Ok, Err, refl, sym, ◌∙◌, ap, subst}
+use Rattle.std.proofs.Common.{◌≡◌, ℕ, IfOk, IfErr, OnOk, List, [], ◌∷◌, ◌++◌, length, ◌-◌, Option, None, Some, Result, Ok, Err, sym, ◌∙◌, ap, subst}
 use Rattle.std.specs.Option.{option_or}
 use Rattle.fjall_base.specs.declared.error.Error.{Error}
 use Rattle.fjall_journal.specs.declared.batch.Batch.{Batch}
-use Rattle.fjall_journal.specs.declared.batch.Tail.{Tail}
 use Rattle.fjall_journal.specs.declared.batch.Tail.TheVariants.{Damaged}
 use Rattle.fjall_journal.specs.Batches.{Shown, view}
-use Rattle.fjall_journal.specs.Reader.{EndsAt, Next, NextEnds, Reading, over_with}
-use Rattle.fjall_journal.proofs.Readings.{SoFar, at_first, finished, one_more, over_now}
-use Rattle.fjall_manager.specs.Marks.{Marks}
+use Rattle.fjall_journal.specs.Reader.{Next, NextEnds, Reading}
+use Rattle.fjall_journal.proofs.Readings.{SoFar, finished, one_more}
+use Rattle.fjall_manager.specs.Marks.{JournalMarks}
 use Rattle.fjall_manager.specs.Telling.{AreMarksOf}
-use Rattle.fjall_versions.specs.Replays.{Fault, NamesFault, fault_of, first_fault, least_after}
-use Rattle.fjall_versions.proofs.Faults.{first_fault-append, least_after-append}
+use Rattle.fjall_contents.specs.Replays.{JournalFault, NamesFault, fault_of, first_fault, least_after}
+use Rattle.fjall_contents.proofs.Faults.{first_fault-append, least_after-append}
 use Rattle.fjall_recovery.specs.declared.look.Look.{Look}
 use Rattle.fjall_base.specs.declared.error.Error.TheVariants.{InvalidTag, Unrecoverable}
-use Rattle.fjall_recovery.specs.Looks.{IsChecked, IsLook}
+use Rattle.fjall_recovery.specs.Looks.{AreChecked, IsLook}
 use Rattle.fjall_recovery.specs.Refusals.{IsOpeningRefusal}
 
 -- ---- one batch more
 
-none_more : (a b : Option Fault) → a ≡ None → b ≡ None → option_or a b ≡ None
+none_more : (a b : Option JournalFault) → a ≡ None → b ≡ None → option_or a b ≡ None
 none_more a b none other = ap (λ x. option_or x b) none ∙ other
 
 -- a fault that has a name stays the first one
-first_stays : (a b : Option Fault) (error : Error) → NamesFault a error → NamesFault (option_or a b) error
+first_stays : (a b : Option JournalFault) (error : Error) → NamesFault a error → NamesFault (option_or a b) error
 first_stays (Some fault) b error named = named
 first_stays None b error named = absurd (none_named error named)
   where
@@ -31,7 +30,7 @@ first_stays None b error named = absurd (none_named error named)
     none_named e is = is
 
 -- without a fault before, the name is that of the next
-next_named : (a b : Option Fault) (error : Error) → a ≡ None → NamesFault b error → NamesFault (option_or a b) error
+next_named : (a b : Option JournalFault) (error : Error) → a ≡ None → NamesFault b error → NamesFault (option_or a b) error
 next_named a b error none named = subst (λ x. NamesFault (option_or x b) error) (sym none) named
 
 module _ (least : ℕ) (front : List Shown) (b : Shown) where
@@ -45,15 +44,15 @@ module _ (least : ℕ) (front : List Shown) (b : Shown) where
   pub now_named : (next : ℕ) (error : Error) → first_fault least front ≡ None → next ≡ least_after least front → NamesFault (first_fault next (b ∷ [])) error
       → NamesFault (first_fault least (front ++ b ∷ [])) error
   now_named next error none is named =
-      subst (λ (f : Option Fault). NamesFault f error) (sym (first_fault-append least front (b ∷ [])))
+      subst (λ (f : Option JournalFault). NamesFault f error) (sym (first_fault-append least front (b ∷ [])))
       (next_named (first_fault least front) _ error none (subst (λ n. NamesFault (first_fault n (b ∷ [])) error) is named))
 
   pub still_named : (error : Error) → NamesFault (first_fault least front) error → NamesFault (first_fault least (front ++ b ∷ [])) error
-  still_named error named = subst (λ (f : Option Fault). NamesFault f error) (sym (first_fault-append least front (b ∷ []))) (first_stays (first_fault least front) _ error named)
+  still_named error named = subst (λ (f : Option JournalFault). NamesFault f error) (sym (first_fault-append least front (b ∷ []))) (first_stays (first_fault least front) _ error named)
 
 -- what a look at the next batch tells
-pub checks_on : (least : ℕ) (front : List Shown) (b : Shown) (next : ℕ) (own : List Shown) (result : Result ℕ Error) → own ≡ b ∷ [] → IsChecked least front (Ok next)
-    → IfOk result (λ n. n ≡ least_after next own) → OnOk result (first_fault next own ≡ None) → IfErr result (NamesFault (first_fault next own)) → IsChecked least (front ++ b ∷ []) result
+pub checks_on : (least : ℕ) (front : List Shown) (b : Shown) (next : ℕ) (own : List Shown) (result : Result ℕ Error) → own ≡ b ∷ [] → AreChecked least front (Ok next)
+    → IfOk result (λ n. n ≡ least_after next own) → OnOk result (first_fault next own ≡ None) → IfErr result (NamesFault (first_fault next own)) → AreChecked least (front ++ b ∷ []) result
 checks_on least front b next own (Ok n) one so_far is sound cause =
     (still_none least front b next so_far.0 so_far.1 (ap (first_fault next) (sym one) ∙ sound), is ∙ ap (least_after next) one ∙ least_more least front b next so_far.1)
 checks_on least front b next own (Err error) one so_far is sound cause =
@@ -62,39 +61,22 @@ checks_on least front b next own (Err error) one so_far is sound cause =
 -- ---- the turns of the loop
 
 -- So far these batches were read, looked at, and told of.
-pub record IsLooking (text : List ℕ) (least : ℕ) (checked : Result ℕ Error) (marks : Marks) (reader : Reading) : Type 0 where
+pub record IsLooking (text : List ℕ) (least : ℕ) (checked : Result ℕ Error) (marks : JournalMarks) (reader : Reading) : Type 0 where
   pub front : List Shown
   pub so_far : SoFar text front reader
-  pub checked_is : IsChecked least front checked
+  pub checked_is : AreChecked least front checked
   pub marks_are : AreMarksOf front marks
 
 module _ (text : List ℕ) (least : ℕ) where
-  pub first_look : (checked : Result ℕ Error) (marks : Marks) (reader : Reading) → reader.text ≡ text → reader.rest ≡ text → reader.over ≡ false → checked ≡ Ok least → AreMarksOf [] marks
-      → IsLooking text least checked marks reader
-  first_look checked marks reader same rest going is are = record {
-    front = [];
-    so_far = at_first text reader same rest going;
-    checked_is = subst (IsChecked least []) (sym is) (refl, refl);
-    marks_are = are;
-  }
-
-  module _ (checked : Result ℕ Error) (marks : Marks) (old new : Reading) (looking : IsLooking text least checked marks old) where
-    pub look_on : (next : Result ℕ Error) (after : Marks) (batch : Batch) → Next old (Some (Ok batch)) new
-        → ((front : List Shown) → IsChecked least front checked → IsChecked least (front ++ view batch ∷ []) next)
+  module _ (checked : Result ℕ Error) (marks : JournalMarks) (old new : Reading) (looking : IsLooking text least checked marks old) where
+    pub look_on : (next : Result ℕ Error) (after : JournalMarks) (batch : Batch) → Next old (Some (Ok batch)) new
+        → ((front : List Shown) → AreChecked least front checked → AreChecked least (front ++ view batch ∷ []) next)
         → ((front : List Shown) → AreMarksOf front marks → AreMarksOf (front ++ view batch ∷ []) after) → IsLooking text least next after new
     look_on next after batch step checks raises = record {
       front = looking.front ++ view batch ∷ [];
       so_far = one_more text looking.front old new batch looking.so_far step;
       checked_is = checks looking.front looking.checked_is;
       marks_are = raises looking.front looking.marks_are;
-    }
-
-    pub look_over : (tail : Tail) → new ≡ over_with old tail → EndsAt old.rest tail → IsLooking text least checked marks new
-    look_over tail is ends = record {
-      front = looking.front;
-      so_far = over_now text looking.front old new tail looking.so_far is ends;
-      checked_is = looking.checked_is;
-      marks_are = looking.marks_are;
     }
 
     pub looked : (look : Look) → NextEnds old new old.over → look.end ≡ length new.text - length new.rest → look.tail ≡ new.tail → look.checked ≡ checked → AreMarksOf looking.front look.watermarks
@@ -104,7 +86,7 @@ module _ (text : List ℕ) (least : ℕ) where
         record {
           batches = looking.front;
           read = record { written = here.0.0; shows = here.0.1; whole = here.0.2; behind = here.1 };
-          checked = subst (IsChecked least looking.front) (sym is) looking.checked_is;
+          checked = subst (AreChecked least looking.front) (sym is) looking.checked_is;
           marks = are;
         }
 
@@ -119,7 +101,7 @@ looked_at text other least (Ok look) same is = subst (λ (t : List ℕ). IsLook 
 looked_at text other least (Err error) same is = tt
 
 -- the name of a fault is one of an opening's refusals
-pub fault_listed : (fault : Option Fault) (error : Error) → NamesFault fault error → IsOpeningRefusal error
+pub fault_listed : (fault : Option JournalFault) (error : Error) → NamesFault fault error → IsOpeningRefusal error
 fault_listed None error named = absurd (none_at error named)
   where
     none_at : (e : Error) → NamesFault None e → ⊥

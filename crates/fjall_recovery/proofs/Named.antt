@@ -11,7 +11,7 @@ use Rattle.fjall_base.proofs.Names.{bool_cases}
 use Rattle.fjall_files.specs.Regions.{is_under}
 use Rattle.fjall_files.proofs.Under.{in_folder, under_front, under_inner}
 use Rattle.fjall_files.specs.Names.{IsMisnamed, journal_name, keyspace_folder, current_name}
-use Rattle.fjall_home.specs.Homes.{is_counted}
+use Rattle.fjall_manifest.specs.Homes.{is_counted}
 use Rattle.fjall_recovery.proofs.Listed.{in_root}
 use Rattle.fjall_recovery.specs.Halves.{is_of_keyspaces, is_of_root}
 

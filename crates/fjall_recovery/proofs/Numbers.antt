@@ -5,21 +5,21 @@ use Rattle.std.specs.Prelude.{IfSome}
 use Rattle.std.specs.FinMap.{get}
 use Rattle.fjall_base.specs.Disk.{Image}
 use Rattle.fjall_journal.specs.Batches.{Shown, shown}
-use Rattle.fjall_versions.specs.Replays.{Fault, fault_of, first_fault, least_after}
-use Rattle.fjall_tree.specs.Records.{Fields, IsRecord}
+use Rattle.fjall_contents.specs.Replays.{JournalFault, fault_of, first_fault, least_after}
+use Rattle.fjall_manifest.specs.Records.{Fields, IsRecord}
 use Rattle.fjall_meta.specs.declared.living.LivingKeyspace.{LivingKeyspace}
 use Rattle.fjall_meta.specs.Keyspaces.{keyspace_at}
 use Rattle.fjall_catalog.specs.Catalog.{fields}
-use Rattle.fjall_home.specs.Homes.{Home}
-use Rattle.fjall_home.proofs.Resting.{last_has}
-use Rattle.fjall_recovery.specs.Folders.{Contents, IsOpenable, number_of, past, past_record, past_records}
+use Rattle.fjall_manifest.specs.Homes.{Home}
+use Rattle.fjall_manifest.proofs.Resting.{last_has}
+use Rattle.fjall_recovery.specs.Folders.{Contents, IsOpenable, number_of_contents, past, past_record, past_records}
 use Rattle.fjall_recovery.specs.Homes.{HasHomeAt, HaveHomes, Homes, last_in, lasts}
 use Rattle.fjall_recovery.specs.Journals.{batches_in}
 use Rattle.fjall_recovery.proofs.Opened.{none_of_two}
 
 -- ---- batches
 
-not_tested : (test : Bool) (fault : Fault) (other : Option Fault) → (if test then Some fault else other) ≡ None → test ≡ false
+not_tested : (test : Bool) (fault : JournalFault) (other : Option JournalFault) → (if test then Some fault else other) ≡ None → test ≡ false
 not_tested true fault other none = let no : ⊥ = cc in absurd no
 not_tested false fault other none = refl
 
@@ -58,7 +58,7 @@ homes_are_low image living (k ∷ some) homes have =
 
 -- ---- the whole folder
 
-pub number_is_low : (image : Image) (c : Contents) → IsOpenable image c → number_of c ≤ 2 ^ 63
+pub number_is_low : (image : Image) (c : Contents) → IsOpenable image c → number_of_contents c ≤ 2 ^ 63
 number_is_low image c sound =
     both_low (least_after 0 (map shown (batches_in c.journals))) (past_records (fields c.last ∷ lasts c.keyspaces.living c.homes))
     (least_is_low 0 (map shown (batches_in c.journals)) (omega arith) sound.journals.sound)

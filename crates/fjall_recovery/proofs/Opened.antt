@@ -13,16 +13,16 @@ use Rattle.fjall_journal.specs.declared.batch.Tail.{Tail}
 use Rattle.fjall_journal.specs.declared.batch.Tail.TheVariants.{Clean, Torn, Damaged}
 use Rattle.fjall_journal.specs.Batches.{Written, IsTail, shown}
 use Rattle.fjall_journal.proofs.Wholes as Wholes
-use Rattle.fjall_versions.specs.Replays.{Fault, first_fault, least_after, NamesFault}
-use Rattle.fjall_home.specs.Homes.{Home}
-use Rattle.fjall_home.proofs.Meanings.{one_home}
-use Rattle.fjall_home.proofs.Openings.{openable_no_damage}
+use Rattle.fjall_contents.specs.Replays.{JournalFault, first_fault, least_after, NamesFault}
+use Rattle.fjall_manifest.specs.Homes.{Home}
+use Rattle.fjall_manifest.proofs.Meanings.{one_home}
+use Rattle.fjall_manifest.proofs.Openings.{openable_no_damage}
 use Rattle.fjall_recovery.specs.Homes.{ClearsAreWithin, HasOpenableHome, HaveHomes, Homes}
-use Rattle.fjall_recovery.specs.Journals.{Journal, ReadsAs, AreRead, HoldsJournals, AreJournalIds, batches_in, journal_text}
+use Rattle.fjall_recovery.specs.Journals.{WholeJournal, ReadsAs, AreJournalsRead, HoldsJournals, AreJournalIds, batches_in, journal_text}
 use Rattle.fjall_recovery.specs.Refusals.{HomeRefuses, HomesRefuse, JournalsRefuse, TailRefuses}
 use Rattle.fjall_recovery.proofs.Alone.{one_list_of_ids}
 use Rattle.fjall_recovery.proofs.Housing.{IsHoused, all_housed, openable_of}
-use Rattle.fjall_versions.proofs.Faults.{first_fault-append}
+use Rattle.fjall_contents.proofs.Faults.{first_fault-append}
 use Rattle.fjall_meta.specs.declared.living.LivingKeyspace.{LivingKeyspace}
 
 -- ---- tails
@@ -69,16 +69,16 @@ active_is_kept text batches others tail error (inr a) b refused = torn_is_kept (
 
 -- ---- batches
 
-pub none_of_two : (a b : Option Fault) → option_or a b ≡ None → (a ≡ None) × (b ≡ None)
+pub none_of_two : (a b : Option JournalFault) → option_or a b ≡ None → (a ≡ None) × (b ≡ None)
 none_of_two None b e = (refl, e)
 none_of_two (Some fault) b e = let no : ⊥ = cc in absurd no
 
-pub nothing_is_named : (fault : Option Fault) (error : Error) → fault ≡ None → NamesFault fault error → ⊥
+pub nothing_is_named : (fault : Option JournalFault) (error : Error) → fault ≡ None → NamesFault fault error → ⊥
 nothing_is_named None error e named = named
 nothing_is_named (Some fault) error e named = let no : ⊥ = cc in no
 
 -- the first journal has no fault, and those behind it have none
-faultless : (least : ℕ) (j : Journal) (journals : List Journal) → first_fault least (map shown (batches_in (j ∷ journals))) ≡ None
+faultless : (least : ℕ) (j : WholeJournal) (journals : List WholeJournal) → first_fault least (map shown (batches_in (j ∷ journals))) ≡ None
     → (first_fault least (map shown j.batches) ≡ None) × (first_fault (least_after least (map shown j.batches)) (map shown (batches_in journals)) ≡ None)
 faultless least j journals sound =
     none_of_two (first_fault least (map shown j.batches)) (first_fault (least_after least (map shown j.batches)) (map shown (batches_in journals)))
@@ -87,13 +87,13 @@ faultless least j journals sound =
 -- ---- journals
 
 module _ (image : Image) where
-  batches_are : (j : Journal) (journals : List Journal) → AreRead image (j ∷ journals) → (others : List Written) (tail : Tail) → ReadsAs (journal_text image j.id) others tail → others ≡ j.batches
+  batches_are : (j : WholeJournal) (journals : List WholeJournal) → AreJournalsRead image (j ∷ journals) → (others : List Written) (tail : Tail) → ReadsAs (journal_text image j.id) others tail → others ≡ j.batches
   batches_are j [] (inl a) others tail b = sym (same_reading (journal_text image j.id) j.batches others Clean tail a b).0
   batches_are j [] (inr a) others tail b = sym (same_reading (journal_text image j.id) j.batches others Torn tail a b).0
   batches_are j (k ∷ journals) (a, rest) others tail b = sym (same_reading (journal_text image j.id) j.batches others Clean tail a b).0
 
-  pub journals_are_kept : (least : ℕ) (journals : List Journal) (error : Error) → AreRead image journals → first_fault least (map shown (batches_in journals)) ≡ None
-      → JournalsRefuse image least (map (λ (j : Journal). j.id) journals) error → ⊥
+  pub journals_are_kept : (least : ℕ) (journals : List WholeJournal) (error : Error) → AreJournalsRead image journals → first_fault least (map shown (batches_in journals)) ≡ None
+      → JournalsRefuse image least (map (λ (j : WholeJournal). j.id) journals) error → ⊥
   journals_are_kept least [] error read sound refused = refused
   journals_are_kept least (j ∷ []) error read sound (others, tail, reads, why) =
       let same : others ≡ j.batches = batches_are j [] read others tail reads in
@@ -107,12 +107,12 @@ module _ (image : Image) where
       ⊎_elim (λ named. nothing_is_named (first_fault least (map shown others)) error none named)
       (λ later. ⊎_elim (λ refused. sealed_is_kept (journal_text image j.id) j.batches others false tail error read.0 reads refused)
       (λ behind. journals_are_kept (least_after least (map shown j.batches)) (k ∷ journals) error read.1 rest.1
-      (subst (λ (l : List Written). JournalsRefuse image (least_after least (map shown l)) (map (λ (i : Journal). i.id) (k ∷ journals)) error) same behind.1)) later.1) why
+      (subst (λ (l : List Written). JournalsRefuse image (least_after least (map shown l)) (map (λ (i : WholeJournal). i.id) (k ∷ journals)) error) same behind.1)) later.1) why
 
   -- journals that an image holds aren't refused
-  pub held_journals_are_kept : (journals : List Journal) (ids : List ℕ) (error : Error) → HoldsJournals image journals → AreJournalIds image ids → JournalsRefuse image 0 ids error → ⊥
+  pub held_journals_are_kept : (journals : List WholeJournal) (ids : List ℕ) (error : Error) → HoldsJournals image journals → AreJournalIds image ids → JournalsRefuse image 0 ids error → ⊥
   held_journals_are_kept journals ids error holds are refused =
-      journals_are_kept 0 journals error holds.read holds.sound (subst (λ (l : List ℕ). JournalsRefuse image 0 l error) (one_list_of_ids image ids (map (λ (j : Journal). j.id) journals) are holds.ids) refused)
+      journals_are_kept 0 journals error holds.read holds.sound (subst (λ (l : List ℕ). JournalsRefuse image 0 l error) (one_list_of_ids image ids (map (λ (j : WholeJournal). j.id) journals) are holds.ids) refused)
 
   -- ---- keyspaces
 

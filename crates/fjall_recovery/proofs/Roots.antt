@@ -7,7 +7,7 @@ use Rattle.std.proofs.lemmas.Bool.{cases_lt}
 use Rattle.std.proofs.lemmas.List.{append-nil, drop_at, map-append}
 use Rattle.std.proofs.lemmas.Grind.{flat_map-append}
 use Rattle.std.proofs.Math.Seq.{drop-append-add}
-use Rattle.fjall_base.specs.Disk.{Name, Entry, File, State, Image, Survives, IsFile, folder_of, standing}
+use Rattle.fjall_base.specs.Disk.{Name, DiskEntry, File, DiskState, Image, Survives, IsFile, folder_of, standing}
 use Rattle.fjall_files.specs.Texts.{text_in}
 use Rattle.fjall_files.specs.Regions.{IsImageIn, IsSafe}
 use Rattle.fjall_journal.specs.declared.batch.Tail.TheVariants.{Clean, Torn}
@@ -17,10 +17,10 @@ use Rattle.fjall_journal.proofs.Wholes.{texts_are_whole, whole_behind}
 use Rattle.fjall_files.specs.declared.marker.Marker.TheVariants.{Whole}
 use Rattle.fjall_files.specs.Marker.{marker_tells}
 use Rattle.fjall_files.specs.Names.{IsMisnamed, journal_name}
-use Rattle.fjall_versions.specs.Replays.{first_fault}
-use Rattle.fjall_versions.proofs.Faults.{first_fault-append}
+use Rattle.fjall_contents.specs.Replays.{first_fault}
+use Rattle.fjall_contents.proofs.Faults.{first_fault-append}
 use Rattle.fjall_recovery.specs.Folders.{file_bytes, marker_bytes}
-use Rattle.fjall_recovery.specs.Journals.{AreJournalIds, AreRead, IsSealed, Journal, ReadsAs, batches_in, journal_text}
+use Rattle.fjall_recovery.specs.Journals.{AreJournalIds, AreJournalsRead, IsSealed, ReadsAs, WholeJournal, batches_in, journal_text}
 use Rattle.fjall_recovery.specs.Naming.{JournalsAreNamed}
 use Rattle.fjall_recovery.proofs.Listed.{in_root}
 use Rattle.fjall_recovery.specs.Halves.{HasRoot, is_of_root}
@@ -58,29 +58,29 @@ in_or_not (x ∷ xs) n = elim (same_or_not x n) [
 ]
 
 -- what all journals have by their ids, each of these ids has
-pub by_ids : (P : ℕ → Type 0) (journals : List Journal) (n : ℕ) → AllByRecursion (λ journal. P journal.id) journals → Contains (map (λ (j : Journal). j.id) journals) n → P n
+pub by_ids : (P : ℕ → Type 0) (journals : List WholeJournal) (n : ℕ) → AllByRecursion (λ journal. P journal.id) journals → Contains (map (λ (j : WholeJournal). j.id) journals) n → P n
 by_ids P [] n all has = let none : has.0 < 0 = has.1 in absurd (omega (arith, none))
-by_ids P (j ∷ journals) n all has = ⊎_elim (λ is. subst P is all.0) (λ later. by_ids P journals n all.1 later) (in_cases j.id n (map (λ (k : Journal). k.id) journals) has)
+by_ids P (j ∷ journals) n all has = ⊎_elim (λ is. subst P is all.0) (λ later. by_ids P journals n all.1 later) (in_cases j.id n (map (λ (k : WholeJournal). k.id) journals) has)
 
 -- ---- images that agree outside `keyspaces`
 
-reads_alike : (image other : Image) (journals : List Journal) → ((n : ℕ) → Contains (map (λ (j : Journal). j.id) journals) n → other (journal_name n) ≡ image (journal_name n)) → AreRead image journals → AreRead other journals
+reads_alike : (image other : Image) (journals : List WholeJournal) → ((n : ℕ) → Contains (map (λ (j : WholeJournal). j.id) journals) n → other (journal_name n) ≡ image (journal_name n)) → AreJournalsRead image journals → AreJournalsRead other journals
 reads_alike image other [] agree read = tt
 reads_alike image other (j ∷ []) agree read =
-    let same = ap (λ (e : Entry). text_in e) (sym (agree j.id (first_in j.id []))) in
+    let same = ap (λ (e : DiskEntry). text_in e) (sym (agree j.id (first_in j.id []))) in
     subst (λ (l : List ℕ). ReadsAs l j.batches Clean ⊎ ReadsAs l j.batches Torn) same read
 reads_alike image other (j ∷ k ∷ journals) agree read =
-    let same = ap (λ (e : Entry). text_in e) (sym (agree j.id (first_in j.id (map (λ (i : Journal). i.id) (k ∷ journals))))) in (
+    let same = ap (λ (e : DiskEntry). text_in e) (sym (agree j.id (first_in j.id (map (λ (i : WholeJournal). i.id) (k ∷ journals))))) in (
       subst (λ (l : List ℕ). ReadsAs l j.batches Clean) same read.0,
-      reads_alike image other (k ∷ journals) (λ n has. agree n (later_in j.id n (map (λ (i : Journal). i.id) (k ∷ journals)) has)) read.1,
+      reads_alike image other (k ∷ journals) (λ n has. agree n (later_in j.id n (map (λ (i : WholeJournal). i.id) (k ∷ journals)) has)) read.1,
     )
 
-pub roots_alike : (image other : Image) (journals : List Journal) → ((q : Name) → is_of_root q ≡ true → other q ≡ image q) → HasRoot image journals → HasRoot other journals
+pub roots_alike : (image other : Image) (journals : List WholeJournal) → ((q : Name) → is_of_root q ≡ true → other q ≡ image q) → HasRoot image journals → HasRoot other journals
 roots_alike image other journals agree has =
     let at : (id : ℕ) → id < 2 ^ 64 → other (journal_name id) ≡ image (journal_name id) = λ id small. agree (journal_name id) (journal_within id small) in
     let ids = has.holds.ids in
     record {
-      marker = ap (λ (e : Entry). marker_tells (file_bytes e)) (agree (codes "version") refl) ∙ has.marker;
+      marker = ap (λ (e : DiskEntry). marker_tells (file_bytes e)) (agree (codes "version") refl) ∙ has.marker;
       named = λ name root file misnamed. elim (root_cases name root) [
         | inl within ↦ has.named name root (subst IsFile (agree name within) file) misnamed
         | inr is ↦ keyspaces_not_misnamed (subst IsMisnamed is misnamed)
@@ -159,21 +159,21 @@ twice_taken n m xs =
 
 -- ---- an image that shows a root
 
-reads_all : (image : Image) (sealed : List Journal) (active : Journal) → AllByRecursion (IsSealed image) sealed → ReadsAs (journal_text image active.id) active.batches Clean ⊎ ReadsAs (journal_text image active.id) active.batches Torn → AreRead image (sealed ++ active ∷ [])
+reads_all : (image : Image) (sealed : List WholeJournal) (active : WholeJournal) → AllByRecursion (IsSealed image) sealed → ReadsAs (journal_text image active.id) active.batches Clean ⊎ ReadsAs (journal_text image active.id) active.batches Torn → AreJournalsRead image (sealed ++ active ∷ [])
 reads_all image [] active all last = last
 reads_all image (j ∷ []) active all last = (all.0, last)
 reads_all image (j ∷ k ∷ sealed) active all last = (all.0, reads_all image (k ∷ sealed) active all.1 last)
 
 -- what the last batches are matters to no id
-pub same_ids : (j : Journaling) (behind : List Written) → journal_ids j ≡ map (λ (k : Journal). k.id) (journals_with j behind)
+pub same_ids : (j : Journaling) (behind : List Written) → journal_ids j ≡ map (λ (k : WholeJournal). k.id) (journals_with j behind)
 same_ids j behind =
-    map-append (λ (k : Journal). k.id) j.sealed (record { id = j.active; batches = j.whole ++ [] } ∷ [])
-    ∙ sym (map-append (λ (k : Journal). k.id) j.sealed (record { id = j.active; batches = j.whole ++ behind } ∷ []))
+    map-append (λ (k : WholeJournal). k.id) j.sealed (record { id = j.active; batches = j.whole ++ [] } ∷ [])
+    ∙ sym (map-append (λ (k : WholeJournal). k.id) j.sealed (record { id = j.active; batches = j.whole ++ behind } ∷ []))
 
 -- the batches of all journals are those of the sealed ones and then the active one's
 pub batches_are : (j : Journaling) (behind : List Written) → batches_in (journals_with j behind) ≡ batches_in j.sealed ++ (j.whole ++ behind)
 batches_are j behind =
-    flat_map-append (λ (k : Journal). k.batches) j.sealed (record { id = j.active; batches = j.whole ++ behind } ∷ []) ∙ ap (λ (l : List Written). batches_in j.sealed ++ l) (append-nil (j.whole ++ behind))
+    flat_map-append (λ (k : WholeJournal). k.batches) j.sealed (record { id = j.active; batches = j.whole ++ behind } ∷ []) ∙ ap (λ (l : List Written). batches_in j.sealed ++ l) (append-nil (j.whole ++ behind))
 
 -- fewer later batches have no fault either
 pub fewer_sound : (j : Journaling) (behind rest : List Written) → behind ++ rest ≡ j.later → first_fault 0 (map shown (batches_in (journals_with j j.later))) ≡ None → first_fault 0 (map shown (batches_in (journals_with j behind))) ≡ None
@@ -195,7 +195,7 @@ sealed_written j written = all_front IsWritten (batches_in j.sealed) (j.whole ++
 abbrev pub HasSomeRoot : Image → Journaling → Type 0
 HasSomeRoot image j = (behind rest : List Written) × (behind ++ rest ≡ j.later) × HasRoot image (journals_with j behind)
 
-module _ (state : State) (image : Image) (seen : IsSeen is_of_root state image) where
+module _ (state : DiskState) (image : Image) (seen : IsSeen is_of_root state image) where
   -- a safe file of the root stands there with its bytes
   pub root_file : (q : Name) (bytes : List ℕ) → folder_of q ≡ [] → is_of_root q ≡ true → IsSafe state q bytes → image q ≡ File bytes []
   root_file q bytes root within safe = safe_seen is_of_root state image seen q bytes within (inl root) safe
@@ -203,15 +203,15 @@ module _ (state : State) (image : Image) (seen : IsSeen is_of_root state image) 
   pub journal_file : (id : ℕ) (bytes : List ℕ) → id < 2 ^ 64 → IsSafe state (journal_name id) bytes → image (journal_name id) ≡ File bytes []
   journal_file id bytes small safe = root_file (journal_name id) bytes (in_root id small) (journal_within id small) safe
 
-  sealed_seen : (sealed : List Journal) → AllByRecursion (λ journal. journal.id < 2 ^ 64) sealed → AllByRecursion (λ journal. IsSafe state (journal_name journal.id) (texts_of journal.batches)) sealed → AllByRecursion IsWritten (batches_in sealed) → AllByRecursion (IsSealed image) sealed
+  sealed_seen : (sealed : List WholeJournal) → AllByRecursion (λ journal. journal.id < 2 ^ 64) sealed → AllByRecursion (λ journal. IsSafe state (journal_name journal.id) (texts_of journal.batches)) sealed → AllByRecursion IsWritten (batches_in sealed) → AllByRecursion (IsSealed image) sealed
   sealed_seen [] small safe written = tt
   sealed_seen (j ∷ sealed) small safe written =
-      let text : journal_text image j.id ≡ texts_of j.batches = ap (λ (e : Entry). text_in e) (journal_file j.id (texts_of j.batches) small.0 safe.0) ∙ append-nil (texts_of j.batches) in (
+      let text : journal_text image j.id ≡ texts_of j.batches = ap (λ (e : DiskEntry). text_in e) (journal_file j.id (texts_of j.batches) small.0 safe.0) ∙ append-nil (texts_of j.batches) in (
         subst (λ (l : List ℕ). ReadsAs l j.batches Clean) (sym text) (clean_reads j.batches (all_front IsWritten j.batches (batches_in sealed) written)),
         sealed_seen sealed small.1 safe.1 (all_behind IsWritten j.batches (batches_in sealed) written),
       )
 
-  sealed_files : (sealed : List Journal) → AllByRecursion (λ journal. journal.id < 2 ^ 64) sealed → AllByRecursion (λ journal. IsSafe state (journal_name journal.id) (texts_of journal.batches)) sealed → AllByRecursion (λ journal. IsFile (image (journal_name journal.id))) sealed
+  sealed_files : (sealed : List WholeJournal) → AllByRecursion (λ journal. journal.id < 2 ^ 64) sealed → AllByRecursion (λ journal. IsSafe state (journal_name journal.id) (texts_of journal.batches)) sealed → AllByRecursion (λ journal. IsFile (image (journal_name journal.id))) sealed
   sealed_files [] small safe = tt
   sealed_files (j ∷ sealed) small safe = (subst IsFile (sym (journal_file j.id (texts_of j.batches) small.0 safe.0)) tt, sealed_files sealed small.1 safe.1)
 
@@ -219,14 +219,14 @@ module _ (state : State) (image : Image) (seen : IsSeen is_of_root state image) 
     small_id : (id : ℕ) → Contains (journal_ids j) id → id < 2 ^ 64
     small_id id (k, lt, at) = subst (λ m. m < 2 ^ 64) at (lies.fit k id lt)
 
-    small_all : (front behind : List Journal) → ((id : ℕ) → Contains (map (λ (k : Journal). k.id) (front ++ behind)) id → id < 2 ^ 64) → AllByRecursion (λ journal. journal.id < 2 ^ 64) front
+    small_all : (front behind : List WholeJournal) → ((id : ℕ) → Contains (map (λ (k : WholeJournal). k.id) (front ++ behind)) id → id < 2 ^ 64) → AllByRecursion (λ journal. journal.id < 2 ^ 64) front
     small_all [] behind small = tt
     small_all (k ∷ front) behind small = (small k.id (first_in k.id _), small_all front behind (λ id has. small id (later_in k.id id _ has)))
 
     small_sealed : AllByRecursion (λ journal. journal.id < 2 ^ 64) j.sealed
     small_sealed = small_all j.sealed (record { id = j.active; batches = j.whole ++ [] } ∷ []) small_id
 
-    last_in : (front : List Journal) (active : Journal) → Contains (map (λ (k : Journal). k.id) (front ++ active ∷ [])) active.id
+    last_in : (front : List WholeJournal) (active : WholeJournal) → Contains (map (λ (k : WholeJournal). k.id) (front ++ active ∷ [])) active.id
     last_in [] active = first_in active.id []
     last_in (k ∷ front) active = later_in k.id active.id _ (last_in front active)
 
@@ -242,7 +242,7 @@ module _ (state : State) (image : Image) (seen : IsSeen is_of_root state image) 
     journal_stands : (id : ℕ) → Contains (journal_ids j) id → IsFile (image (journal_name id))
     journal_stands id has =
         by_ids (λ n. IsFile (image (journal_name n))) (journals_with j []) id
-        (all_both (λ (journal : Journal). IsFile (image (journal_name journal.id))) j.sealed (record { id = j.active; batches = j.whole ++ [] } ∷ []) (sealed_files j.sealed small_sealed lies.sealed) (active_seen.file, tt)) has
+        (all_both (λ (journal : WholeJournal). IsFile (image (journal_name journal.id))) j.sealed (record { id = j.active; batches = j.whole ++ [] } ∷ []) (sealed_files j.sealed small_sealed lies.sealed) (active_seen.file, tt)) has
 
     no_other : (id : ℕ) → id < 2 ^ 64 → IsFile (image (journal_name id)) → Contains (journal_ids j) id
     no_other id small file = elim (in_or_not (journal_ids j) id) [
@@ -264,7 +264,7 @@ module _ (state : State) (image : Image) (seen : IsSeen is_of_root state image) 
 
     marker_seen : marker_tells (marker_bytes image) ≡ Ok Whole
     marker_seen =
-        ap (λ (e : Entry). marker_tells (file_bytes e)) (root_file (codes "version") lies.marker_text refl refl lies.marker)
+        ap (λ (e : DiskEntry). marker_tells (file_bytes e)) (root_file (codes "version") lies.marker_text refl refl lies.marker)
         ∙ ap (λ (l : List ℕ). marker_tells (Some l)) (append-nil lies.marker_text) ∙ lies.marker_is
 
     pub root_seen : HasSomeRoot image j
@@ -286,9 +286,9 @@ module _ (state : State) (image : Image) (seen : IsSeen is_of_root state image) 
           },
         )
 
-pub crashes_leave_the_root : (state : State) (image : Image) (j : Journaling) → LiesInRoot state j → IsImageIn Survives is_of_root state image → HasSomeRoot image j
+pub crashes_leave_the_root : (state : DiskState) (image : Image) (j : Journaling) → LiesInRoot state j → IsImageIn Survives is_of_root state image → HasSomeRoot image j
 crashes_leave_the_root state image j lies is = root_seen state image (crash_seen is_of_root state image is) j lies
 
 -- what stands has the root that lies there
-pub standing_root : (state : State) (j : Journaling) → LiesInRoot state j → HasSomeRoot (standing state) j
+pub standing_root : (state : DiskState) (j : Journaling) → LiesInRoot state j → HasSomeRoot (standing state) j
 standing_root state j lies = root_seen state (standing state) (standing_seen is_of_root state) j lies

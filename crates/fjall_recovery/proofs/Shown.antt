@@ -4,11 +4,11 @@ use Rattle.std.proofs.lemmas.List.Elements.{All-nil}
 use Rattle.std.specs.FinMap.{get}
 use Rattle.fjall_base.specs.Disk.{Image}
 use Rattle.fjall_table.specs.Blocks.{Entry}
-use Rattle.fjall_home.specs.Homes.{Home}
+use Rattle.fjall_manifest.specs.Homes.{Home}
 use Rattle.fjall_meta.specs.Keyspaces.{Keyspaces}
 use Rattle.fjall_contents.specs.Contents.{AreWithin, IsWithin, is_beyond}
 use Rattle.fjall_recovery.specs.declared.folder.RecoveredFolder.{RecoveredFolder}
-use Rattle.fjall_recovery.specs.Folders.{Contents, IsOpenable, Shows, with_versions}
+use Rattle.fjall_recovery.specs.Folders.{Contents, IsOpenable, ShowsContents, with_versions}
 use Rattle.fjall_recovery.specs.Homes.{HasVersionsAt, HaveVersions, Homes, Versions, last_in, stored_at, stored_in}
 use Rattle.fjall_recovery.proofs.Alone.{one_openable}
 
@@ -35,9 +35,9 @@ persisted_told homes versions have id = persisted_at (get homes id) (get version
 -- ---- what was read
 
 -- what was read shows no versions
-other_versions : (f : RecoveredFolder) (c : Contents) (versions : Versions) → Shows f c → Shows f (with_versions versions c)
+other_versions : (f : RecoveredFolder) (c : Contents) (versions : Versions) → ShowsContents f c → ShowsContents f (with_versions versions c)
 other_versions f c versions shows = record { ids = shows.ids; least = shows.least; keyspaces = shows.keyspaces; last = shows.last; homes = shows.homes }
 
 -- so it shows whatever an opening finds there
-pub shows_alike : (f : RecoveredFolder) (image : Image) (c d : Contents) → IsOpenable image c → IsOpenable image d → Shows f c → Shows f d
-shows_alike f image c d one two shows = subst (Shows f) (one_openable image c d one two) (other_versions f c d.versions shows)
+pub shows_alike : (f : RecoveredFolder) (image : Image) (c d : Contents) → IsOpenable image c → IsOpenable image d → ShowsContents f c → ShowsContents f d
+shows_alike f image c d one two shows = subst (ShowsContents f) (one_openable image c d one two) (other_versions f c d.versions shows)

@@ -8,28 +8,18 @@ use Rattle.std.specs.Ordering.{nat_cmp}
 use Rattle.std.specs.FinMap.{FinMap, empty, get, insert, remove, get-empty, get-remove}
 use Rattle.fjall_table.specs.Blocks.{Entry}
 use Rattle.fjall_table.specs.declared.table_info.TableInfo.{TableInfo}
-use Rattle.fjall_table.proofs.TableFiles.{one_list_of}
-use Rattle.fjall_tree.specs.Records.{Fields}
-use Rattle.fjall_home.specs.Homes.{Home}
-use Rattle.fjall_home.specs.Reading.{AreRight}
+use Rattle.fjall_table_reader.proofs.TableFiles.{one_list_of}
+use Rattle.fjall_manifest.specs.Records.{Fields}
+use Rattle.fjall_manifest.specs.Homes.{Home}
+use Rattle.fjall_manifest.specs.Reading.{AreRight}
 use Rattle.fjall_meta.specs.declared.living.LivingKeyspace.{LivingKeyspace}
 use Rattle.fjall_meta.specs.Keyspaces.{Keyspaces}
-use Rattle.fjall_versions.proofs.Slots.{get_put, same_maps, ties}
+use Rattle.fjall_contents.proofs.Slots.{get_put, same_maps, ties}
 use Rattle.fjall_contents.specs.Contents.{AreWithin, IsWithin, is_beyond, nothing_stored}
 use Rattle.fjall_recovery.specs.Folders.{past, past_record, past_records}
 use Rattle.fjall_recovery.specs.Homes.{ClearsAreWithin, HasVersions, HasVersionsAt, HaveVersions, Homes, Versions, last_in, lasts, stored_at, stored_in, stored_of}
 
 -- ---- numbers
-
--- what is persisted of a keyspace is what its last record tells
-persisted_at : (h : Option Home) (versions : Option (List Entry)) → HasVersionsAt h versions → (stored_at h versions).persisted ≡ (last_in h).persisted
-persisted_at (Some h) (Some versions) has = refl
-persisted_at (Some h) None has = absurd has
-persisted_at None (Some versions) has = absurd has
-persisted_at None None has = refl
-
-pub stored_persisted : (homes : Homes) (versions : Versions) → HaveVersions homes versions → (id : ℕ) → (stored_in homes versions id).persisted ≡ (last_in (get homes id)).persisted
-stored_persisted homes versions have id = persisted_at (get homes id) (get versions id) (have id)
 
 -- nothing that is stored is beyond the persisted number
 within_at : (h : Option Home) (versions : Option (List Entry)) → HasVersionsAt h versions → IsWithin (stored_at h versions)
@@ -116,24 +106,6 @@ no_versions id =
     (subst (λ (o : Option (List Entry)). HasVersionsAt None o) (sym (get-empty nat_cmp id)) tt)
 
 -- ---- tables
-
--- where no table is named there is no version
-none_right : (tables : List TableInfo) (texts : List (List ℕ)) (lists : List (List Entry)) → tables ≡ [] → AreRight tables texts lists → lists ≡ []
-none_right [] [] [] none right = refl
-none_right [] [] (l ∷ lists) none right = absurd right
-none_right [] (b ∷ texts) lists none right = absurd right
-none_right (t ∷ tables) texts lists none right = let no : ⊥ = cc in absurd no
-
-pub none_of_no_tables : (h : Home) (versions : List Entry) → HasVersions h versions → h.last.tables ≡ [] → versions ≡ []
-none_of_no_tables h versions has none = has.all ∙ ap (flat_map (λ entries. entries)) (none_right h.last.tables h.texts has.lists none has.right)
-
-nothing_at : (h : Option Home) (versions : Option (List Entry)) → HasVersionsAt h versions → (last_in h).tables ≡ [] → (stored_at h versions).versions ≡ []
-nothing_at (Some h) (Some versions) has none = none_of_no_tables h versions has none
-nothing_at (Some h) None has none = absurd has
-nothing_at None versions has none = refl
-
-pub nothing_in_tables : (homes : Homes) (versions : Versions) → HaveVersions homes versions → (id : ℕ) → (last_in (get homes id)).tables ≡ [] → (stored_in homes versions id).versions ≡ []
-nothing_in_tables homes versions have id none = nothing_at (get homes id) (get versions id) (have id) none
 
 -- the home of a last record that names no table
 abbrev pub plain_home : Fields → Home

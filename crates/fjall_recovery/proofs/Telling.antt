@@ -8,9 +8,9 @@ use Rattle.fjall_journal.specs.Batches.{IsTail, IsWhole, Shown, Written, batch_t
 use Rattle.fjall_journal.specs.declared.batch.Tail.{Tail}
 use Rattle.fjall_journal.specs.declared.batch.Tail.TheVariants.{Clean, Torn}
 use Rattle.fjall_manager.specs.Journals.{Sealed}
-use Rattle.fjall_manager.specs.Marks.{Marks}
+use Rattle.fjall_manager.specs.Marks.{JournalMarks}
 use Rattle.fjall_manager.specs.Telling.{AreMarksOf, IsSealedAs}
-use Rattle.fjall_recovery.specs.Journals.{IsReadAs, Journal, ReadsAs, journal_text, tail_of}
+use Rattle.fjall_recovery.specs.Journals.{IsReadAs, ReadsAs, WholeJournal, journal_text, tail_of}
 use Rattle.fjall_recovery.specs.Told.{AreSealedAs, AreTold, TellOf, TellsOf}
 use Rattle.fjall_recovery.proofs.Gathering.{clean_end, either_tail, ids-append, read_last, sealed_more, split_last}
 
@@ -27,7 +27,7 @@ whole_end text batches end whole =
     let within = whole.within in
     omega (arith, texts, all, within)
 
-pub tell_more : (journals : List Journal) (sealed : List Sealed) (j : Journal) (journal : Sealed) → AllZip TellsOf journals sealed → TellsOf j journal → AllZip TellsOf (journals ++ j ∷ []) (sealed ++ journal ∷ [])
+pub tell_more : (journals : List WholeJournal) (sealed : List Sealed) (j : WholeJournal) (journal : Sealed) → AllZip TellsOf journals sealed → TellsOf j journal → AllZip TellsOf (journals ++ j ∷ []) (sealed ++ journal ∷ [])
 tell_more [] [] j journal tell one = (one, tt)
 tell_more [] (s ∷ sealed) j journal tell one = absurd tell
 tell_more (k ∷ journals) [] j journal tell one = absurd tell
@@ -37,7 +37,7 @@ tell_more (k ∷ journals) (s ∷ sealed) j journal tell one = (tell.0, tell_mor
 pub sealed_as_more : (image : Image) (ids : List ℕ) (id : ℕ) (sealed : List Sealed) (journal : Sealed) (batches : List Shown) (end : ℕ) (tail : Tail) → AreSealedAs image ids sealed
     → IsReadAs (journal_text image id) batches end tail → tail ≡ Clean → IsSealedAs id batches end journal → AreSealedAs image (ids ++ id ∷ []) (sealed ++ journal ∷ [])
 sealed_as_more image ids id sealed journal batches end tail so_far read clean told =
-    let j : Journal = record { id = id; batches = read.written } in
+    let j : WholeJournal = record { id = id; batches = read.written } in
     let tells : TellsOf j journal = record {
       id_is = told.id_is;
       len_is = told.len_is ∙ whole_end (journal_text image id) read.written end read.whole;
@@ -51,7 +51,7 @@ sealed_as_more image ids id sealed journal batches end tail so_far read clean to
     }
 
 -- a sealed journal is told of by what was found of it
-pub sealed_as : (id : ℕ) (batches : List Shown) (end : ℕ) (journal : Sealed) (len : ℕ) (marks : Marks) → journal ≡ record { id = id; len = len; watermarks = marks } → len ≡ end → AreMarksOf batches marks
+pub sealed_as : (id : ℕ) (batches : List Shown) (end : ℕ) (journal : Sealed) (len : ℕ) (marks : JournalMarks) → journal ≡ record { id = id; len = len; watermarks = marks } → len ≡ end → AreMarksOf batches marks
     → IsSealedAs id batches end journal
 sealed_as id batches end journal len marks is at are = record {
   id_is = ap (λ (s : Sealed). s.id) is;
@@ -75,7 +75,7 @@ turn_ids ids n sealed new journal lt so_far id_is is =
 
 -- ---- the active one behind them
 
-pub tell_last : (front : List Journal) (j : Journal) (sealed : List Sealed) (marks : Marks) → AllZip TellsOf front sealed → AreMarksOf (map shown j.batches) marks → TellOf (front ++ j ∷ []) sealed marks
+pub tell_last : (front : List WholeJournal) (j : WholeJournal) (sealed : List Sealed) (marks : JournalMarks) → AllZip TellsOf front sealed → AreMarksOf (map shown j.batches) marks → TellOf (front ++ j ∷ []) sealed marks
 tell_last [] j [] marks tell are = (refl, are)
 tell_last [] j (s ∷ sealed) marks tell are = absurd tell
 tell_last (k ∷ front) j [] marks tell are = absurd tell
@@ -83,7 +83,7 @@ tell_last (k ∷ []) j (s ∷ sealed) marks tell are = (tell.0, tell_last [] j s
 tell_last (k ∷ l ∷ front) j (s ∷ sealed) marks tell are = (tell.0, tell_last (l ∷ front) j sealed marks tell.1 are)
 
 -- what is told of journals is told of all but the last, and of the last
-pub tell_apart : (front : List Journal) (j : Journal) (sealed : List Sealed) (marks : Marks) → TellOf (front ++ j ∷ []) sealed marks → AllZip TellsOf front sealed × AreMarksOf (map shown j.batches) marks
+pub tell_apart : (front : List WholeJournal) (j : WholeJournal) (sealed : List Sealed) (marks : JournalMarks) → TellOf (front ++ j ∷ []) sealed marks → AllZip TellsOf front sealed × AreMarksOf (map shown j.batches) marks
 tell_apart [] j [] marks tell = (tt, tell.1)
 tell_apart [] j (s ∷ sealed) marks tell = absurd (let bad : ⊥ = cc in bad)
 tell_apart (k ∷ []) j [] marks tell = absurd tell
@@ -91,13 +91,13 @@ tell_apart (k ∷ l ∷ front) j [] marks tell = absurd tell
 tell_apart (k ∷ []) j (s ∷ sealed) marks tell = let rest = tell_apart [] j sealed marks tell.1 in ((tell.0, rest.0), rest.1)
 tell_apart (k ∷ l ∷ front) j (s ∷ sealed) marks tell = let rest = tell_apart (l ∷ front) j sealed marks tell.1 in ((tell.0, rest.0), rest.1)
 
-pub last_told : (image text_image : Image) (ids : List ℕ) (sealed : List Sealed) (marks : Marks) (batches : List Shown) (end : ℕ) (tail : Tail) (torn : Bool) → 1 ≤ length ids → text_image ≡ image
+pub last_told : (image text_image : Image) (ids : List ℕ) (sealed : List Sealed) (marks : JournalMarks) (batches : List Shown) (end : ℕ) (tail : Tail) (torn : Bool) → 1 ≤ length ids → text_image ≡ image
     → AreSealedAs image (take (length ids - 1) ids) sealed → IsReadAs (journal_text text_image (get_or ids (length ids - 1) 0)) batches end tail → tail ≡ tail_of torn → AreMarksOf batches marks
     → AreTold image ids sealed marks
 last_told image text_image ids sealed marks batches end tail torn some same so_far read told are =
     let id = get_or ids (length ids - 1) 0 in
     let text = journal_text text_image id in
-    let j : Journal = record { id = id; batches = read.written } in
+    let j : WholeJournal = record { id = id; batches = read.written } in
     let last = subst (λ i. ReadsAs (journal_text i id) read.written Clean ⊎ ReadsAs (journal_text i id) read.written Torn) same
     (either_tail text read.written end torn read.whole (subst (IsTail (drop end text)) told read.behind)) in
     record {
@@ -108,6 +108,6 @@ last_told image text_image ids sealed marks batches end tail torn some same so_f
     }
 
 -- where no journal is read
-pub none_told : (image : Image) (ids : List ℕ) (sealed : List Sealed) (marks : Marks) → length ids < 1 → sealed ≡ [] → marks ≡ [] → AreTold image ids sealed marks
+pub none_told : (image : Image) (ids : List ℕ) (sealed : List Sealed) (marks : JournalMarks) → length ids < 1 → sealed ≡ [] → marks ≡ [] → AreTold image ids sealed marks
 none_told image [] sealed marks lt none unmarked = record { journals = []; named = refl; read = tt; tell = (none, subst (AreMarksOf []) (sym unmarked) no_marks) }
 none_told image (id ∷ ids) sealed marks lt none unmarked = absurd (omega (arith, lt))

@@ -2,37 +2,33 @@
 use Rattle.std.specs.Prelude.{◌≡◌, ◌⊎◌, ℕ, ◌+◌, ◌-◌, ◌<◌, ◌^◌, ◌++◌, max, All, List, [], ◌∷◌, length, map, take, codes, Option, Some, None, Ok}
 use Rattle.std.specs.List.Sorted.{IsStrictlyIncreasing}
 use Rattle.fjall_base.specs.Store.{Store}
-use Rattle.fjall_base.specs.Disk.{Entry, File, Folder, Image}
+use Rattle.fjall_base.specs.Disk.{DiskEntry, File, Folder, Image}
 use Rattle.fjall_journal.specs.Batches.{NoneAt, shown}
-use Rattle.fjall_tree.specs.Records.{Fields, IsRecords}
-use Rattle.fjall_tree.specs.Records as records
+use Rattle.fjall_manifest.specs.Records.{Fields, IsRecords}
+use Rattle.fjall_manifest.specs.Records as records
 use Rattle.fjall_meta.specs.Keyspaces.{Keyspaces, no_keyspaces}
 use Rattle.fjall_files.specs.declared.marker.Marker.TheVariants.{Whole, Unfinished}
 use Rattle.fjall_files.specs.Marker.{marker_tells}
 use Rattle.fjall_files.specs.Names.{keyspace_folder}
 use Rattle.fjall_catalog.specs.declared.catalog.Catalog.{Catalog}
 use Rattle.fjall_catalog.specs.Catalog.{HasEnd, Says, fields, first_catalog, records_in}
-use Rattle.fjall_versions.specs.Replays.{bare, least_after}
+use Rattle.fjall_contents.specs.Replays.{bare, least_after}
 use Rattle.fjall_contents.specs.Contents.{store_held}
 use Rattle.fjall_recovery.specs.declared.folder.RecoveredFolder.{RecoveredFolder}
 use Rattle.fjall_recovery.specs.Homes.{AreHomesRead, HaveHomes, HaveVersions, Homes, Versions, lasts, stored_in}
-use Rattle.fjall_recovery.specs.Journals.{Journal, HoldsJournals, AreFound, AreJournalIds, batches_in, journal_text}
+use Rattle.fjall_recovery.specs.Journals.{WholeJournal, HoldsJournals, AreFound, AreJournalIds, batches_in, journal_text}
 use Rattle.fjall_recovery.specs.Told.{AreTold}
+pub use Rattle.fjall_recovery.specs.Replayed.{past}
 use Rattle.fjall_recovery.specs.Naming.{AreFolderIds, JournalsAreNamed, KeyspacesAreNamed}
 
 -- the bytes of a file, where one stands there
-abbrev pub file_bytes : Entry → Option (List ℕ)
+abbrev pub file_bytes : DiskEntry → Option (List ℕ)
 file_bytes (File synced unsynced) = Some (synced ++ unsynced)
 file_bytes entry = None
 
 -- the bytes of the image's marker
 abbrev pub marker_bytes : Image → Option (List ℕ)
 marker_bytes image = file_bytes (image (codes "version"))
-
--- one past the number, and 0 where there is none
-abbrev pub past : Option ℕ → ℕ
-past None = 0
-past (Some n) = n + 1
 
 -- one past the greatest number that a record tells
 abbrev pub past_record : Fields → ℕ
@@ -49,7 +45,7 @@ AreMade last s = All (λ k. k.number < past_record (fields last)) s.living
 -- What a folder holds: its journals, the keyspaces that live with the last record of tree 0, the home of each of them, and the
 -- versions in its tables.
 pub record Contents : Type 0 where
-  pub journals : List Journal
+  pub journals : List WholeJournal
   pub keyspaces : Keyspaces
   pub last : Catalog
   pub homes : Homes
@@ -98,16 +94,16 @@ pub record IsUnfinished (image : Image) : Type 0 where
   pub catalog : IsBegun (records_in image)
 
 -- the store of a folder's contents: what its files hold, and what its batches make beyond that
-abbrev pub store_of : Contents → Store
-store_of c = store_held c.keyspaces (stored_in c.homes c.versions) (map shown (batches_in c.journals))
+abbrev pub store_of_contents : Contents → Store
+store_of_contents c = store_held c.keyspaces (stored_in c.homes c.versions) (map shown (batches_in c.journals))
 
 -- one past the greatest number that is found in a folder, and 0 where there is none
-abbrev pub number_of : Contents → ℕ
-number_of c = max (least_after 0 (map shown (batches_in c.journals))) (past_records (fields c.last ∷ lasts c.keyspaces.living c.homes))
+abbrev pub number_of_contents : Contents → ℕ
+number_of_contents c = max (least_after 0 (map shown (batches_in c.journals))) (past_records (fields c.last ∷ lasts c.keyspaces.living c.homes))
 
 -- The image stands for the store. A folder whose making was cut short stands for one without keyspaces.
-abbrev pub StandsFor : Image → Store → Type 0
-StandsFor image store = ((c : Contents) × IsSound image c × (store ≡ store_of c)) ⊎ (IsUnfinished image × (store ≡ bare no_keyspaces))
+abbrev pub ImageStandsFor : Image → Store → Type 0
+ImageStandsFor image store = ((c : Contents) × IsSound image c × (store ≡ store_of_contents c)) ⊎ (IsUnfinished image × (store ≡ bare no_keyspaces))
 
 -- ---- as it is read
 
@@ -131,7 +127,7 @@ pub record IsNumbered (f : RecoveredFolder) : Type 0 where
   pub sealed : map (λ journal. journal.id) f.journals.sealed ≡ take (length f.journal_ids.items - 1) f.journal_ids.items
 
 -- what was read is what the folder holds
-pub record Shows (f : RecoveredFolder) (c : Contents) : Type 0 where
+pub record ShowsContents (f : RecoveredFolder) (c : Contents) : Type 0 where
   pub ids : f.journal_ids.items ≡ map (λ j. j.id) c.journals
   pub least : f.journals.least ≡ least_after 0 (map shown (batches_in c.journals))
   pub keyspaces : f.catalog.keyspaces ≡ c.keyspaces
@@ -141,4 +137,4 @@ pub record Shows (f : RecoveredFolder) (c : Contents) : Type 0 where
 -- What was read of a folder: what it holds, or that its making was cut short.
 abbrev pub ReadsFolder : Image → Option RecoveredFolder → Type 0
 ReadsFolder image None = IsUnfinished image
-ReadsFolder image (Some f) = IsFinished image f × ((c : Contents) × IsOpenable image c × Shows f c)
+ReadsFolder image (Some f) = IsFinished image f × ((c : Contents) × IsOpenable image c × ShowsContents f c)

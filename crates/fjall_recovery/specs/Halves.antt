@@ -3,7 +3,7 @@ use Rattle.std.specs.Prelude.{◌≡◌, ℕ, Bool, not, List, codes, Ok}
 use Rattle.std.specs.FinMap.{insert}
 use Rattle.fjall_base.specs.Disk.{Name, Folder, Image}
 use Rattle.fjall_files.specs.Regions.{is_under}
-use Rattle.fjall_tree.specs.Records.{Fields}
+use Rattle.fjall_manifest.specs.Records.{Fields}
 use Rattle.fjall_files.specs.declared.marker.Marker.TheVariants.{Whole}
 use Rattle.fjall_files.specs.Marker.{marker_tells}
 use Rattle.fjall_files.specs.Names.{keyspace_folder}
@@ -11,10 +11,10 @@ use Rattle.fjall_meta.specs.Keyspaces.{Keyspaces}
 use Rattle.fjall_catalog.specs.declared.catalog.Catalog.{Catalog}
 use Rattle.fjall_catalog.specs.Catalog.{Says}
 use Rattle.fjall_recovery.specs.Folders.{AreMade, marker_bytes}
-use Rattle.fjall_home.specs.Homes.{Home}
+use Rattle.fjall_manifest.specs.Homes.{Home}
 use Rattle.fjall_table.specs.Blocks.{Entry}
 use Rattle.fjall_recovery.specs.Homes.{HaveHomes, HaveVersions, Homes, Versions}
-use Rattle.fjall_recovery.specs.Journals.{Journal, HoldsJournals}
+use Rattle.fjall_recovery.specs.Journals.{WholeJournal, HoldsJournals}
 use Rattle.fjall_recovery.specs.Naming.{JournalsAreNamed, KeyspacesAreNamed}
 
 -- the folder of all keyspaces and what is in it, at any depth
@@ -30,7 +30,7 @@ abbrev pub outside : ℕ → Name → Bool
 outside id name = not (is_under (keyspace_folder id) name)
 
 -- the root of an image that is a sound folder, with these journals
-pub record HasRoot (image : Image) (journals : List Journal) : Type 0 where
+pub record HasRoot (image : Image) (journals : List WholeJournal) : Type 0 where
   pub marker : marker_tells (marker_bytes image) ≡ Ok Whole
   pub named : JournalsAreNamed image
   pub holds : HoldsJournals image journals

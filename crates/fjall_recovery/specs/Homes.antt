@@ -8,10 +8,10 @@ use Rattle.fjall_files.specs.Names.{keyspace_folder}
 use Rattle.fjall_table.specs.Blocks.{Entry}
 use Rattle.fjall_views.specs.Jobs.{OnceEach}
 use Rattle.fjall_table.specs.Tables.{Handle}
-use Rattle.fjall_tree.specs.Records.{Fields, view}
-use Rattle.fjall_home.specs.declared.reading.LoadedHome.{LoadedHome}
-use Rattle.fjall_home.specs.Homes.{HasHome, Home}
-use Rattle.fjall_home.specs.Reading.{AreIndexed, AreRight, IsLoaded}
+use Rattle.fjall_manifest.specs.Records.{Fields, view}
+use Rattle.fjall_manifest.specs.declared.reading.LoadedHome.{LoadedHome}
+use Rattle.fjall_manifest.specs.Homes.{HasHome, Home}
+use Rattle.fjall_manifest.specs.Reading.{AreIndexed, AreRight, IsLoaded}
 use Rattle.fjall_contents.specs.Contents.{IsWithin, Stored, is_beyond, nothing_stored}
 use Rattle.fjall_meta.specs.declared.living.LivingKeyspace.{LivingKeyspace}
 use Rattle.fjall_meta.specs.Keyspaces.{keyspace_at}
@@ -103,7 +103,7 @@ stored_in homes versions id = stored_at (get homes id) (get versions id)
 -- ---- as they are read
 
 -- a keyspace's home as it was read
-pub record IsRead (image : Image) (id : ℕ) (home : LoadedHome) : Type 0 where
+pub record IsHomeRead (image : Image) (id : ℕ) (home : LoadedHome) : Type 0 where
   pub folder : image (keyspace_folder id) ≡ Folder
   pub loaded : IsLoaded image id home
   pub clears : ClearsAreWithin (view home.record)
@@ -111,5 +111,5 @@ pub record IsRead (image : Image) (id : ℕ) (home : LoadedHome) : Type 0 where
 -- all of these keyspaces, one after another
 abbrev pub AreHomesRead : Image → List LivingKeyspace → List LoadedHome → Type 0
 AreHomesRead image [] [] = Unit {0}
-AreHomesRead image (k ∷ living) (home ∷ homes) = IsRead image k.id home × AreHomesRead image living homes
+AreHomesRead image (k ∷ living) (home ∷ homes) = IsHomeRead image k.id home × AreHomesRead image living homes
 AreHomesRead image living homes = ⊥

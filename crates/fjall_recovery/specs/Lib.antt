@@ -1,3 +1,7 @@
+pub mod Beside
+pub mod Parted
+pub mod Replayed
+pub mod Steps
 pub mod Naming
 pub mod Journals
 pub mod Told
@@ -9,3 +13,5 @@ pub mod Halves
 pub mod Places
 pub mod Held
 pub mod Amid
+pub mod Known
+pub mod Opening

@@ -9,8 +9,8 @@ use Rattle.fjall_base.specs.declared.error.StorageError.TheVariants.{RecordDamag
 use Rattle.fjall_journal.specs.declared.batch.Tail.{Tail}
 use Rattle.fjall_journal.specs.declared.batch.Tail.TheVariants.{Clean, Torn, Damaged}
 use Rattle.fjall_journal.specs.Batches.{Written, shown}
-use Rattle.fjall_versions.specs.Replays.{first_fault, least_after, NamesFault}
-use Rattle.fjall_tree.specs.Records.{Fields, HasContradiction}
+use Rattle.fjall_contents.specs.Replays.{first_fault, least_after, NamesFault}
+use Rattle.fjall_manifest.specs.Records.{Fields, HasContradiction}
 use Rattle.fjall_meta.specs.Keyspaces.{Keyspaces}
 use Rattle.fjall_meta.specs.declared.living.LivingKeyspace.{LivingKeyspace}
 use Rattle.fjall_base.specs.declared.error.JournalRecoveryError.TheVariants.{InvalidFileName}
@@ -20,13 +20,13 @@ use Rattle.fjall_files.specs.Marker.{marker_tells}
 use Rattle.fjall_files.specs.Names.{keyspace_folder}
 use Rattle.fjall_catalog.specs.declared.catalog.Catalog.{Catalog}
 use Rattle.fjall_catalog.specs.Catalog.{Says, records_in}
-use Rattle.fjall_catalog.specs.Refusals.{IsDamage}
+use Rattle.fjall_catalog.specs.Refusals.{IsCatalogDamage}
 use Rattle.fjall_recovery.specs.Folders.{AreEmpty, AreMade, IsBegun, marker_bytes}
-use Rattle.fjall_home.specs.Homes.{Home}
-use Rattle.fjall_home.specs.Reading as home
+use Rattle.fjall_manifest.specs.Homes.{Home}
+use Rattle.fjall_manifest.specs.Reading as home
 use Rattle.fjall_table.specs.Tables.{Handle}
 use Rattle.fjall_recovery.specs.Homes.{ClearsAreWithin, HasOpenableHome}
-use Rattle.fjall_recovery.specs.Journals.{Journal, ReadsAs, AreJournalIds, HoldsJournals, journal_text}
+use Rattle.fjall_recovery.specs.Journals.{WholeJournal, ReadsAs, AreJournalIds, HoldsJournals, journal_text}
 use Rattle.fjall_recovery.specs.Naming.{JournalsAreNamed, KeyspacesAreNamed}
 
 -- `Io` is answered only where the count of faults rose
@@ -71,7 +71,7 @@ pub record HasClearBeyond (image : Image) (id : ℕ) : Type 0 where
   pub records : List Fields
   pub h : Home
   pub indexes : List (List Handle)
-  pub openable : home.IsOpenable image id records h indexes
+  pub openable : home.IsHomeOpenable image id records h indexes
   pub beyond : ClearsAreWithin h.last → ⊥
 
 -- Why a keyspace that lives is refused: it has no folder; its records or a table that the last of them names are damaged; or
@@ -94,7 +94,7 @@ SaysNothing image = (records : List Fields) (last : Catalog) (s : Keyspaces) →
 -- why the catalog or a keyspace that it names is refused
 abbrev pub CatalogRefuses : Image → Error → Type 0
 CatalogRefuses image (Storage cause) =
-    (IsDamage image cause × SaysNothing image)
+    (IsCatalogDamage image cause × SaysNothing image)
     ⊎ ((records : List Fields) × (last : Catalog) × (s : Keyspaces) × Says image records last s
     × (((cause ≡ TableDamaged) × (AreMade last s → ⊥)) ⊎ (AreMade last s × HomesRefuse image s.living (Storage cause))))
 CatalogRefuses image error =
@@ -114,7 +114,7 @@ KeyspacesRefuse image error = ((error ≡ Unrecoverable) × (KeyspacesAreNamed i
 abbrev pub FinishedRefuses : Image → Error → Type 0
 FinishedRefuses image error =
     ((ids : List ℕ) × AreJournalIds image ids × JournalsRefuse image 0 ids error)
-    ⊎ (((journals : List Journal) × HoldsJournals image journals) × KeyspacesRefuse image error)
+    ⊎ (((journals : List WholeJournal) × HoldsJournals image journals) × KeyspacesRefuse image error)
 
 -- Why what there is of tree 0 refuses to be gone on with: a whole record contradicts itself; or none does, and others
 -- than the first one stand there.

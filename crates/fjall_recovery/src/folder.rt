@@ -7,11 +7,11 @@ ghost use Rattle.fjall_base.specs.Store.{Store};
 ghost use Rattle.fjall_files.specs.Calls.{seen, AllServed};
 ghost use Rattle.fjall_files.specs.Marker.{marker_tells};
 ghost use Rattle.fjall_files.specs.Names.{keyspace_folder};
-ghost use Rattle.fjall_tree.specs.Records.{Fields, view};
+ghost use Rattle.fjall_manifest.specs.Records.{Fields, view};
 ghost use Rattle.fjall_meta.specs.Keyspaces.{Keyspaces};
 ghost use Rattle.fjall_catalog.specs.declared.catalog.Catalog.{Catalog};
 ghost use Rattle.fjall_catalog.specs.Catalog.{HasEnd, Says, fields};
-ghost use Rattle.fjall_recovery.specs.Folders.{AreMade, Contents, IsFinished, IsNumbered, IsOpenable, ReadsFolder, Shows, StandsFor, marker_bytes, number_of, past, past_record, past_records};
+ghost use Rattle.fjall_recovery.specs.Folders.{AreMade, Contents, ImageStandsFor, IsFinished, IsNumbered, IsOpenable, ReadsFolder, ShowsContents, marker_bytes, number_of_contents, past, past_record, past_records};
 ghost use Rattle.fjall_recovery.specs.Held.{IsOpenFolder};
 ghost use Rattle.fjall_recovery.specs.Journals.{AreJournalIds};
 ghost use Rattle.fjall_recovery.specs.Naming.{AreFolderIds};
@@ -24,7 +24,7 @@ use crate::unfinished::check_unfinished;
 use fjall_base::{Disk, Error, Result, StorageError};
 use fjall_catalog::{Catalog, LoadedCatalog, read_catalog};
 use fjall_files::{MARKER_FILE, Marker, read_marker};
-use fjall_home::LoadedHome;
+use fjall_manifest::LoadedHome;
 use fjall_meta::LivingKeyspace;
 use std::alloc::Global;
 
@@ -67,8 +67,8 @@ impl RecoveredFolder {
     /// The least number that a next change may have: one past the greatest one that stands in the folder, and 0 where
     /// none does. In a sound folder it is 2^63 at most.
     pub fn number(&self) -> u64
-        ensures number { (c : Contents) → Shows self.now c → number_of c < 2 ^ 64 → result ≡ number_of c }
-        ensures sound { (image : Image) (c : Contents) → IsOpenable image c → Shows self.now c → (result ≡ number_of c) × (result ≤ 2 ^ 63) }
+        ensures number { (c : Contents) → ShowsContents self.now c → number_of_contents c < 2 ^ 64 → result ≡ number_of_contents c }
+        ensures sound { (image : Image) (c : Contents) → IsOpenable image c → ShowsContents self.now c → (result ≡ number_of_contents c) × (result ≤ 2 ^ 63) }
     {
         let last = self.catalog.catalog;
         let known = greatest(&self.homes).max(last.persisted).max(last.highest);
@@ -180,7 +180,7 @@ pub fn read_folder<D: Disk>(alloc: Global, disk: &mut D) -> Result<Option<Recove
     ensures cause { IsTrue D.honest → IfErr result (IsDue (FolderRefuses (seen (D.meaning disk.old)))) }
     // A folder in which nothing is wrong is read, unless memory runs out or the disk fails: so is each that stands for a store.
     ensures openable { IsTrue D.honest → (folder : Option Contents) → IsOpenFolder (seen (D.meaning disk.old)) folder → IfErr result (IsDue (λ error. ⊥)) }
-    ensures sound { IsTrue D.honest → (store : Store) → StandsFor (seen (D.meaning disk.old)) store → IfErr result (IsDue (λ error. ⊥)) }
+    ensures sound { IsTrue D.honest → (store : Store) → ImageStandsFor (seen (D.meaning disk.old)) store → IfErr result (IsDue (λ error. ⊥)) }
     ensures listed { IfErr result IsOpeningRefusal }
 {
     let marker = read_version(alloc, disk)?;

@@ -2,17 +2,16 @@
 
 ghost use Rattle.std.specs.Prelude.{◌≡◌, ◌≤◌, ◌↔◌, false, [], All, IsTrue, IfErr, IfOk};
 ghost use Rattle.fjall_base.specs.Disk.{Took};
-ghost use Rattle.fjall_tree.specs.Records.{view};
+ghost use Rattle.fjall_manifest.specs.Records.{view};
 ghost use Rattle.fjall_contents.specs.Contents.{is_beyond};
-ghost use Rattle.fjall_recovery.specs.Homes.{AreHomesRead, ClearsAreWithin, IsRead};
+ghost use Rattle.fjall_recovery.specs.Homes.{AreHomesRead, ClearsAreWithin, IsHomeRead};
 ghost use Rattle.fjall_recovery.specs.Naming.{AreFolderIds};
 ghost use Rattle.fjall_recovery.specs.Refusals.{HasRisen, HomeRefuses, HomesRefuse, IsDue, IsOpeningRefusal};
 ghost use Rattle.fjall_files.specs.Calls.{seen, AllServed};
 
 use fjall_base::{Disk, Error, Result, StorageError};
-use fjall_home::{LoadedHome, read_home};
+use fjall_manifest::{LoadedHome, Record, read_home};
 use fjall_meta::LivingKeyspace;
-use fjall_tree::Record;
 use std::alloc::Global;
 
 /// Whether a number is beyond the persisted one; where there is none, each is.
@@ -41,7 +40,7 @@ fn read_keyspace<D: Disk>(
     folders: &[u64],
     id: u64,
 ) -> Result<LoadedHome>
-    ensures read { IsTrue D.honest → AreFolderIds (seen (D.meaning disk.old)) folders.now → IfOk result (IsRead (seen (D.meaning disk.old)) id) }
+    ensures read { IsTrue D.honest → AreFolderIds (seen (D.meaning disk.old)) folders.now → IfOk result (IsHomeRead (seen (D.meaning disk.old)) id) }
     ensures same { IsTrue D.honest → Took (D.meaning disk.old) (D.meaning disk.new) [] }
     ensures served { IsTrue D.honest → AllServed (D.meaning disk.old) (D.meaning disk.new) }
     ensures later { (D.meaning disk.old).faults ≤ (D.meaning disk.new).faults }

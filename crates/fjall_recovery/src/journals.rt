@@ -5,9 +5,9 @@ ghost use Rattle.fjall_base.specs.Disk.{Took};
 ghost use Rattle.fjall_base.specs.declared.error.Error.{Error};
 ghost use Rattle.fjall_journal.specs.Batches.{Shown};
 ghost use Rattle.fjall_journal.specs.declared.batch.Tail.TheVariants.{Clean};
-ghost use Rattle.fjall_versions.specs.Replays.{first_fault, least_after, NamesFault};
+ghost use Rattle.fjall_contents.specs.Replays.{first_fault, least_after, NamesFault};
 ghost use Rattle.fjall_recovery.specs.Journals.{AreFound, AreSealed, journal_text, tail_of};
-ghost use Rattle.fjall_recovery.specs.Looks.{IsChecked, IsLook};
+ghost use Rattle.fjall_recovery.specs.Looks.{AreChecked, IsLook};
 ghost use Rattle.fjall_recovery.specs.Told.{AreSealedAs, AreTold};
 ghost use Rattle.fjall_recovery.specs.Refusals.{HasRisen, IsDue, IsOpeningRefusal, JournalsRefuse, TailRefuses};
 ghost use Rattle.fjall_files.specs.Calls.{seen, AllServed};
@@ -94,14 +94,14 @@ impl RecoveredJournals {
 
     /// Goes on behind a journal that was looked through, where none of its batches has a fault.
     fn take(&mut self, look: Look) -> Result<(Tail, Watermarks)>
-        ensures sound { (least : ℕ) (batches : List Shown) → IsChecked least batches look.checked
+        ensures sound { (least : ℕ) (batches : List Shown) → AreChecked least batches look.checked
             → OnOk result ((first_fault least batches ≡ None) × (self.new.least ≡ least_after least batches)) }
         ensures end { OnOk result (self.new.end ≡ look.end) }
         ensures torn { OnOk result (self.new.torn ≡ self.old.torn) }
         ensures sealed { OnOk result (self.new.sealed ≡ self.old.sealed) }
         ensures tail { IfOk result (λ taken. taken.0 ≡ look.tail) }
         ensures marks { IfOk result (λ taken. taken.1 ≡ look.watermarks) }
-        ensures cause { (least : ℕ) (batches : List Shown) → IsChecked least batches look.checked → IfErr result (NamesFault (first_fault least batches)) }
+        ensures cause { (least : ℕ) (batches : List Shown) → AreChecked least batches look.checked → IfErr result (NamesFault (first_fault least batches)) }
     {
         let Look {
             checked,

@@ -1,14 +1,21 @@
-//! What a database folder holds: it is read whole before anything is changed, and the first fault is the answer; and how
-//! everything of it lies on a disk, with what a crash leaves of that.
+//! What a database folder holds: it is read whole before anything is changed, and the first fault is the answer. How everything
+//! of it lies on a disk, with what a crash leaves of that; and the trees that its tables and the batches of its journals make.
 #![tactic(auto)]
 
+mod counting;
 mod file;
 mod folder;
 mod homes;
 mod journals;
 mod laws;
 mod listing;
+mod loading_laws;
 mod look;
+mod records;
+mod replay_laws;
+mod replayed_journals;
+mod replaying;
+mod tables;
 mod unfinished;
 
 pub use file::read_text;
@@ -22,3 +29,10 @@ pub use laws::{
     roots_alike, sound_folders_are_read, the_catalog_changes, trees_alike,
 };
 pub use listing::list_keyspaces;
+pub use loading_laws::opened_trees_show_the_store;
+pub use records::LastRecords;
+pub use replay_laws::{
+    a_change_is_one_batch_more, replayed_trees_beside_tables_show_the_store, what_trees_show_stays,
+};
+pub use replayed_journals::{replay_journal, seal_all};
+pub use tables::{OpenedHomes, open_homes};

@@ -2,12 +2,12 @@
 
 ghost use Rattle.std.specs.Prelude.{IfOk, IsOkUnless, ℕ, List, [], ◌∷◌, ◌++◌};
 ghost use Rattle.fjall_journal.specs.Batches.{Shown, view};
-ghost use Rattle.fjall_recovery.specs.Looks.{IsChecked, IsLook};
+ghost use Rattle.fjall_recovery.specs.Looks.{AreChecked, IsLook};
 
 use fjall_base::{Error, Result};
+use fjall_contents::check_batches;
 use fjall_journal::{Batch, JournalBatchReader, Tail, next_batch};
 use fjall_manager::Watermarks;
-use fjall_versions::check_batches;
 use std::alloc::Global;
 use std::slice;
 
@@ -26,7 +26,7 @@ pub(crate) struct Look {
 
 /// What is found once one batch more was looked at: the first fault stays.
 fn checked_with(checked: Result<u64>, batch: &Batch) -> Result<u64>
-    ensures { (least : ℕ) (front : List Shown) → IsChecked least front checked → IsChecked least (front ++ view batch.now ∷ []) result }
+    ensures { (least : ℕ) (front : List Shown) → AreChecked least front checked → AreChecked least (front ++ view batch.now ∷ []) result }
 {
     check_batches(slice::from_ref(batch), checked?)
 }

@@ -15,7 +15,7 @@ use crate::listing::list_keyspaces;
 use fjall_base::{Disk, Error, Result};
 use fjall_catalog::first_record;
 use fjall_files::current_name;
-use fjall_tree::read_current;
+use fjall_manifest::read_current;
 use std::alloc::Global;
 
 /// Refuses journals of which one holds a whole batch. The journals that there are have these ids.

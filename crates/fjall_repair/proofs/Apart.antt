@@ -5,7 +5,7 @@ use Rattle.std.proofs.lemmas.Fmt.{decimal_injective}
 use Rattle.fjall_base.specs.Disk.{Name, folder_of}
 use Rattle.fjall_files.specs.Regions.{is_under}
 use Rattle.fjall_files.specs.Names.{keyspace_folder, current_name, table_name}
-use Rattle.fjall_home.proofs.Naming.{no_current, tables_apart}
+use Rattle.fjall_manifest.proofs.Naming.{no_current, tables_apart}
 pub use Rattle.fjall_files.proofs.Fitting.{folder_of-current as of_current, folder_of-folder as in_keyspaces, folder_of-table as in_folder}
 
 pub folders_apart : (id other : ℕ) → id < 2 ^ 64 → other < 2 ^ 64 → keyspace_folder id ≡ keyspace_folder other → id ≡ other

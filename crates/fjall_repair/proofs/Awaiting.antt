@@ -9,7 +9,7 @@ use Rattle.std.specs.FinMap.{get, get-empty}
 use Rattle.std.specs.Ordering.{nat_cmp}
 use Rattle.std.specs.List.Sorted.{IsStrictlyIncreasing}
 use Rattle.fjall_base.specs.declared.error.FormatVersion.TheVariants.{V3}
-use Rattle.fjall_base.specs.Disk.{Name, Entry, Missing, File, Folder, Place, State, SyncFolder, Meaning, Took, IsFile, IsNoFile, IsNoFolder, folder_of, standing, state_in}
+use Rattle.fjall_base.specs.Disk.{Name, DiskEntry, Missing, File, Folder, Place, DiskState, SyncFolder, Meaning, Took, IsFile, IsNoFile, IsNoFolder, folder_of, standing, state_in}
 use Rattle.fjall_base.proofs.States.{differs, settle-in, settle-out}
 use Rattle.fjall_files.specs.Regions.{IsSafe, Within, is_under}
 use Rattle.fjall_files.proofs.Changes.{settle-now, within_state}
@@ -18,10 +18,10 @@ use Rattle.fjall_files.specs.Marker.{header}
 use Rattle.fjall_files.specs.Names.{IsMisnamed, IsNameOf, journal_name, keyspace_folder, current_name}
 use Rattle.fjall_meta.specs.Keyspaces.{AreKeyspaces, keyspace_at, no_keyspaces}
 use Rattle.fjall_files.proofs.Fitting.{folder_of-folder, folder_of-journal as in_root}
-use Rattle.fjall_home.specs.Homes.{Home, only}
+use Rattle.fjall_manifest.specs.Homes.{Home, only}
 use Rattle.fjall_catalog.specs.Catalog.{fields, first_catalog}
-use Rattle.fjall_versions.specs.Replays.{first_fault}
-use Rattle.fjall_recovery.specs.Journals.{Journal, batches_in}
+use Rattle.fjall_contents.specs.Replays.{first_fault}
+use Rattle.fjall_recovery.specs.Journals.{WholeJournal, batches_in}
 use Rattle.fjall_recovery.specs.Places.{HasSafeHomeAt, IsNeverFile, IsNeverFolder, LiesInRoot, RestsInTree, journal_ids, journals_with, texts_of}
 use Rattle.fjall_recovery.proofs.Named.{journal_within}
 use Rattle.fjall_recovery.proofs.Storing.{no_versions}
@@ -43,16 +43,16 @@ batches_none [] active = refl
 batches_none (id ∷ sealed) active = batches_none sealed active
 
 -- each of these ids' journals is empty and synced
-abbrev EachRests : State → List ℕ → Type 0
+abbrev EachRests : DiskState → List ℕ → Type 0
 EachRests state ids = All (λ id. state (journal_name id) ≡ only (File [] [])) ids
 
-sealed_rest : (state : State) (sealed : List ℕ) (active : ℕ) → EachRests state (sealed ++ active ∷ []) → AllByRecursion (λ (j : Journal). IsSafe state (journal_name j.id) (texts_of j.batches)) (empty_journals sealed active).sealed
+sealed_rest : (state : DiskState) (sealed : List ℕ) (active : ℕ) → EachRests state (sealed ++ active ∷ []) → AllByRecursion (λ (j : WholeJournal). IsSafe state (journal_name j.id) (texts_of j.batches)) (empty_journals sealed active).sealed
 sealed_rest state [] active each = tt
 sealed_rest state (id ∷ sealed) active each =
     let P : ℕ → Type 0 = λ n. state (journal_name n) ≡ only (File [] []) in
     (All-head P id (sealed ++ active ∷ []) each, sealed_rest state sealed active (All-tail P id (sealed ++ active ∷ []) each))
 
-active_rests : (state : State) (sealed : List ℕ) (active : ℕ) → EachRests state (sealed ++ active ∷ []) → state (journal_name active) ≡ only (File [] [])
+active_rests : (state : DiskState) (sealed : List ℕ) (active : ℕ) → EachRests state (sealed ++ active ∷ []) → state (journal_name active) ≡ only (File [] [])
 active_rests state [] active each = All-head (λ n. state (journal_name n) ≡ only (File [] [])) active [] each
 active_rests state (id ∷ sealed) active each = active_rests state sealed active (All-tail (λ n. state (journal_name n) ≡ only (File [] [])) id (sealed ++ active ∷ []) each)
 
@@ -63,7 +63,7 @@ module _ {X : Type 0} (text : X → Name) where
   tail_is : (a b : Name) (xs ys : List Name) → a ∷ xs ≡ b ∷ ys → xs ≡ ys
   tail_is a b xs ys e = cc
 
-  emptied_ids : (state : State) (xs : List X) (ids : List ℕ) → map text xs ≡ map journal_name ids → AreEmptied text state xs → All (λ id. (state (journal_name id)).now ≡ File [] []) ids
+  emptied_ids : (state : DiskState) (xs : List X) (ids : List ℕ) → map text xs ≡ map journal_name ids → AreEmptied text state xs → All (λ id. (state (journal_name id)).now ≡ File [] []) ids
   emptied_ids state xs [] is each = All-nil (λ id. (state (journal_name id)).now ≡ File [] [])
   emptied_ids state [] (id ∷ ids) is each = let no : [] ≡ journal_name id ∷ map journal_name ids = is in cc
   emptied_ids state (x ∷ xs) (id ∷ ids) is each =
@@ -80,17 +80,17 @@ module _ {X : Type 0} (text : X → Name) where
       All-cons (λ y. q ≢ text y) x xs (λ e. All-head (λ n. q ≢ journal_name n) id ids each (e ∙ named))
       (others_all q xs ids (tail_is (text x) (journal_name id) (map text xs) (map journal_name ids) is) (All-tail (λ n. q ≢ journal_name n) id ids each))
 
-no_file : (entry : Entry) → (IsFile entry → ⊥) → IsNoFile entry
+no_file : (entry : DiskEntry) → (IsFile entry → ⊥) → IsNoFile entry
 no_file Missing none = tt
 no_file (File synced unsynced) none = none tt
 no_file Folder none = tt
 
-no_folder : (entry : Entry) → (entry ≡ Folder → ⊥) → IsNoFolder entry
+no_folder : (entry : DiskEntry) → (entry ≡ Folder → ⊥) → IsNoFolder entry
 no_folder Missing none = tt
 no_folder (File synced unsynced) none = tt
 no_folder Folder none = none refl
 
-pub marked_other : (state : State) (name : Name) → name ≢ codes "version" → marked state name ≡ state name
+pub marked_other : (state : DiskState) (name : Name) → name ≢ codes "version" → marked state name ≡ state name
 marked_other state name not = let test = differs name (codes "version") not in rw test refl
 
 lawful : AreKeyspaces no_keyspaces
@@ -110,7 +110,7 @@ outside true is = absurd (true≢false (sym is))
 outside false is = refl
 
 -- where no keyspace lives there is no home
-no_home : (state : State) (id : ℕ) → HasSafeHomeAt state id (keyspace_at id no_keyspaces.living) (get first_tree.homes id)
+no_home : (state : DiskState) (id : ℕ) → HasSafeHomeAt state id (keyspace_at id no_keyspaces.living) (get first_tree.homes id)
 no_home state id = subst (λ (h : Option Home). HasSafeHomeAt state id None h) (sym (get-empty nat_cmp id)) tt
 
 -- ---- what is made, one after another
@@ -119,13 +119,13 @@ module _ {X : Type 0} (text : X → Name) (old one two new : Meaning) (xs : List
     (making : IsMaking false (λ name. (state_in new name).now)) (tree : HasFirstTree (state_in one)) (within : Within (codes "keyspaces") old one)
     (elsewhere : (q : Name) → All (λ x. q ≢ text x) xs → state_in two q ≡ state_in one q) (emptied : AreEmptied text (state_in two) xs) (settled : Took two new (SyncFolder [] ∷ [])) where
   root_place : (q : Name) → folder_of q ≡ [] → state_in new q ≡ only (state_in two q).now
-  root_place q root = ap (λ (s : State). s q) settled.state ∙ settle-in (state_in two) [] q root
+  root_place q root = ap (λ (s : DiskState). s q) settled.state ∙ settle-in (state_in two) [] q root
 
   inner_place : (q : Name) → (folder_of q ≡ [] → ⊥) → state_in new q ≡ state_in two q
-  inner_place q inner = ap (λ (s : State). s q) settled.state ∙ settle-out (state_in two) [] q (differs (folder_of q) [] inner)
+  inner_place q inner = ap (λ (s : DiskState). s q) settled.state ∙ settle-out (state_in two) [] q (differs (folder_of q) [] inner)
 
   still : (q : Name) → (state_in new q).now ≡ (state_in two q).now
-  still q = ap (λ (s : State). (s q).now) settled.state ∙ settle-now (state_in two) [] q
+  still q = ap (λ (s : DiskState). (s q).now) settled.state ∙ settle-now (state_in two) [] q
 
   no_journal : (q : Name) → ((id : ℕ) → q ≢ journal_name id) → state_in two q ≡ state_in one q
   no_journal q other = elsewhere q (others_all text q xs (sealed ++ active ∷ []) names (λ k d lt is. other (get_or (sealed ++ active ∷ []) k d) is))
@@ -134,7 +134,7 @@ module _ {X : Type 0} (text : X → Name) (old one two new : Meaning) (xs : List
   each_rests k d lt =
       let id = get_or (sealed ++ active ∷ []) k d in
       marked_other (state_in new) (journal_name id) (λ e. marker_no_journal id (sym e))
-      ∙ root_place (journal_name id) (in_root id (to_be.fit k d lt)) ∙ ap (λ (e : Entry). only e) (emptied_ids text (state_in two) xs (sealed ++ active ∷ []) names emptied k d lt)
+      ∙ root_place (journal_name id) (in_root id (to_be.fit k d lt)) ∙ ap (λ (e : DiskEntry). only e) (emptied_ids text (state_in two) xs (sealed ++ active ∷ []) names emptied k d lt)
 
   -- no other journal is there
   no_other : (id : ℕ) → id < 2 ^ 64 → (Contains (sealed ++ active ∷ []) id → ⊥) → IsFile (state_in new (journal_name id)).now → ⊥
@@ -178,7 +178,7 @@ module _ {X : Type 0} (text : X → Name) (old one two new : Meaning) (xs : List
   outer : marked (state_in new) (codes "keyspaces") ≡ only Folder
   outer =
       marked_other (state_in new) (codes "keyspaces") (λ e. (let no : codes "keyspaces" ≡ codes "version" = e in cc)) ∙ root_place (codes "keyspaces") refl
-      ∙ ap (λ (e : Entry). only e) (ap (λ (p : Place). p.now) (no_journal (codes "keyspaces") keyspaces_no_journal) ∙ tree.keyspaces)
+      ∙ ap (λ (e : DiskEntry). only e) (ap (λ (p : Place). p.now) (no_journal (codes "keyspaces") keyspaces_no_journal) ∙ tree.keyspaces)
 
   in_keyspaces : (name : Name) → folder_of name ≡ codes "keyspaces" → folder_of name ≡ [] → ⊥
   in_keyspaces name at root = let no : codes "keyspaces" ≡ [] = sym at ∙ root in cc
@@ -189,7 +189,7 @@ module _ {X : Type 0} (text : X → Name) (old one two new : Meaning) (xs : List
       let place = inner name deep (λ id small e. deep (ap (λ (n : Name). folder_of n) e ∙ in_root id small)) in
       let now : (state_in one name).now ≡ (state_in new name).now = ap (λ (p : Place). p.now) (sym place ∙ marked_other (state_in new) name (λ e. deep (ap (λ (n : Name). folder_of n) e))) in
       subst IsNeverFolder (sym place)
-      (no_folder (state_in one name).now (λ is. (making name).folder at (sym now ∙ is) stray), subst (λ (l : List Entry). AllByRecursion IsNoFolder l) (sym (tree.settled name at)) tt)
+      (no_folder (state_in one name).now (λ is. (making name).folder at (sym now ∙ is) stray), subst (λ (l : List DiskEntry). AllByRecursion IsNoFolder l) (sym (tree.settled name at)) tt)
 
   rests : RestsInTree (marked (state_in new)) (fields first_catalog ∷ []) first_tree
   rests = record {
@@ -220,6 +220,6 @@ module _ {X : Type 0} (text : X → Name) (old one two new : Meaning) (xs : List
 pub marker_stays : {X : Type 0} (text : X → Name) (old one two new : Meaning) (xs : List X) (ids : List ℕ) → map text xs ≡ map journal_name ids → Within (codes "keyspaces") old one
     → ((q : Name) → All (λ x. q ≢ text x) xs → state_in two q ≡ state_in one q) → Took two new (SyncFolder [] ∷ []) → (state_in new (codes "version")).now ≡ (state_in old (codes "version")).now
 marker_stays text old one two new xs ids names within elsewhere settled =
-    ap (λ (s : State). (s (codes "version")).now) settled.state ∙ settle-now (state_in two) [] (codes "version")
+    ap (λ (s : DiskState). (s (codes "version")).now) settled.state ∙ settle-now (state_in two) [] (codes "version")
     ∙ ap (λ (p : Place). p.now) (elsewhere (codes "version") (others_all text (codes "version") xs ids names (λ k d lt. marker_no_journal (get_or ids k d)))
     ∙ within_state (codes "keyspaces") (λ e. (let no : codes "keyspaces" ≡ [] = e in cc)) old one within (codes "version") refl)

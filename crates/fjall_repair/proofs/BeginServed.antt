@@ -3,13 +3,13 @@ use Rattle.std.proofs.Common.{◌≡◌, ◌≢◌, inl, inr, ℕ, ◌<◌, ◌^
 use Rattle.std.specs.Prelude.{OnOk, OnErr}
 use Rattle.fjall_base.specs.declared.error.Error.{Error}
 use Rattle.fjall_base.specs.declared.error.FormatVersion.TheVariants.{V3}
-use Rattle.fjall_base.specs.Disk.{Name, Entry, Missing, File, Folder, Place, State, Meaning, SyncFolder, Took, IsFile, IsLong, IsNoFile, IsNoFolder, CanCreate, CanMakeFolder, making, state_in}
+use Rattle.fjall_base.specs.Disk.{Name, DiskEntry, Missing, File, Folder, Place, DiskState, Meaning, SyncFolder, Took, IsFile, IsLong, IsNoFile, IsNoFolder, CanCreate, CanMakeFolder, making, state_in}
 use Rattle.fjall_base.proofs.States.{differs}
 use Rattle.fjall_files.specs.Texts.{text_in}
 use Rattle.fjall_files.proofs.Changes.{settle-now}
 use Rattle.fjall_files.proofs.Fitting.{fits_current, fits_folder, fits_journal}
 use Rattle.fjall_files.proofs.Serving.{can_make_journal}
-use Rattle.fjall_tree.proofs.Currents.{records_apart}
+use Rattle.fjall_manifest.proofs.Currents.{records_apart}
 use Rattle.fjall_files.specs.Marker.{header}
 use Rattle.fjall_files.specs.Names.{AllKeyspaces, Current, Journal, Keyspace, Version, journal_name, keyspace_folder, current_name}
 use Rattle.fjall_files.specs.Tidy.{FitsAt, IsTidy, StaysTidy}
@@ -18,53 +18,53 @@ use Rattle.fjall_files.proofs.OfKinds.{kind_now}
 use Rattle.fjall_files.proofs.Tidying.{stays_making, stays_none as tidy_none}
 use Rattle.fjall_catalog.specs.Catalog.{fields, first_catalog}
 use Rattle.fjall_catalog.proofs.Naming.{current_zero, folder_zero}
-use Rattle.fjall_repair.specs.Making.{KeepsHomes, StaysAt}
+use Rattle.fjall_repair.specs.Making.{KeepsHomeRecords, StaysAt}
 use Rattle.fjall_repair.specs.Plans.{first_text}
 use Rattle.fjall_repair.proofs.Emptying.{journal_at}
 use Rattle.fjall_repair.proofs.Moments.{elsewhere, stays_made, stays_none}
 
 -- ---- what is there
 
-file_of_text : (e : Entry) → text_in e ≢ [] → IsFile e
+file_of_text : (e : DiskEntry) → text_in e ≢ [] → IsFile e
 file_of_text Missing some = absurd (some refl)
 file_of_text Folder some = absurd (some refl)
 file_of_text (File synced unsynced) some = tt
 
 -- a file that has bytes is one
-pub whole_file : (e : Entry) (bytes : List ℕ) → bytes ≢ [] → text_in e ≡ bytes → IsFile e
+pub whole_file : (e : DiskEntry) (bytes : List ℕ) → bytes ≢ [] → text_in e ≡ bytes → IsFile e
 whole_file e bytes some is = file_of_text e (λ none. some (sym is ∙ none))
 
 -- any file can be emptied
-pub file_long : (e : Entry) → IsFile e → IsLong 0 e
+pub file_long : (e : DiskEntry) → IsFile e → IsLong 0 e
 file_long Missing file = absurd file
 file_long Folder file = absurd file
 file_long (File synced unsynced) file = omega arith
 
 -- other bytes stand in a file
-pub other_long : (e : Entry) → text_in e ≢ [] → IsLong 0 e
+pub other_long : (e : DiskEntry) → text_in e ≢ [] → IsLong 0 e
 other_long e some = file_long e (file_of_text e some)
 
 -- an empty file is one
-pub empty_file_is : (e : Entry) (bytes : List ℕ) → e ≡ File bytes [] → IsFile e
+pub empty_file_is : (e : DiskEntry) (bytes : List ℕ) → e ≡ File bytes [] → IsFile e
 empty_file_is e bytes is = subst IsFile (sym is) tt
 
 -- a folder stands while another one's names are synced
 pub outer_settled : (old new : Meaning) (folder : Name) → Took old new (SyncFolder folder ∷ []) → (state_in old (codes "keyspaces")).now ≡ Folder → (state_in new (codes "keyspaces")).now ≡ Folder
-outer_settled old new folder took is = ap (λ (s : State). (s (codes "keyspaces")).now) took.state ∙ settle-now (state_in old) folder (codes "keyspaces") ∙ is
+outer_settled old new folder took is = ap (λ (s : DiskState). (s (codes "keyspaces")).now) took.state ∙ settle-now (state_in old) folder (codes "keyspaces") ∙ is
 
 -- ---- what can be made, and fits
 
-pub can_make_keyspaces : (state : State) → IsTidy state → CanMakeFolder state (codes "keyspaces")
+pub can_make_keyspaces : (state : DiskState) → IsTidy state → CanMakeFolder state (codes "keyspaces")
 can_make_keyspaces state tidy = record { named = λ is. (let no : ⊥ = cc in no); housed = inl refl; kind = kind_now state tidy AllKeyspaces tt }
 
-pub can_make_tree : (state : State) → IsTidy state → (state (codes "keyspaces")).now ≡ Folder → CanMakeFolder state (codes "keyspaces/0")
+pub can_make_tree : (state : DiskState) → IsTidy state → (state (codes "keyspaces")).now ≡ Folder → CanMakeFolder state (codes "keyspaces/0")
 can_make_tree state tidy folder = record {
   named = λ is. (let no : ⊥ = cc in no);
   housed = inr folder;
   kind = subst (λ (n : Name). IsNoFile (state n).now) folder_zero (kind_now state tidy (Keyspace 0) (omega arith));
 }
 
-pub can_make_records : (state : State) → IsTidy state → (state (keyspace_folder 0)).now ≡ Folder → CanCreate state (codes "keyspaces/0/current")
+pub can_make_records : (state : DiskState) → IsTidy state → (state (keyspace_folder 0)).now ≡ Folder → CanCreate state (codes "keyspaces/0/current")
 can_make_records state tidy folder = record {
   named = λ is. (let no : ⊥ = cc in no);
   housed = inr (subst (λ (n : Name). (state n).now ≡ Folder) folder_zero folder);
@@ -78,7 +78,7 @@ pub records_fit : FitsAt (codes "keyspaces/0/current") (File [] [])
 records_fit = subst (λ (n : Name). FitsAt n (File [] [])) current_zero (fits_current 0 (omega arith) [] [])
 
 -- a folder that fits is made, or the call fails
-pub making_folder : (name : Name) (there : Entry) (old new : Meaning) (result : Result Unit Error) → FitsAt name Folder → OnOk result (Took old new (making name Folder there)) → OnErr result (Took old new []) → StaysTidy old new
+pub making_folder : (name : Name) (there : DiskEntry) (old new : Meaning) (result : Result Unit Error) → FitsAt name Folder → OnOk result (Took old new (making name Folder there)) → OnErr result (Took old new []) → StaysTidy old new
 making_folder name there old new (Ok done) fits ok err = stays_making old new name Folder there fits ok
 making_folder name there old new (Err e) fits ok err = tidy_none old new err
 
@@ -87,7 +87,7 @@ module _ {X : Type 0} (text : X → Name) (xs : List X) (ids : List ℕ) (k : �
   pub journal_fits : FitsAt name (File [] [])
   journal_fits = let (id, small, named) = journal_at text xs ids k d is fit lt in subst (λ (n : Name). FitsAt n (File [] [])) (sym (at ∙ named)) (fits_journal id small [] [])
 
-  pub journal_made : (state : State) → IsTidy state → CanCreate state name
+  pub journal_made : (state : DiskState) → IsTidy state → CanCreate state name
   journal_made state tidy = let (id, small, named) = journal_at text xs ids k d is fit lt in subst (CanCreate state) (sym (at ∙ named)) (can_make_journal state id tidy small)
 
 -- ---- the bytes
@@ -131,17 +131,17 @@ journal_no_home id fits other some small is = let both : Journal id ≡ Current 
 pub journals_no_home : {X : Type 0} (text : X → Name) (xs : List X) (ids : List ℕ) → map text xs ≡ map journal_name ids → All (λ id. id < 2 ^ 64) ids → (id : ℕ) → 0 < id → id < 2 ^ 64 → All (λ x. current_name id ≢ text x) xs
 journals_no_home text xs ids is fit id some small k d lt same = let (j, fits, named) = journal_at text xs ids k d is fit lt in journal_no_home j fits id some small (sym named ∙ sym same)
 
-pub homes_at : (name : Name) (old new : Meaning) → IsNoHome name → StaysAt name old new → KeepsHomes (state_in old) (state_in new)
+pub homes_at : (name : Name) (old new : Meaning) → IsNoHome name → StaysAt name old new → KeepsHomeRecords (state_in old) (state_in new)
 homes_at name old new apart stays id some small =
     ap (λ (p : Place). p.now) (elsewhere name old new (current_name id) (differs (current_name id) name (λ is. apart id some small (sym is))) stays)
 
-pub homes_made : (name : Name) (entry there : Entry) (old new : Meaning) (result : Result Unit Error) → IsNoHome name → OnOk result (Took old new (making name entry there)) → OnErr result (Took old new []) → KeepsHomes (state_in old) (state_in new)
+pub homes_made : (name : Name) (entry there : DiskEntry) (old new : Meaning) (result : Result Unit Error) → IsNoHome name → OnOk result (Took old new (making name entry there)) → OnErr result (Took old new []) → KeepsHomeRecords (state_in old) (state_in new)
 homes_made name entry there old new (Ok done) apart ok err = homes_at name old new apart (stays_made name old new entry there ok)
 homes_made name entry there old new (Err e) apart ok err = homes_at name old new apart (stays_none name old new err)
 
-pub homes_settled : (folder : Name) (old new : Meaning) (result : Result Unit Error) → OnOk result (Took old new (SyncFolder folder ∷ [])) → OnErr result (Took old new []) → KeepsHomes (state_in old) (state_in new)
-homes_settled folder old new (Ok done) ok err id some small = ap (λ (s : State). (s (current_name id)).now) ok.state ∙ settle-now (state_in old) folder (current_name id)
-homes_settled folder old new (Err e) ok err id some small = ap (λ (s : State). (s (current_name id)).now) err.state
+pub homes_settled : (folder : Name) (old new : Meaning) (result : Result Unit Error) → OnOk result (Took old new (SyncFolder folder ∷ [])) → OnErr result (Took old new []) → KeepsHomeRecords (state_in old) (state_in new)
+homes_settled folder old new (Ok done) ok err id some small = ap (λ (s : DiskState). (s (current_name id)).now) ok.state ∙ settle-now (state_in old) folder (current_name id)
+homes_settled folder old new (Err e) ok err id some small = ap (λ (s : DiskState). (s (current_name id)).now) err.state
 
-pub homes_both : (old mid new : State) → KeepsHomes old mid → KeepsHomes mid new → KeepsHomes old new
+pub homes_both : (old mid new : DiskState) → KeepsHomeRecords old mid → KeepsHomeRecords mid new → KeepsHomeRecords old new
 homes_both old mid new one two id some small = two id some small ∙ one id some small

@@ -3,7 +3,7 @@ use Rattle.std.proofs.Common.{◌≡◌, ◌⊎◌, inl, inr, ⊎_elim, ℕ, ◌
 use Rattle.std.proofs.lemmas.Bool.{cases_lt}
 use Rattle.std.proofs.lemmas.List.{length-drop, length-take, take_all}
 use Rattle.fjall_base.specs.Store.{Store, Command}
-use Rattle.fjall_base.specs.Disk.{Name, Entry, State, Image, IsImage, standing}
+use Rattle.fjall_base.specs.Disk.{Name, DiskEntry, DiskState, Image, IsImage, standing}
 use Rattle.fjall_base.proofs.Lists.{front_of_part}
 use Rattle.fjall_files.specs.Trims.{IsTrimmed}
 use Rattle.fjall_journal.specs.declared.batch.Tail.TheVariants.{Clean, Torn}
@@ -14,7 +14,7 @@ use Rattle.fjall_files.specs.Texts.{text_in}
 use Rattle.fjall_files.specs.Marker.{marker_tells}
 use Rattle.fjall_files.specs.Names.{journal_name, current_name, table_name}
 use Rattle.fjall_recovery.specs.Folders.{Contents, IsOpenable, file_bytes}
-use Rattle.fjall_recovery.specs.Journals.{Journal, ReadsAs, AreRead, journal_text}
+use Rattle.fjall_recovery.specs.Journals.{WholeJournal, ReadsAs, AreJournalsRead, journal_text}
 use Rattle.fjall_recovery.specs.Halves.{HasRoot}
 use Rattle.fjall_repair.specs.Amids.{StaysAmid}
 use Rattle.fjall_repair.specs.Steps.{End, EndsBatches, EndsRecords, IsRightEnd}
@@ -32,21 +32,21 @@ beginning_ends text bs len n whole ps end part = elim (cases_lt n len) [
 ]
 
 -- the whole batches of the last journal
-pub last_whole : (image : Image) (js : List Journal) (a : Journal) → last_of js ≡ Some a → AreRead image js → (end : ℕ) × IsWhole (journal_text image a.id) a.batches end
+pub last_whole : (image : Image) (js : List WholeJournal) (a : WholeJournal) → last_of js ≡ Some a → AreJournalsRead image js → (end : ℕ) × IsWhole (journal_text image a.id) a.batches end
 last_whole image [] a is read = let bad : ⊥ = cc in absurd bad
 last_whole image (j ∷ []) a is read =
     let same : j ≡ a = cc in
-    subst (λ (b : Journal). (end : ℕ) × IsWhole (journal_text image b.id) b.batches end) same (⊎_elim (λ clean. (clean.end, clean.whole)) (λ torn. (torn.end, torn.whole)) read)
+    subst (λ (b : WholeJournal). (end : ℕ) × IsWhole (journal_text image b.id) b.batches end) same (⊎_elim (λ clean. (clean.end, clean.whole)) (λ torn. (torn.end, torn.whole)) read)
 last_whole image (j ∷ k ∷ js) a is read = last_whole image (k ∷ js) a is read.1
 
 module _ (image other : Image) (f : Name) (len : ℕ) (at : Cuts image other f len) where
   -- ---- a journal of which the image has a beginning
 
   module _ (text : List ℕ) (bs : List Written) (whole : IsWhole text bs len) (n : ℕ) (part : text_in (image f) ≡ take n text) where
-    ends_before : (j : Journal) → journal_name j.id ≡ f → (end : ℕ) → IsWhole (journal_text image j.id) j.batches end → end ≤ len
+    ends_before : (j : WholeJournal) → journal_name j.id ≡ f → (end : ℕ) → IsWhole (journal_text image j.id) j.batches end → end ≤ len
     ends_before j is end reads = beginning_ends text bs len n whole j.batches end (subst (λ t. IsWhole t j.batches end) (ap (λ (r : Name). text_in (image r)) is ∙ part) reads)
 
-    clean_cut : (j : Journal) → ReadsAs (journal_text image j.id) j.batches Clean → ReadsAs (journal_text other j.id) j.batches Clean
+    clean_cut : (j : WholeJournal) → ReadsAs (journal_text image j.id) j.batches Clean → ReadsAs (journal_text other j.id) j.batches Clean
     clean_cut j clean = ⊎_elim
         (λ alike. subst (λ t. ReadsAs t j.batches Clean) (ap text_in (sym alike)) clean)
         (λ cut.
@@ -57,7 +57,7 @@ module _ (image other : Image) (f : Name) (len : ℕ) (at : Cuts image other f l
         let all : take cut.1.k (journal_text image j.id) ≡ journal_text image j.id = take_all cut.1.k (journal_text image j.id) (omega (arith, le, none, l, behind)) in
         subst (λ t. ReadsAs t j.batches Clean) (sym (cut.1.text ∙ all)) clean) (at (journal_name j.id))
 
-    torn_cut : (j : Journal) → ReadsAs (journal_text image j.id) j.batches Torn → ReadsAs (journal_text other j.id) j.batches Clean ⊎ ReadsAs (journal_text other j.id) j.batches Torn
+    torn_cut : (j : WholeJournal) → ReadsAs (journal_text image j.id) j.batches Torn → ReadsAs (journal_text other j.id) j.batches Clean ⊎ ReadsAs (journal_text other j.id) j.batches Torn
     torn_cut j torn = ⊎_elim
         (λ alike. inr (subst (λ t. ReadsAs t j.batches Torn) (ap text_in (sym alike)) torn))
         (λ cut.
@@ -66,7 +66,7 @@ module _ (image other : Image) (f : Name) (len : ℕ) (at : Cuts image other f l
         let behind = cut.1.le in
         subst (λ t. ReadsAs t j.batches Clean ⊎ ReadsAs t j.batches Torn) (sym cut.1.text) (journal_cut (journal_text image j.id) j.batches cut.1.k (omega (arith, le, count, behind)) (inr torn))) (at (journal_name j.id))
 
-    read_cut : (js : List Journal) → AreRead image js → AreRead other js
+    read_cut : (js : List WholeJournal) → AreJournalsRead image js → AreJournalsRead other js
     read_cut [] read = tt
     read_cut (j ∷ []) read = ⊎_elim (λ clean. inl (clean_cut j clean)) (λ torn. torn_cut j torn) read
     read_cut (j ∷ k ∷ js) read = (clean_cut j read.0, read_cut (k ∷ js) read.1)
@@ -76,7 +76,7 @@ module _ (image other : Image) (f : Name) (len : ℕ) (at : Cuts image other f l
     journal_is_cut id named c sound =
         let root = root_of image c sound in
         let left : HasRoot other c.journals = record {
-          marker = ap (λ (e : Entry). marker_tells (file_bytes e)) (elsewhere image other f len at (codes "version") (λ same. marker_journal id (same ∙ named))) ∙ root.marker;
+          marker = ap (λ (e : DiskEntry). marker_tells (file_bytes e)) (elsewhere image other f len at (codes "version") (λ same. marker_journal id (same ∙ named))) ∙ root.marker;
           named = λ name in_root file. root.named name in_root (file_back image other f len at name file);
           holds = record {
             ids = record {
@@ -96,7 +96,7 @@ module _ (image other : Image) (f : Name) (len : ℕ) (at : Cuts image other f l
 
 -- ---- what stays
 
-module _ (start : State) (stood : Contents) (sound : IsOpenable (standing start) stood) (base : Store) (pending : List Command) where
+module _ (start : DiskState) (stood : Contents) (sound : IsOpenable (standing start) stood) (base : Store) (pending : List Command) where
   left_sound : (image other : Image) (f : Name) (len : ℕ) → Cuts image other f len → (start f).older ≡ [] → EndsBatches stood f len ⊎ EndsRecords (standing start) f len → (n : ℕ) → text_in (image f) ≡ take n (text_in (start f).now)
       → (c : Contents) → IsOpenable image c → IsOpenable other c
   left_sound image other f len at older (inl b) n part c is =
@@ -123,6 +123,6 @@ module _ (start : State) (stood : Contents) (sound : IsOpenable (standing start)
       }
 
   -- whatever a crash leaves while a file is ended stays as it was
-  pub moment_amid : (state : State) (e : End) (image : Image) → IsRightEnd (standing start) stood e → (start e.name).older ≡ [] → ((whole : Image) → IsImage state whole → StaysAmid start base pending whole) → IsTrimmed state e.name e.len image
+  pub moment_amid : (state : DiskState) (e : End) (image : Image) → IsRightEnd (standing start) stood e → (start e.name).older ≡ [] → ((whole : Image) → IsImage state whole → StaysAmid start base pending whole) → IsTrimmed state e.name e.len image
       → StaysAmid start base pending image
   moment_amid state e image right older all trim = trimmed_amid trim.whole image e.name e.len (keeps_cut trim.whole image e.name e.len trim.here trim.elsewhere) older right.kind (all trim.whole trim.is)

@@ -5,17 +5,17 @@ use Rattle.std.specs.List.{AllByRecursion}
 use Rattle.std.proofs.lemmas.List.{append-nil, length-take}
 use Rattle.std.proofs.Math.Seq.{take-append-add}
 use Rattle.fjall_base.specs.declared.error.Error.{Error}
-use Rattle.fjall_base.specs.Disk.{Name, Entry, Missing, File, Folder, Place, State, Image, IsImage, IsFile, LeavesOnly, Meaning, Survives, SomeSurvives, all_synced, folder_of, standing, state_in}
+use Rattle.fjall_base.specs.Disk.{Name, DiskEntry, Missing, File, Folder, Place, DiskState, Image, IsImage, IsFile, LeavesOnly, Meaning, Survives, SomeSurvives, all_synced, folder_of, standing, state_in}
 use Rattle.fjall_base.proofs.Moments.{at_end, runs_on, weaken}
-use Rattle.fjall_tree.specs.Records.{IsRecords}
+use Rattle.fjall_manifest.specs.Records.{IsRecords}
 use Rattle.fjall_base.specs.Lists.{last_of}
 use Rattle.fjall_files.specs.Texts.{text_in}
-use Rattle.fjall_tree.proofs.Currents as Currents
+use Rattle.fjall_manifest.proofs.Currents as Currents
 use Rattle.fjall_files.proofs.Tidying.{there_or_not}
 use Rattle.fjall_files.specs.Names.{journal_name, keyspace_folder, current_name}
-use Rattle.fjall_recovery.specs.Folders.{Contents, IsOpenable, StandsFor, store_of}
+use Rattle.fjall_recovery.specs.Folders.{Contents, ImageStandsFor, IsOpenable, store_of_contents}
 use Rattle.fjall_recovery.specs.Homes.{HaveVersions}
-use Rattle.fjall_recovery.specs.Journals.{Journal}
+use Rattle.fjall_recovery.specs.Journals.{WholeJournal}
 use Rattle.fjall_recovery.specs.Held.{Holds}
 use Rattle.fjall_recovery.specs.Places.{texts_of}
 use Rattle.fjall_repair.specs.declared.mending.plan.FileEnd.{FileEnd}
@@ -30,34 +30,34 @@ use Rattle.fjall_repair.proofs.Turns.{AreRight, AreSettled}
 
 -- ---- whatever a crash leaves has beginnings of what stands
 
-pub survived_text : (now left : Entry) → Survives now left → (n : ℕ) × (text_in left ≡ take n (text_in now))
+pub survived_text : (now left : DiskEntry) → Survives now left → (n : ℕ) × (text_in left ≡ take n (text_in now))
 survived_text Missing left is = (0, ap text_in is)
 survived_text Folder left is = (0, ap text_in is)
 survived_text (File synced unsynced) left some = (length synced + some.0, ap text_in some.1 ∙ append-nil (synced ++ take some.0 unsynced) ∙ sym (take-append-add synced unsynced some.0))
 
-pub images_stay : (s : State) (c : Contents) → ((image : Image) → IsImage s image → IsOpenable image c) → (image : Image) → IsImage s image → Stays s c image
+pub images_stay : (s : DiskState) (c : Contents) → ((image : Image) → IsImage s image → IsOpenable image c) → (image : Image) → IsImage s image → Stays s c image
 images_stay s c sound image is = record {
   sound = sound image is;
   parts = λ q older. ⊎_elim
-      (λ there. let some = subst (λ (es : List Entry). SomeSurvives ((s q).now ∷ es) (image q)) older (is.kept q there) in ⊎_elim (survived_text (s q).now (image q)) (λ none. absurd none) some)
+      (λ there. let some = subst (λ (es : List DiskEntry). SomeSurvives ((s q).now ∷ es) (image q)) older (is.kept q there) in ⊎_elim (survived_text (s q).now (image q)) (λ none. absurd none) some)
       (λ gone. (0, ap text_in (is.lost q gone))) (there_or_not image (folder_of q));
 }
 
 -- ---- files that were synced
 
-pub record Alike (e d : Entry) : Type 0 where
+pub record Alike (e d : DiskEntry) : Type 0 where
   pub text : text_in d ≡ text_in e
   pub file : IsFile e → IsFile d
 
-alike_equal : (e d : Entry) → d ≡ e → Alike e d
+alike_equal : (e d : DiskEntry) → d ≡ e → Alike e d
 alike_equal e d is = record { text = ap text_in is; file = subst IsFile (sym is) }
 
-alike_synced : (e : Entry) → Alike e (all_synced e)
+alike_synced : (e : DiskEntry) → Alike e (all_synced e)
 alike_synced Missing = record { text = refl; file = λ file. file }
 alike_synced Folder = record { text = refl; file = λ file. file }
 alike_synced (File synced unsynced) = record { text = append-nil (synced ++ unsynced); file = λ file. file }
 
-pub alike_same : (old new : Place) (before : Entry) → old.now ≡ before → IsSame old new → Alike before new.now
+pub alike_same : (old new : Place) (before : DiskEntry) → old.now ≡ before → IsSame old new → Alike before new.now
 alike_same old new before was same = ⊎_elim
     (λ e. alike_equal before new.now (e ∙ was))
     (λ e. subst (Alike before) (sym (e ∙ ap all_synced was)) (alike_synced before)) same.now
@@ -94,14 +94,14 @@ one_named P (e ∷ ends) (m ∷ ns) n is (zero, lt, at) all = (e, (let same : na
 one_named P (e ∷ ends) (m ∷ ns) n is (suc k, lt, at) all =
     let rest : map name_of_end ends ≡ ns = cc in one_named P ends ns n rest (k, omega (arith, lt), at) (λ i d less. all (suc i) d (omega (arith, less)))
 
-currents_settled : (s : State) (ids : List ℕ) → AllByRecursion (λ f. (q : Name) → folder_of q ≡ f → (s q).older ≡ []) (map keyspace_folder ids) → AllByRecursion (λ n. (s n).older ≡ []) (map current_name ids)
+currents_settled : (s : DiskState) (ids : List ℕ) → AllByRecursion (λ f. (q : Name) → folder_of q ≡ f → (s q).older ≡ []) (map keyspace_folder ids) → AllByRecursion (λ n. (s n).older ≡ []) (map current_name ids)
 currents_settled s [] folders = tt
 currents_settled s (id ∷ ids) folders = (folders.0 (current_name id) (folder_of-current id), currents_settled s ids folders.1)
 
 -- ---- before the files are ended
 
 -- all but the ends is as it is to be, and each image is so
-pub record IsPreparedBy (P : Image → Type 0) (s : State) (c : Contents) (p : MendPlan) : Type 0 where
+pub record IsPreparedBy (P : Image → Type 0) (s : DiskState) (c : Contents) (p : MendPlan) : Type 0 where
   pub images : (image : Image) → IsImage s image → P image
   pub root : (q : Name) → folder_of q ≡ [] → (s q).older ≡ []
   pub folders : AllByRecursion (λ f. (q : Name) → folder_of q ≡ f → (s q).older ≡ []) (folder_names (map (λ k. k.id) c.keyspaces.living))
@@ -111,10 +111,10 @@ pub record IsPreparedBy (P : Image → Type 0) (s : State) (c : Contents) (p : M
   pub settled : AreSettled s p.ends.items
 
 -- the same, where each image holds these contents
-abbrev pub IsPrepared : State → Contents → MendPlan → Type 0
+abbrev pub IsPrepared : DiskState → Contents → MendPlan → Type 0
 IsPrepared s c p = IsPreparedBy (λ image. IsOpenable image c) s c p
 
-pub same_whole_names : (js : List Journal) → whole_names (ids_of (opened js)) ≡ whole_names (ids_of js)
+pub same_whole_names : (js : List WholeJournal) → whole_names (ids_of (opened js)) ≡ whole_names (ids_of js)
 same_whole_names [] = refl
 same_whole_names (j ∷ js) = refl
 
@@ -174,7 +174,7 @@ module _ (P : Image → Type 0) (m3 m4 : Meaning) (c : Contents) (p : MendPlan) 
   text_left : (e : FileEnd) → IsEnded (state_in m3) (state_in m4) (end_of e) → text_in (state_in m4 (string_bytes e.name)).now ≡ take e.len (text_in (state_in m3 (string_bytes e.name)).now)
   text_left e is = ap text_in is ∙ append-nil (take e.len (text_in (state_in m3 (string_bytes e.name)).now))
 
-  active_short : (journal : Journal) → last_of c.journals ≡ Some journal → journal_name journal.id ≡ journal_name (active_of (ids_of c.journals)) → length (text_in (state_in m4 (journal_name journal.id)).now) ≤ length (texts_of journal.batches)
+  active_short : (journal : WholeJournal) → last_of c.journals ≡ Some journal → journal_name journal.id ≡ journal_name (active_of (ids_of c.journals)) → length (text_in (state_in m4 (journal_name journal.id)).now) ≤ length (texts_of journal.batches)
   active_short journal last named =
       let first = first_named EndedRight p.ends.items _ _ before.ended both in
       let at : string_bytes first.0.name ≡ journal_name journal.id = first.1 ∙ sym named in
@@ -184,7 +184,7 @@ module _ (P : Image → Type 0) (m3 m4 : Meaning) (c : Contents) (p : MendPlan) 
       (λ batches.
       let equal : Some batches.journal ≡ Some journal = sym batches.last ∙ last in
       let one : batches.journal ≡ journal = cc in
-      let len = ap (λ (j : Journal). length (texts_of j.batches)) one in
+      let len = ap (λ (j : WholeJournal). length (texts_of j.batches)) one in
       let is = batches.is in
       omega (arith, count, l, len, is))
       (λ records. absurd (journal_current journal.id records.id (sym at ∙ records.named))) first.2.0.kind
@@ -210,7 +210,7 @@ module _ (P : Image → Type 0) (m3 m4 : Meaning) (c : Contents) (p : MendPlan) 
       let same = (Currents.one_reading (take one.0.len text) rs.records records one.0.len end here (subst (λ t. IsRecords t records end) left reads)).1 in
       omega (arith, count, l, same)) one.2.0.kind
 
-  pub rested : ((journal : Journal) → last_of c.journals ≡ Some journal → journal_name journal.id ≡ journal_name (active_of (ids_of c.journals))) → IsRested (state_in m4) c
+  pub rested : ((journal : WholeJournal) → last_of c.journals ≡ Some journal → journal_name journal.id ≡ journal_name (active_of (ids_of c.journals))) → IsRested (state_in m4) c
   rested named = record {
     images = sound;
     root = λ q is. older q ∙ before.root q is;
@@ -226,7 +226,7 @@ module _ (P : Image → Type 0) (m3 m4 : Meaning) (c : Contents) (p : MendPlan) 
 
 module _ (m0 : Meaning) (c : Contents) (have : HaveVersions c.homes c.versions) where
   abbrev pub Stood : Image → Type 0
-  Stood image = StandsFor image (store_of c)
+  Stood image = ImageStandsFor image (store_of_contents c)
 
   sound_stands : (image : Image) → IsOpenable image (with_active c) → Stood image
   sound_stands image sound = inl (with_active c, record { openable = sound; versions = have }, same_store c)
@@ -258,12 +258,12 @@ pub rested_ok : (m3 m4 : Meaning) (c : Contents) (p : MendPlan) (result : Result
 rested_ok m3 m4 c p (Ok done) before moments ended synced older = rested (λ image. IsOpenable image (with_active c)) m3 m4 (with_active c) p before (λ image is. (at_end m3 m4 (Stays (state_in m3) (with_active c)) moments image is).sound) ended synced older (last_named c.journals)
 rested_ok m3 m4 c p (Err e) before moments ended synced older = tt
 
-pub right_by : (s : State) (c : Contents) (p : MendPlan) (ends : List FileEnd) → ends ≡ p.ends.items → IsPrepared s c p → AreRight s c ends
+pub right_by : (s : DiskState) (c : Contents) (p : MendPlan) (ends : List FileEnd) → ends ≡ p.ends.items → IsPrepared s c p → AreRight s c ends
 right_by s c p ends is before = subst (AreRight s c) (sym is) before.right
 
-pub settled_by : (s : State) (c : Contents) (p : MendPlan) (ends : List FileEnd) → ends ≡ p.ends.items → IsPrepared s c p → AreSettled s ends
+pub settled_by : (s : DiskState) (c : Contents) (p : MendPlan) (ends : List FileEnd) → ends ≡ p.ends.items → IsPrepared s c p → AreSettled s ends
 settled_by s c p ends is before = subst (AreSettled s) (sym is) before.settled
 
-pub ended_by : (s t : State) (ends others : List FileEnd) → ends ≡ others → (result : Result Unit Error) → OnOk result (All (λ e. IsEnded s t (end_of e)) ends) → OnOk result (All (λ e. IsEnded s t (end_of e)) others)
+pub ended_by : (s t : DiskState) (ends others : List FileEnd) → ends ≡ others → (result : Result Unit Error) → OnOk result (All (λ e. IsEnded s t (end_of e)) ends) → OnOk result (All (λ e. IsEnded s t (end_of e)) others)
 ended_by s t ends others is (Ok done) all = subst (All (λ e. IsEnded s t (end_of e))) is all
 ended_by s t ends others is (Err e) all = tt

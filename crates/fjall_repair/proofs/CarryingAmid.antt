@@ -4,14 +4,14 @@ use Rattle.std.specs.Prelude.{OnOk}
 use Rattle.std.specs.List.{AllByRecursion}
 use Rattle.fjall_base.specs.declared.error.Error.{Error}
 use Rattle.fjall_base.specs.Store.{Store, Command, fold, kept}
-use Rattle.fjall_base.specs.Disk.{Name, Entry, Place, State, Image, IsImage, IsThere, LeavesOnly, Meaning, Survives, SomeSurvives, all_synced, folder_of, standing, state_in}
+use Rattle.fjall_base.specs.Disk.{Name, DiskEntry, Place, DiskState, Image, IsImage, IsThere, LeavesOnly, Meaning, Survives, SomeSurvives, all_synced, folder_of, standing, state_in}
 use Rattle.fjall_base.proofs.Moments.{at_end, runs_on, weaken}
 use Rattle.fjall_base.proofs.States.{survives_whole}
 use Rattle.fjall_files.specs.Texts.{text_in}
 use Rattle.fjall_files.specs.declared.marker.Marker.{Marker}
 use Rattle.fjall_files.specs.declared.marker.Marker.TheVariants.{Whole, Unfinished}
 use Rattle.fjall_files.specs.Marker.{marker_tells}
-use Rattle.fjall_recovery.specs.Folders.{Contents, IsOpenable, IsSound, StandsFor, file_bytes, marker_bytes, store_of}
+use Rattle.fjall_recovery.specs.Folders.{Contents, ImageStandsFor, IsOpenable, IsSound, file_bytes, marker_bytes, store_of_contents}
 use Rattle.fjall_recovery.specs.Amid.{StandsAmid}
 use Rattle.fjall_recovery.proofs.Alike.{Alike, alike_sound, alike_synced}
 use Rattle.fjall_recovery.proofs.Holding.{there_or_not}
@@ -28,23 +28,23 @@ use Rattle.fjall_repair.proofs.Sameness.{file_survives, same_sound}
 
 -- ---- before the files are ended
 
-abbrev pub IsPreparedAmid : Store → List Command → State → Contents → MendPlan → Type 0
+abbrev pub IsPreparedAmid : Store → List Command → DiskState → Contents → MendPlan → Type 0
 IsPreparedAmid base pending s c p = IsPreparedBy (StandsAmid base [] pending) s c p
 
 pub marker_known : {told : Result Marker Error} → told ≡ Ok Whole → told ≡ Ok Unfinished → ⊥
 marker_known whole unfinished = let no = sym whole ∙ unfinished in cc
 
-module _ (s : State) (c : Contents) (sound : IsOpenable (standing s) c) (base : Store) (pending : List Command) (p : MendPlan) (before : IsPreparedAmid base pending s c p) where
+module _ (s : DiskState) (c : Contents) (sound : IsOpenable (standing s) c) (base : Store) (pending : List Command) (p : MendPlan) (before : IsPreparedAmid base pending s c p) where
   left_of : (image : Image) → IsImage s image → (q : Name) → IsThere image (folder_of q) → (s q).older ≡ [] → Survives (s q).now (image q)
-  left_of image is q there older = ⊎_elim (λ here. here) (λ was. absurd (subst (λ (es : List Entry). SomeSurvives es (image q)) older was)) (is.kept q there)
+  left_of image is q there older = ⊎_elim (λ here. here) (λ was. absurd (subst (λ (es : List DiskEntry). SomeSurvives es (image q)) older was)) (is.kept q there)
 
   marker_is : (image : Image) → IsImage s image → marker_tells (marker_bytes image) ≡ Ok Whole
   marker_is image is =
       let at = before.whole.0 in
-      let same : image (codes "version") ≡ (s (codes "version")).now = survives_whole at.0 (image (codes "version")) (subst (λ (e : Entry). Survives e (image (codes "version"))) at.1 (left_of image is (codes "version") (inl refl) (before.root (codes "version") refl))) ∙ sym at.1 in
-      ap (λ (e : Entry). marker_tells (file_bytes e)) same ∙ sound.marker
+      let same : image (codes "version") ≡ (s (codes "version")).now = survives_whole at.0 (image (codes "version")) (subst (λ (e : DiskEntry). Survives e (image (codes "version"))) at.1 (left_of image is (codes "version") (inl refl) (before.root (codes "version") refl))) ∙ sym at.1 in
+      ap (λ (e : DiskEntry). marker_tells (file_bytes e)) same ∙ sound.marker
 
-  sound_there : (image : Image) (store : Store) → marker_tells (marker_bytes image) ≡ Ok Whole → StandsFor image store → (d : Contents) × IsSound image d × (store ≡ store_of d)
+  sound_there : (image : Image) (store : Store) → marker_tells (marker_bytes image) ≡ Ok Whole → ImageStandsFor image store → (d : Contents) × IsSound image d × (store ≡ store_of_contents d)
   sound_there image store marker (inl has) = has
   sound_there image store marker (inr begun) = absurd (marker_known marker begun.0.marker)
 
@@ -69,10 +69,10 @@ place_alike old new same = ⊎_elim
     (λ e. subst (Alike old.now) (sym e) (alike_itself old.now))
     (λ e. subst (Alike old.now) (sym e) (alike_back old.now)) same.now
   where
-    alike_itself : (e : Entry) → Alike e e
+    alike_itself : (e : DiskEntry) → Alike e e
     alike_itself e = record { bytes = refl; text = refl; counted = refl; file = ((λ f. f), (λ f. f)); folder = ((λ f. f), (λ f. f)) }
 
-    alike_back : (e : Entry) → Alike e (all_synced e)
+    alike_back : (e : DiskEntry) → Alike e (all_synced e)
     alike_back e = let a = alike_synced e in record { bytes = sym a.bytes; text = sym a.text; counted = sym a.counted; file = (a.file.1, a.file.0); folder = (a.folder.1, a.folder.0) }
 
 -- ---- the call
@@ -93,7 +93,7 @@ pub stands_then : (m0 m1 m2 m3 : Meaning) (c : Contents) (p : MendPlan) → IsOp
     → ((q : Name) → (state_in m2 q).now ≡ (state_in m1 q).now) → ((q : Name) → IsSame (state_in m2 q) (state_in m3 q)) → IsOpenable (standing (state_in m3)) (with_active c)
 stands_then m0 m1 m2 m3 c p sound suits active active_is made same synced =
     let one = opened_sound (standing (state_in m0)) (standing (state_in m1)) active made c (active_is ∙ suits.active) sound in
-    alike_sound (standing (state_in m1)) (standing (state_in m3)) (λ q. subst (λ (e : Entry). Alike e (state_in m3 q).now) (same q) (place_alike (state_in m2 q) (state_in m3 q) (synced q))) (with_active c) one
+    alike_sound (standing (state_in m1)) (standing (state_in m3)) (λ q. subst (λ (e : DiskEntry). Alike e (state_in m3 q).now) (same q) (place_alike (state_in m2 q) (state_in m3 q) (synced q))) (with_active c) one
 
 module _ (base : Store) (pending : List Command) where
   abbrev Stood : Image → Type 0
@@ -102,7 +102,7 @@ module _ (base : Store) (pending : List Command) where
   pub amid_images : (m0 m1 m2 : Meaning) → LeavesOnly m0 m1 Stood → LeavesOnly m1 m2 (IsImage (state_in m1)) → LeavesOnly m0 m2 Stood
   amid_images m0 m1 m2 so_far run = runs_on m0 m1 m2 Stood so_far (weaken m1 m2 (IsImage (state_in m1)) Stood run (λ image is. at_end m0 m1 Stood so_far image is))
 
-  stays_stand : (start : State) (image : Image) → StaysAmid start base pending image → Stood image
+  stays_stand : (start : DiskState) (image : Image) → StaysAmid start base pending image → Stood image
   stays_stand start image stays = record { front = stays.front; holds = (stays.front, refl); within = stays.within; stands = inl (stays.c, stays.sound, stays.is) }
 
   pub amid_stays : (m0 m3 m4 : Meaning) → LeavesOnly m0 m3 Stood → LeavesOnly m3 m4 (StaysAmid (state_in m3) base pending) → LeavesOnly m0 m4 Stood
@@ -125,5 +125,5 @@ module _ (base : Store) (pending : List Command) where
 
 -- ---- names under which the call has its facts
 
-pub stands_by : (s : State) (c : Contents) (p : MendPlan) (ends : List FileEnd) → ends ≡ p.ends.items → (P : Image → Type 0) → IsPreparedBy P s c p → AreRight s c ends × AreSettled s ends
+pub stands_by : (s : DiskState) (c : Contents) (p : MendPlan) (ends : List FileEnd) → ends ≡ p.ends.items → (P : Image → Type 0) → IsPreparedBy P s c p → AreRight s c ends × AreSettled s ends
 stands_by s c p ends is P before = (subst (AreRight s c) (sym is) before.right, subst (AreSettled s) (sym is) before.settled)

@@ -6,11 +6,11 @@ use Rattle.fjall_base.proofs.Lists.{take_past}
 use Rattle.fjall_journal.specs.declared.batch.Tail.TheVariants.{Clean, Torn}
 use Rattle.fjall_journal.specs.declared.entry.Entry.TheVariants.{End}
 use Rattle.fjall_journal.specs.Spelling.{spelling}
-use Rattle.fjall_journal.specs.Batches.{Written, IsWhole, IsTail, NoneAt, EndsEarly, GoesOn, HasOtherCheck, begun, checked, batch_text}
+use Rattle.fjall_journal.specs.Batches.{Written, IsWhole, IsTail, NoneAt, EndsEarly, HasChangeForEnd, HasOtherCheck, begun, checked, batch_text}
 use Rattle.fjall_table.specs.Frame.{NoFrame, framed}
-use Rattle.fjall_tree.specs.Records.{Fields, IsRecords}
+use Rattle.fjall_manifest.specs.Records.{Fields, IsRecords}
 use Rattle.fjall_base.specs.Lists.{last_of}
-use Rattle.fjall_tree.proofs.Currents as Currents
+use Rattle.fjall_manifest.proofs.Currents as Currents
 use Rattle.fjall_recovery.specs.Journals.{ReadsAs}
 use Rattle.fjall_recovery.specs.Places.{texts_of}
 
@@ -22,7 +22,7 @@ regroup a b c more = append_assoc a (b ++ c) more ∙ ap (λ (l : List ℕ). a +
 early_more : (bytes more : List ℕ) → EndsEarly bytes → EndsEarly (bytes ++ more)
 early_more bytes more h = record { count = h.count; number = h.number; changes = h.changes; found = h.found; more = h.more ++ more; start = h.start; each = h.each; fewer = h.fewer; end = h.end; text = ap (λ (l : List ℕ). l ++ more) h.text ∙ regroup (begun h.count h.number h.changes) (spelling (End h.found)) h.more more }
 
-goes_on_more : (bytes more : List ℕ) → GoesOn bytes → GoesOn (bytes ++ more)
+goes_on_more : (bytes more : List ℕ) → HasChangeForEnd bytes → HasChangeForEnd (bytes ++ more)
 goes_on_more bytes more h = record { number = h.number; changes = h.changes; another = h.another; more = h.more ++ more; start = h.start; each = h.each; change = h.change; text = ap (λ (l : List ℕ). l ++ more) h.text ∙ regroup (begun (length h.changes) h.number h.changes) (spelling h.another) h.more more }
 
 other_more : (bytes more : List ℕ) → HasOtherCheck bytes → HasOtherCheck (bytes ++ more)
@@ -40,7 +40,7 @@ part_tail [] lost rest all (inr torn) = inl refl
 part_tail (b ∷ part) lost rest all (inr torn) = inr (
   (λ e. let bad : ⊥ = cc in bad),
   (λ h. torn.1 (subst EndsEarly all (early_more (b ∷ part) lost h))),
-  (λ h. torn.2 (subst GoesOn all (goes_on_more (b ∷ part) lost h))),
+  (λ h. torn.2 (subst HasChangeForEnd all (goes_on_more (b ∷ part) lost h))),
   (λ h. torn.3 (subst HasOtherCheck all (other_more (b ∷ part) lost h))),
 )
 

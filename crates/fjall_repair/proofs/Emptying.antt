@@ -3,7 +3,7 @@ use Rattle.std.proofs.Common.{◌≡◌, ◌≢◌, inl, inr, ℕ, zero, suc, �
 use Rattle.std.proofs.lemmas.List.Elements.{All-append, All-cons, All-head, All-nil, All-tail}
 use Rattle.std.proofs.Math.Seq.{take-suc}
 use Rattle.std.specs.Str.{bytes_eq}
-use Rattle.fjall_base.specs.Disk.{Name, File, Place, State}
+use Rattle.fjall_base.specs.Disk.{Name, File, Place, DiskState}
 use Rattle.fjall_base.proofs.Names.{bool_cases, same}
 use Rattle.fjall_files.specs.Names.{journal_name}
 use Rattle.fjall_repair.specs.Making.{CanHold}
@@ -31,13 +31,13 @@ module _ {X : Type 0} (text : X → Name) where
       subst (λ (n : Name). CanHold false n []) (sym (at ∙ named)) (journal_holds id small)
 
   -- these files are empty
-  abbrev pub AreEmptied : State → List X → Type 0
+  abbrev pub AreEmptied : DiskState → List X → Type 0
   AreEmptied state xs = All (λ x. (state (text x)).now ≡ File [] []) xs
 
   one_of : (P : X → Type 0) (x : X) → P x → All P (x ∷ [])
   one_of P x is = All-cons P x [] is (All-nil P)
 
-  pub emptied_more : (xs : List X) (k : ℕ) (d : X) (name : Name) (old new : State) → name ≡ text (get_or xs k d) → k < length xs → AreEmptied old (take k xs) → ((q : Name) → bytes_eq q name ≡ false → new q ≡ old q)
+  pub emptied_more : (xs : List X) (k : ℕ) (d : X) (name : Name) (old new : DiskState) → name ≡ text (get_or xs k d) → k < length xs → AreEmptied old (take k xs) → ((q : Name) → bytes_eq q name ≡ false → new q ≡ old q)
       → (new name).now ≡ File [] [] → AreEmptied new (take (k + 1) xs)
   emptied_more xs k d name old new at lt so_far other here =
       let x = get_or xs k d in

@@ -11,7 +11,7 @@ use Rattle.fjall_base.specs.declared.error.FormatVersion.TheVariants.{V1, V2, V3
 use Rattle.fjall_journal.specs.Batches.{NoneAt, batch_text}
 use Rattle.fjall_table.specs.Frame.{NoFrame, framed}
 use Rattle.fjall_table.specs.Reading.{frame_at}
-use Rattle.fjall_tree.specs.Records.{Fields, IsRecord, body, record_text}
+use Rattle.fjall_manifest.specs.Records.{Fields, IsRecord, body, record_text}
 use Rattle.fjall_base.proofs.Codecs.{one_text}
 use Rattle.fjall_base.proofs.Names.{bool_cases}
 use Rattle.fjall_table.proofs.Frames.{frame4}

@@ -1,17 +1,17 @@
 -- What a folder in which an opening finds nothing wrong says of its root and of its keyspaces, and images in which these stand alike.
 use Rattle.std.proofs.Common.{◌≡◌, inl, inr, ℕ, List, [], ◌∷◌, codes, refl, sym, ◌∙◌, ap, subst}
-use Rattle.fjall_base.specs.Disk.{Name, Entry, Folder, Image, IsFile}
+use Rattle.fjall_base.specs.Disk.{Name, DiskEntry, Folder, Image, IsFile}
 use Rattle.fjall_journal.specs.declared.batch.Tail.TheVariants.{Clean, Torn}
 use Rattle.fjall_table.specs.declared.table_info.TableInfo.{TableInfo}
-use Rattle.fjall_tree.specs.Records.{Fields, IsRecords}
+use Rattle.fjall_manifest.specs.Records.{Fields, IsRecords}
 use Rattle.fjall_files.specs.Texts.{text_in}
 use Rattle.fjall_files.specs.Marker.{marker_tells}
 use Rattle.fjall_files.specs.Names.{journal_name, keyspace_folder, current_name, table_name}
-use Rattle.fjall_home.specs.Homes.{HasFiles, HoldTables, Home, records_text}
+use Rattle.fjall_manifest.specs.Homes.{HasFiles, HoldTables, Home, records_text}
 use Rattle.fjall_catalog.specs.Catalog.{Says, home_of}
 use Rattle.fjall_recovery.specs.Folders.{AreMade, Contents, IsOpenable, file_bytes}
 use Rattle.fjall_recovery.specs.Homes.{HasOpenableHome, HaveHomes}
-use Rattle.fjall_recovery.specs.Journals.{Journal, ReadsAs, AreRead, journal_text}
+use Rattle.fjall_recovery.specs.Journals.{WholeJournal, ReadsAs, AreJournalsRead, journal_text}
 use Rattle.fjall_recovery.specs.Halves.{HasRoot, Tree}
 use Rattle.fjall_recovery.specs.Naming.{KeyspacesAreNamed}
 use Rattle.fjall_repair.proofs.Cutting.{Lasts}
@@ -55,16 +55,16 @@ open_of image c root tree = record {
 
 -- ---- kinds of entries
 
-pub file_is : (e d : Entry) → e ≡ d → IsFile e → IsFile d
+pub file_is : (e d : DiskEntry) → e ≡ d → IsFile e → IsFile d
 file_is e d is file = subst IsFile is file
 
-pub no_folder : (e : Entry) → IsFile e → e ≡ Folder → ⊥
+pub no_folder : (e : DiskEntry) → IsFile e → e ≡ Folder → ⊥
 no_folder e file is = subst IsFile is file
 
 module _ (image other : Image) where
   -- ---- a root in which all stands alike but files that are gone
 
-  read_along : (journals : List Journal) → ((id : ℕ) → other (journal_name id) ≡ image (journal_name id)) → AreRead image journals → AreRead other journals
+  read_along : (journals : List WholeJournal) → ((id : ℕ) → other (journal_name id) ≡ image (journal_name id)) → AreJournalsRead image journals → AreJournalsRead other journals
   read_along [] alike read = tt
   read_along (j ∷ []) alike read =
       let text : journal_text image j.id ≡ journal_text other j.id = ap text_in (sym (alike j.id)) in
@@ -73,10 +73,10 @@ module _ (image other : Image) where
       let text : journal_text image j.id ≡ journal_text other j.id = ap text_in (sym (alike j.id)) in
       (subst (λ t. ReadsAs t j.batches Clean) text read.0, read_along (k ∷ journals) alike read.1)
 
-  pub root_along : (journals : List Journal) → other (codes "version") ≡ image (codes "version") → ((id : ℕ) → other (journal_name id) ≡ image (journal_name id))
+  pub root_along : (journals : List WholeJournal) → other (codes "version") ≡ image (codes "version") → ((id : ℕ) → other (journal_name id) ≡ image (journal_name id))
       → ((q : Name) → IsFile (other q) → IsFile (image q)) → HasRoot image journals → HasRoot other journals
   root_along journals marker alike back root = record {
-    marker = ap (λ (e : Entry). marker_tells (file_bytes e)) marker ∙ root.marker;
+    marker = ap (λ (e : DiskEntry). marker_tells (file_bytes e)) marker ∙ root.marker;
     named = λ name in_root file. root.named name in_root (back name file);
     holds = record {
       ids = record {
@@ -98,7 +98,7 @@ module _ (image other : Image) where
   tables_along id alike [] (bytes ∷ texts) holds = absurd holds
   tables_along id alike (t ∷ tables) [] holds = absurd holds
   tables_along id alike (t ∷ tables) (bytes ∷ texts) holds =
-      (subst (λ (e : Entry). IsFile e × (text_in e ≡ bytes)) (sym (alike t.id)) holds.0, tables_along id alike tables texts holds.1)
+      (subst (λ (e : DiskEntry). IsFile e × (text_in e ≡ bytes)) (sym (alike t.id)) holds.0, tables_along id alike tables texts holds.1)
 
   -- the same folders and tables are there, and the records may have changed, where they say the same
   pub record SaysSame : Type 0 where
@@ -150,6 +150,6 @@ module _ (image other : Image) where
     back = back;
     stays = stays;
     files = λ id. file_is _ _ (sym (currents id));
-    lasts = λ id records end whole. record { records = records; end = end; whole = subst (λ (e : Entry). IsRecords (text_in e) records end) (sym (currents id)) whole; is = refl };
+    lasts = λ id records end whole. record { records = records; end = end; whole = subst (λ (e : DiskEntry). IsRecords (text_in e) records end) (sym (currents id)) whole; is = refl };
     tables = tables;
   })

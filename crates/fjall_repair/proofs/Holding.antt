@@ -4,8 +4,8 @@ use Rattle.std.proofs.lemmas.List.{append-nil, take_all}
 use Rattle.fjall_base.specs.declared.error.FormatVersion.TheVariants.{V3}
 use Rattle.fjall_base.specs.Disk.{File, Folder}
 use Rattle.fjall_journal.proofs.Cuts.{none_at_nil}
-use Rattle.fjall_tree.specs.Records.{IsRecord, IsRecords}
-use Rattle.fjall_tree.proofs.Currents.{texts_are_records}
+use Rattle.fjall_manifest.specs.Records.{IsRecord, IsRecords}
+use Rattle.fjall_manifest.proofs.Currents.{texts_are_records}
 use Rattle.fjall_files.specs.Marker.{header}
 use Rattle.fjall_files.specs.Names.{journal_name, current_name}
 use Rattle.fjall_catalog.specs.Catalog.{fields, first_catalog}

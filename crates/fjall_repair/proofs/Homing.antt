@@ -4,13 +4,13 @@ use Rattle.fjall_base.specs.Disk.{Folder, Image}
 use Rattle.fjall_files.specs.Names.{keyspace_folder}
 use Rattle.fjall_table.specs.declared.table_info.TableInfo.{TableInfo}
 use Rattle.fjall_table.specs.Tables.{Handle}
-use Rattle.fjall_home.specs.Homes.{HoldTables, Home}
-use Rattle.fjall_home.specs.Reading.{AreIndexed}
+use Rattle.fjall_manifest.specs.Homes.{HoldTables, Home}
+use Rattle.fjall_manifest.specs.Reading.{AreIndexed}
 use Rattle.fjall_meta.specs.declared.entry.MetaEntry.{MetaEntry}
 use Rattle.fjall_meta.specs.Keyspaces.{Keyspaces}
 use Rattle.fjall_catalog.specs.declared.catalog.Catalog.{Catalog}
 use Rattle.fjall_catalog.specs.Catalog.{ArePairs, Says, home_of}
-use Rattle.fjall_tree.specs.Records.{Fields}
+use Rattle.fjall_manifest.specs.Records.{Fields}
 use Rattle.fjall_recovery.specs.Homes.{HasOpenableHome}
 
 -- the folder is there, with as many bytes in each of the home's tables

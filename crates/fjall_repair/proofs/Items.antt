@@ -5,7 +5,7 @@ use Rattle.std.proofs.lemmas.Bool.Decides.{nat_tests}
 use Rattle.std.proofs.Math.ListN as ListN
 use Rattle.std.proofs.lemmas.List.Elements.{All-append, All-contains, All-from_recursion}
 use Rattle.std.proofs.lemmas.List.Folds.{Any-from_list_any, list_any-from_Any}
-use Rattle.std.proofs.lemmas.List.{get_or_default, length-map, map-append}
+use Rattle.std.proofs.lemmas.List.{get_or_default, length-map}
 use Rattle.std.proofs.Math.Seq.{take-suc}
 
 pub item_has : {X : Type 0} (P : X → Type 0) (xs : List X) (i : ℕ) (x : X) → x ≡ get_or xs i x → i < length xs → All P xs → P x
@@ -29,10 +29,6 @@ all_to P Q xs to all k d lt = to (get_or xs k d) (all k d lt)
 
 pub all_with : {X : Type 0} (P R Q : X → Type 0) (xs : List X) → ((x : X) → P x → R x → Q x) → All P xs → All R xs → All Q xs
 all_with P R Q xs to all others k d lt = to (get_or xs k d) (all k d lt) (others k d lt)
-
--- a list that is mapped as it is gone over
-pub map_more : {X Y : Type 0} (f : X → Y) (xs : List X) (i : ℕ) (x : X) → x ≡ get_or xs i x → i < length xs → map f (take (i + 1) xs) ≡ map f (take i xs) ++ f x ∷ []
-map_more f xs i x at lt = ap (map f) (take_more xs i x at lt) ∙ map-append f (take i xs) (x ∷ [])
 
 -- the same over all of a mapped list
 pub along_map : {X Y : Type 0} (P : Y → Type 0) (f : X → Y) (xs : List X) → All (λ x. P (f x)) xs → AllByRecursion P (map f xs)

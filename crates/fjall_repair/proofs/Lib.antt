@@ -1,60 +1,44 @@
-pub mod Fronts
+mod Fronts
 pub mod Standing
-pub mod Moments
-pub mod Filled
-pub mod Named
-pub mod Holding
-pub mod Trees
-pub mod Emptying
-pub mod Plannings
-pub mod Awaiting
-pub mod Marking
+mod Moments
+mod Filled
+mod Named
+mod Holding
+mod Trees
+mod Emptying
+mod Plannings
+mod Awaiting
+mod Marking
 pub mod Begun
-pub mod BeginServed
-pub mod Backs
+mod BeginServed
+mod Backs
 pub mod Naming
-pub mod Living
-pub mod Homing
-pub mod Halving
-pub mod Cutting
-pub mod Trimming
+mod Living
+mod Homing
+mod Halving
+mod Cutting
+mod Trimming
 pub mod Items
-pub mod Ending
-pub mod Beginnings
-pub mod Turns
-pub mod Narrowing
+mod Ending
+mod Beginnings
+mod Turns
+mod Narrowing
 pub mod MendOpened
-pub mod Amidst
-pub mod TurnsAmid
-pub mod Crashing
+mod Amidst
+mod TurnsAmid
+mod Crashing
 pub mod Rested
 pub mod Mended
 pub mod Carrying
 pub mod Suiting
-pub mod Suited
-pub mod Sameness
-pub mod CarryingAmid
-pub mod HeldAmid
-pub mod SuitedAmid
+mod Sameness
+mod CarryingAmid
+mod HeldAmid
 pub mod MendServed
 pub mod Apart
 pub mod Removals
 pub mod Spared
 pub mod Planned
-pub mod Keeping
-pub mod Tables
-pub mod Listings
-pub mod Rooted
-pub mod Agreeing
-pub mod Repairing
-pub mod Numbering
-pub mod Fitting
-pub mod Replayed
-pub mod Sealings
-pub mod Taking
-pub mod OpenedTrees
-pub mod Openings
-pub mod JournalByJournal
-pub mod Amid
+mod Tables
+mod Listings
 pub mod SweepServed
-pub mod Counting

@@ -4,7 +4,7 @@ use Rattle.std.specs.Prelude.{Contains, OnOk, OnErr}
 use Rattle.fjall_base.specs.declared.error.Error.{Error}
 use Rattle.std.specs.List.Sorted.{IsStrictlyIncreasing}
 use Rattle.std.proofs.lemmas.List.{take_all, get_or_default}
-use Rattle.fjall_base.specs.Disk.{Name, Entry, Missing, File, Folder, Place, State, Image, IsImage, IsFile, Survives, SomeSurvives, LeavesOnly, Meaning, Took, Put, SyncFolder, making, put, folder_of, standing, state_in}
+use Rattle.fjall_base.specs.Disk.{Name, DiskEntry, Missing, File, Folder, Place, DiskState, Image, IsImage, IsFile, Survives, SomeSurvives, LeavesOnly, Meaning, Took, Put, SyncFolder, making, put, folder_of, standing, state_in}
 use Rattle.fjall_base.proofs.Frames.{replaced, replaced-same, replaced-other}
 use Rattle.fjall_base.proofs.Moments.{at_end, started, stays, steps_on, weaken}
 use Rattle.fjall_base.proofs.States.{differs, put-same, put-other}
@@ -18,8 +18,8 @@ use Rattle.fjall_files.specs.Marker.{marker_tells}
 use Rattle.fjall_files.specs.Names.{journal_name, current_name, table_name}
 use Rattle.fjall_contents.specs.Contents.{store_held}
 use Rattle.fjall_recovery.specs.Homes.{HaveVersions, stored_in}
-use Rattle.fjall_recovery.specs.Folders.{Contents, IsOpenable, StandsFor, store_of, file_bytes}
-use Rattle.fjall_recovery.specs.Journals.{Journal, ReadsAs, AreJournalIds, batches_in}
+use Rattle.fjall_recovery.specs.Folders.{Contents, IsOpenable, ImageStandsFor, store_of_contents, file_bytes}
+use Rattle.fjall_recovery.specs.Journals.{WholeJournal, ReadsAs, AreJournalIds, batches_in}
 use Rattle.fjall_recovery.specs.Halves.{HasRoot}
 use Rattle.fjall_recovery.specs.Held.{Holds}
 use Rattle.fjall_repair.specs.Steps.{IsOpened, active_of, opened, with_active}
@@ -27,8 +27,8 @@ use Rattle.fjall_repair.proofs.Naming.{same_or_not, folder_of-journal, journal_c
 use Rattle.fjall_repair.proofs.Halving.{no_folder, root_of, open_tree_in, tree_of, tree_along, open_of}
 use Rattle.fjall_repair.proofs.Narrowing.{settle-empty, settled_image}
 
-abbrev pub ids_of : List Journal → List ℕ
-ids_of journals = map (λ (j : Journal). j.id) journals
+abbrev pub ids_of : List WholeJournal → List ℕ
+ids_of journals = map (λ (j : WholeJournal). j.id) journals
 
 -- ---- the active journal's id
 
@@ -64,7 +64,7 @@ module _ (image made : Image) (active : Name) (is : IsOpened image made active) 
 
   new_root : active ≡ journal_name 1 → image active ≡ Missing → made active ≡ File [] [] → HasRoot image [] → HasRoot made (record { id = 1; batches = [] } ∷ [])
   new_root named gone new root = record {
-    marker = ap (λ (e : Entry). marker_tells (file_bytes e)) (is.elsewhere (codes "version") (λ same. marker_journal 1 (same ∙ named))) ∙ root.marker;
+    marker = ap (λ (e : DiskEntry). marker_tells (file_bytes e)) (is.elsewhere (codes "version") (λ same. marker_journal 1 (same ∙ named))) ∙ root.marker;
     named = λ name in_root file misnamed. ⊎_elim (λ same. misnamed.1 1 (omega arith, same ∙ named)) (λ was. root.named name in_root was misnamed) (new_back named new name file);
     holds = record {
       ids = record { ascending = one_ascends; each = λ id. (has id, back id) };
@@ -89,7 +89,7 @@ module _ (image made : Image) (active : Name) (is : IsOpened image made active) 
       nothing : ReadsAs [] [] Clean
       nothing = record { end = 0; whole = record { within = omega arith; texts = refl; each = tt; last = none_at_nil }; behind = refl }
 
-  root_opened : (js : List Journal) → active ≡ journal_name (active_of (ids_of js)) → HasRoot image js → HasRoot made (opened js)
+  root_opened : (js : List WholeJournal) → active ≡ journal_name (active_of (ids_of js)) → HasRoot image js → HasRoot made (opened js)
   root_opened [] named root = ⊎_elim
       (λ alike. let none = (root.holds.ids.each 1).1 (omega arith, subst (λ (n : Name). IsFile (image n)) named alike.0) in let lt = none.1 in absurd (omega (arith, lt)))
       (λ new. new_root named new.0 new.1 root) is.here
@@ -109,18 +109,18 @@ module _ (image made : Image) (active : Name) (is : IsOpened image made active) 
 abbrev pub SoundEither : Contents → Image → Type 0
 SoundEither c image = IsOpenable image c ⊎ IsOpenable image (with_active c)
 
-pub same_batches : (js : List Journal) → batches_in (opened js) ≡ batches_in js
+pub same_batches : (js : List WholeJournal) → batches_in (opened js) ≡ batches_in js
 same_batches [] = refl
 same_batches (j ∷ js) = refl
 
-pub same_store : (c : Contents) → store_of c ≡ store_of (with_active c)
+pub same_store : (c : Contents) → store_of_contents c ≡ store_of_contents (with_active c)
 same_store c = ap (λ (bs : List Written). store_held c.keyspaces (stored_in c.homes c.versions) (map shown bs)) (sym (same_batches c.journals))
 
-pub either_stands : (c : Contents) → HaveVersions c.homes c.versions → (image : Image) → SoundEither c image → StandsFor image (store_of c)
+pub either_stands : (c : Contents) → HaveVersions c.homes c.versions → (image : Image) → SoundEither c image → ImageStandsFor image (store_of_contents c)
 either_stands c have image (inl sound) = inl (c, record { openable = sound; versions = have }, refl)
 either_stands c have image (inr sound) = inl (with_active c, record { openable = sound; versions = have }, same_store c)
 
-no_other : (image : Image) (js : List Journal) → HasRoot image js → IsFile (image (journal_name (active_of (ids_of js)))) → opened js ≡ js
+no_other : (image : Image) (js : List WholeJournal) → HasRoot image js → IsFile (image (journal_name (active_of (ids_of js)))) → opened js ≡ js
 no_other image [] root file = let none = (root.holds.ids.each 1).1 (omega arith, file) in let lt = none.1 in absurd (omega (arith, lt))
 no_other image (j ∷ js) root file = refl
 
@@ -128,15 +128,15 @@ no_other image (j ∷ js) root file = refl
 pub sound_open : (c : Contents) (image : Image) → IsFile (image (journal_name (active_of (ids_of c.journals)))) → SoundEither c image → IsOpenable image (with_active c)
 sound_open c image file (inr sound) = sound
 sound_open c image file (inl sound) =
-    subst (λ (js : List Journal). IsOpenable image (let r : Contents = record { journals = js; keyspaces = c.keyspaces; last = c.last; homes = c.homes; versions = c.versions } in r)) (sym (no_other image c.journals (root_of image c sound) file)) sound
+    subst (λ (js : List WholeJournal). IsOpenable image (let r : Contents = record { journals = js; keyspaces = c.keyspaces; last = c.last; homes = c.homes; versions = c.versions } in r)) (sym (no_other image c.journals (root_of image c sound) file)) sound
 
-pub some_swap : (older : List Entry) (entry left : Entry) → SomeSurvives (older ++ entry ∷ []) left → SomeSurvives (entry ∷ older) left
+pub some_swap : (older : List DiskEntry) (entry left : DiskEntry) → SomeSurvives (older ++ entry ∷ []) left → SomeSurvives (entry ∷ older) left
 some_swap [] entry left some = some
 some_swap (e ∷ older) entry left (inl here) = inr (inl here)
 some_swap (e ∷ older) entry left (inr later) = ⊎_elim (λ now. inl now) (λ was. inr (inr was)) (some_swap older entry left later)
 
 -- an image in which the file isn't made yet
-pub older_image : (old : State) (active : Name) (image : Image) → IsImage (put old active (File [] [])) image → SomeSurvives ((old active).older ++ (old active).now ∷ []) (image active) → IsImage old image
+pub older_image : (old : DiskState) (active : Name) (image : Image) → IsImage (put old active (File [] [])) image → SomeSurvives ((old active).older ++ (old active).now ∷ []) (image active) → IsImage old image
 older_image old active image is some = record {
   kept = λ q there. ⊎_elim
       (λ same. subst (λ (n : Name). SomeSurvives ((old n).now ∷ (old n).older) (image n)) (sym same) (some_swap (old active).older (old active).now (image active) some))
@@ -144,7 +144,7 @@ older_image old active image is some = record {
   lost = is.lost;
 }
 
-module _ (old : State) (active : Name) (c : Contents) (holds : Holds old (Some c)) (named : active ≡ journal_name (active_of (ids_of c.journals))) where
+module _ (old : DiskState) (active : Name) (c : Contents) (holds : Holds old (Some c)) (named : active ≡ journal_name (active_of (ids_of c.journals))) where
   in_root : folder_of active ≡ []
   in_root = ap (λ (n : Name). folder_of n) named ∙ folder_of-journal (active_of (ids_of c.journals)) (active_small (standing old) (ids_of c.journals) holds.now.openable.journals.ids)
 
@@ -178,7 +178,7 @@ module _ (old : Meaning) (active : Name) (c : Contents) (holds : Holds (state_in
   pub still : (new : Meaning) → Took old new [] → LeavesOnly old new (SoundEither c)
   still new took = stays old old new (SoundEither c) begun took
 
-  made_at : (mid : Meaning) (entry : Entry) → (state_in old active).now ≡ entry → Took old mid (making active (File [] []) entry) → LeavesOnly old mid (SoundEither c)
+  made_at : (mid : Meaning) (entry : DiskEntry) → (state_in old active).now ≡ entry → Took old mid (making active (File [] []) entry) → LeavesOnly old mid (SoundEither c)
   made_at mid Missing gone took = steps_on old old mid (SoundEither c) (Put active (File [] [])) begun took (λ image is. made_either (state_in old) active c holds named image gone is)
   made_at mid (File synced unsynced) there took = stays old old mid (SoundEither c) begun took
   made_at mid Folder there took = stays old old mid (SoundEither c) begun took
@@ -190,7 +190,7 @@ module _ (old : Meaning) (active : Name) (c : Contents) (holds : Holds (state_in
   settled_moment mid new so_far took = steps_on old mid new (SoundEither c) (SyncFolder []) so_far took (λ image is. at_end old mid (SoundEither c) so_far image (settled_image (state_in mid) [] image is))
 
   -- afterwards the journal is there in whatever a crash leaves
-  file_left : (entry left : Entry) → IsFile entry → Survives entry left → IsFile left
+  file_left : (entry left : DiskEntry) → IsFile entry → Survives entry left → IsFile left
   file_left Missing left file some = absurd file
   file_left Folder left file some = absurd file
   file_left (File synced unsynced) left file some = subst IsFile (sym some.1) tt
@@ -198,28 +198,28 @@ module _ (old : Meaning) (active : Name) (c : Contents) (holds : Holds (state_in
   pub settled_sound : (mid new : Meaning) → LeavesOnly old new (SoundEither c) → Took mid new (SyncFolder [] ∷ []) → IsFile (state_in mid active).now → (image : Image) → IsImage (state_in new) image → IsOpenable image (with_active c)
   settled_sound mid new run took file image is =
       let root = in_root (state_in old) active c holds named in
-      let now : (state_in new active).now ≡ (state_in mid active).now = ap (λ (s : State). (s active).now) took.state ∙ settle-now (state_in mid) [] active in
-      let older : (state_in new active).older ≡ [] = ap (λ (s : State). (s active).older) took.state ∙ settle-empty (state_in mid) [] active root in
-      let some = subst (λ (es : List Entry). SomeSurvives ((state_in new active).now ∷ es) (image active)) older (is.kept active (inl root)) in
+      let now : (state_in new active).now ≡ (state_in mid active).now = ap (λ (s : DiskState). (s active).now) took.state ∙ settle-now (state_in mid) [] active in
+      let older : (state_in new active).older ≡ [] = ap (λ (s : DiskState). (s active).older) took.state ∙ settle-empty (state_in mid) [] active root in
+      let some = subst (λ (es : List DiskEntry). SomeSurvives ((state_in new active).now ∷ es) (image active)) older (is.kept active (inl root)) in
       let there : IsFile (image active) = ⊎_elim (λ here. file_left (state_in new active).now (image active) (subst IsFile (sym now) file) here) (λ none. absurd none) some in
       sound_open c image (subst (λ (n : Name). IsFile (image n)) named there) (at_end old new (SoundEither c) run image is)
 
 -- ---- what stands
 
 module _ (old mid : Meaning) (active : Name) where
-  made_elsewhere_at : (entry : Entry) → Took old mid (making active (File [] []) entry) → (q : Name) → q ≢ active → (state_in mid q).now ≡ (state_in old q).now
-  made_elsewhere_at Missing took q not = ap (λ (s : State). (s q).now) took.state ∙ ap (λ (p : Place). p.now) (put-other (state_in old) active (File [] []) q (differs q active not))
-  made_elsewhere_at (File synced unsynced) took q not = ap (λ (s : State). (s q).now) took.state
-  made_elsewhere_at Folder took q not = ap (λ (s : State). (s q).now) took.state
+  made_elsewhere_at : (entry : DiskEntry) → Took old mid (making active (File [] []) entry) → (q : Name) → q ≢ active → (state_in mid q).now ≡ (state_in old q).now
+  made_elsewhere_at Missing took q not = ap (λ (s : DiskState). (s q).now) took.state ∙ ap (λ (p : Place). p.now) (put-other (state_in old) active (File [] []) q (differs q active not))
+  made_elsewhere_at (File synced unsynced) took q not = ap (λ (s : DiskState). (s q).now) took.state
+  made_elsewhere_at Folder took q not = ap (λ (s : DiskState). (s q).now) took.state
 
   pub made_elsewhere : Took old mid (making active (File [] []) (state_in old active).now) → (q : Name) → q ≢ active → (state_in mid q).now ≡ (state_in old q).now
   made_elsewhere took = made_elsewhere_at (state_in old active).now took
 
-  made_here_at : (entry : Entry) → (state_in old active).now ≡ entry → Took old mid (making active (File [] []) entry) → IsFile (state_in mid active).now
+  made_here_at : (entry : DiskEntry) → (state_in old active).now ≡ entry → Took old mid (making active (File [] []) entry) → IsFile (state_in mid active).now
       → (IsFile (state_in old active).now × ((state_in mid active).now ≡ (state_in old active).now)) ⊎ (((state_in old active).now ≡ Missing) × ((state_in mid active).now ≡ File [] []))
-  made_here_at Missing is took file = inr (is, ap (λ (s : State). (s active).now) took.state ∙ ap (λ (p : Place). p.now) (put-same (state_in old) active (File [] [])))
-  made_here_at (File synced unsynced) is took file = inl (subst IsFile (sym is) tt, ap (λ (s : State). (s active).now) took.state)
-  made_here_at Folder is took file = absurd (no_folder (state_in mid active).now file (ap (λ (s : State). (s active).now) took.state ∙ is))
+  made_here_at Missing is took file = inr (is, ap (λ (s : DiskState). (s active).now) took.state ∙ ap (λ (p : Place). p.now) (put-same (state_in old) active (File [] [])))
+  made_here_at (File synced unsynced) is took file = inl (subst IsFile (sym is) tt, ap (λ (s : DiskState). (s active).now) took.state)
+  made_here_at Folder is took file = absurd (no_folder (state_in mid active).now file (ap (λ (s : DiskState). (s active).now) took.state ∙ is))
 
   pub made_opened : Took old mid (making active (File [] []) (state_in old active).now) → IsFile (state_in mid active).now → IsOpened (standing (state_in old)) (standing (state_in mid)) active
   made_opened took file = record { elsewhere = made_elsewhere took; here = made_here_at (state_in old active).now refl took file }
@@ -228,24 +228,24 @@ module _ (old mid : Meaning) (active : Name) where
 
 module _ (mid new : Meaning) where
   settled_same : Took mid new (SyncFolder [] ∷ []) → (q : Name) → (state_in new q).now ≡ (state_in mid q).now
-  settled_same took q = ap (λ (s : State). (s q).now) took.state ∙ settle-now (state_in mid) [] q
+  settled_same took q = ap (λ (s : DiskState). (s q).now) took.state ∙ settle-now (state_in mid) [] q
 
   pub settle_settled : (result : Result Unit Error) → OnOk result (Took mid new (SyncFolder [] ∷ [])) → OnOk result ((q : Name) → folder_of q ≡ [] → (state_in new q).older ≡ [])
-  settle_settled (Ok done) took = λ q root. ap (λ (s : State). (s q).older) took.state ∙ settle-empty (state_in mid) [] q root
+  settle_settled (Ok done) took = λ q root. ap (λ (s : DiskState). (s q).older) took.state ∙ settle-empty (state_in mid) [] q root
   settle_settled (Err e) took = tt
 
-pub still_stands : (old new : Meaning) (c : Contents) → Holds (state_in old) (Some c) → (active : Name) → active ≡ journal_name (active_of (ids_of c.journals)) → Took old new [] → LeavesOnly old new (λ image. StandsFor image (store_of c))
-still_stands old new c holds active named took = weaken old new (SoundEither c) (λ image. StandsFor image (store_of c)) (still old active c holds named new took) (either_stands c holds.now.versions)
+pub still_stands : (old new : Meaning) (c : Contents) → Holds (state_in old) (Some c) → (active : Name) → active ≡ journal_name (active_of (ids_of c.journals)) → Took old new [] → LeavesOnly old new (λ image. ImageStandsFor image (store_of_contents c))
+still_stands old new c holds active named took = weaken old new (SoundEither c) (λ image. ImageStandsFor image (store_of_contents c)) (still old active c holds named new took) (either_stands c holds.now.versions)
 
 module _ (old mid new : Meaning) (active : Name) (made : Took old mid (making active (File [] []) (state_in old active).now)) where
   settled_run : (c : Contents) (holds : Holds (state_in old) (Some c)) (named : active ≡ journal_name (active_of (ids_of c.journals))) → Took mid new (SyncFolder [] ∷ []) → LeavesOnly old new (SoundEither c)
   settled_run c holds named took = settled_moment old active c holds named mid new (made_moment old active c holds named mid made) took
 
   pub settle_moment : (result : Result Unit Error) → OnOk result (Took mid new (SyncFolder [] ∷ [])) → OnErr result (Took mid new []) → (c : Contents) → Holds (state_in old) (Some c) → active ≡ journal_name (active_of (ids_of c.journals))
-      → LeavesOnly old new (λ image. StandsFor image (store_of c))
-  settle_moment (Ok done) ok err c holds named = weaken old new (SoundEither c) (λ image. StandsFor image (store_of c)) (settled_run c holds named ok) (either_stands c holds.now.versions)
+      → LeavesOnly old new (λ image. ImageStandsFor image (store_of_contents c))
+  settle_moment (Ok done) ok err c holds named = weaken old new (SoundEither c) (λ image. ImageStandsFor image (store_of_contents c)) (settled_run c holds named ok) (either_stands c holds.now.versions)
   settle_moment (Err e) ok err c holds named =
-      weaken old new (SoundEither c) (λ image. StandsFor image (store_of c)) (stays old mid new (SoundEither c) (made_moment old active c holds named mid made) err) (either_stands c holds.now.versions)
+      weaken old new (SoundEither c) (λ image. ImageStandsFor image (store_of_contents c)) (stays old mid new (SoundEither c) (made_moment old active c holds named mid made) err) (either_stands c holds.now.versions)
 
   pub settle_sound : (result : Result Unit Error) → OnOk result (Took mid new (SyncFolder [] ∷ [])) → IsFile (state_in mid active).now → (c : Contents) → Holds (state_in old) (Some c) → active ≡ journal_name (active_of (ids_of c.journals))
       → OnOk result ((image : Image) → IsImage (state_in new) image → IsOpenable image (with_active c))
@@ -263,4 +263,4 @@ module _ (old mid new : Meaning) (active : Name) (made : Took old mid (making ac
 
   pub settle_elsewhere : (result : Result Unit Error) → OnOk result (Took mid new (SyncFolder [] ∷ [])) → OnErr result (Took mid new []) → (q : Name) → q ≢ active → (state_in new q).now ≡ (state_in old q).now
   settle_elsewhere (Ok done) ok err q not = settled_same mid new ok q ∙ made_elsewhere old mid active made q not
-  settle_elsewhere (Err e) ok err q not = ap (λ (s : State). (s q).now) err.state ∙ made_elsewhere old mid active made q not
+  settle_elsewhere (Err e) ok err q not = ap (λ (s : DiskState). (s q).now) err.state ∙ made_elsewhere old mid active made q not

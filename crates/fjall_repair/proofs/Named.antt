@@ -5,7 +5,7 @@ use Rattle.std.proofs.lemmas.List.Folds.{list_any-append}
 use Rattle.fjall_base.specs.Disk.{Name, folder_of}
 use Rattle.fjall_files.specs.Names.{IsMisnamed, IsNameOf, journal_name, keyspace_folder, current_name, table_name}
 use Rattle.fjall_files.proofs.Fitting.{folder_of-current, folder_of-journal as in_root}
-use Rattle.fjall_home.proofs.Naming.{some_folder}
+use Rattle.fjall_manifest.proofs.Naming.{some_folder}
 use Rattle.fjall_catalog.proofs.Naming.{current_zero, folder_zero}
 use Rattle.fjall_repair.proofs.Moments.{IsNoTable}
 

@@ -8,18 +8,18 @@ use Rattle.std.proofs.lemmas.List.Elements.{All-append, All-contains, All-from_r
 use Rattle.std.proofs.lemmas.Bool.Decides.{nat_tests}
 use Rattle.std.proofs.lemmas.List.Concat.{flat_map-cons}
 use Rattle.fjall_base.specs.declared.error.Error.{Error}
-use Rattle.fjall_base.specs.Disk.{Name, Entry, Missing, File, Folder, State, Meaning, folder_of, standing, state_in}
+use Rattle.fjall_base.specs.Disk.{Name, DiskEntry, Missing, File, Folder, DiskState, Meaning, folder_of, standing, state_in}
 use Rattle.fjall_base.proofs.Names.{bool_cases}
 use Rattle.fjall_files.specs.Regions.{is_under, Within}
 use Rattle.fjall_files.proofs.Under.{in_folder}
 use Rattle.fjall_table.specs.declared.table_info.TableInfo.{TableInfo}
-use Rattle.fjall_tree.specs.Records.{Fields}
+use Rattle.fjall_manifest.specs.Records.{Fields}
 use Rattle.fjall_files.specs.Names.{keyspace_folder, current_name, table_name}
-use Rattle.fjall_home.specs.Homes.{Home, IsFree}
-use Rattle.fjall_home.proofs.Resting.{At, IsGiven, all_given, each_more, last_record as home_record}
+use Rattle.fjall_manifest.specs.Homes.{Home, IsFree}
+use Rattle.fjall_manifest.proofs.Resting.{At, IsGiven, all_given, each_more, last_record as home_record}
 use Rattle.fjall_meta.specs.declared.living.LivingKeyspace.{LivingKeyspace}
 use Rattle.fjall_meta.specs.Keyspaces.{AreKeyspaces, Keyspaces, keyspace_at}
-use Rattle.fjall_versions.proofs.Ids.{living_has}
+use Rattle.fjall_contents.proofs.Ids.{living_has}
 use Rattle.fjall_catalog.specs.declared.catalog.Catalog.{Catalog}
 use Rattle.fjall_catalog.specs.Catalog.{fields, listed}
 use Rattle.fjall_catalog.proofs.Resting.{last_record}
@@ -31,7 +31,7 @@ use Rattle.fjall_repair.specs.declared.plan.SweepPlan.{SweepPlan}
 use Rattle.fjall_files.specs.declared.own.OwnFiles.{OwnFiles}
 use Rattle.fjall_recovery.specs.Naming.{AreFolderIds}
 use Rattle.fjall_files.specs.Own.{AreOwnFiles, HoldsOnlyOwn}
-use Rattle.fjall_repair.specs.Sweeps.{AreGone, BringsNoTable, FindsAll, FindsTables, IsSwept, IsPlan, IsUnnamedHome, IsUnnamedTable, Lives, Names, NamesTable, Removes, home_names, names_in, planned}
+use Rattle.fjall_repair.specs.Sweeps.{NamesAreGone, BringsNoTable, FindsAll, FindsTables, IsSwept, IsSweepPlan, IsUnnamedHome, IsUnnamedTable, KeyspaceLives, TablesNamed, NamesTable, RemovesNames, home_names, names_in, planned}
 use Rattle.fjall_repair.proofs.Apart as Apart
 use Rattle.fjall_files.proofs.OwnEntries.{contains_map}
 use Rattle.fjall_repair.proofs.Removals as Removals
@@ -40,14 +40,14 @@ use Rattle.fjall_repair.proofs.Spared.{IsSpare, spared}
 -- ---- of living keyspaces
 
 -- an id of a keyspace that lives is a u64
-pub lives_small : (s : Keyspaces) → AreKeyspaces s → (id : ℕ) → Lives s.living id → id < 2 ^ 64
+pub lives_small : (s : Keyspaces) → AreKeyspaces s → (id : ℕ) → KeyspaceLives s.living id → id < 2 ^ 64
 lives_small s are id has =
     let below = All-contains (λ (i : ℕ). i < s.next) (map (λ k. k.id) s.living) id (All-map (λ (i : ℕ). i < s.next) (λ k. k.id) s.living are.given) has in
     let fits = are.fits in
     omega (arith, below, fits)
 
 -- and isn't tree 0's
-lives_some : (s : Keyspaces) → AreKeyspaces s → (id : ℕ) → Lives s.living id → id ≢ 0
+lives_some : (s : Keyspaces) → AreKeyspaces s → (id : ℕ) → KeyspaceLives s.living id → id ≢ 0
 lives_some s are id lives none =
     let some : All (λ n. 0 < n) (map (λ (k : LivingKeyspace). k.id) s.living) = All-map (λ (n : ℕ). 0 < n) (λ (k : LivingKeyspace). k.id) s.living are.ids in
     let more : 0 < id = All-contains (λ (n : ℕ). 0 < n) (map (λ (k : LivingKeyspace). k.id) s.living) id some lives in
@@ -60,8 +60,8 @@ zero_test id some = elim (bool_cases (id == 0)) [
 ]
 
 -- a keyspace that is found by its id lives
-pub found_lives : (living : List LivingKeyspace) (id : ℕ) (k : LivingKeyspace) → keyspace_at id living ≡ Some k → Lives living id
-found_lives living id k e = living_has (Lives living) living id k e (λ i d lt. contains_map (λ (j : LivingKeyspace). j.id) living i d lt)
+pub found_lives : (living : List LivingKeyspace) (id : ℕ) (k : LivingKeyspace) → keyspace_at id living ≡ Some k → KeyspaceLives living id
+found_lives living id k e = living_has (KeyspaceLives living) living id k e (λ i d lt. contains_map (λ (j : LivingKeyspace). j.id) living i d lt)
 
 -- what holds of each id of these tables
 each_given : (P : ℕ → Type 0) (next : ℕ) (tables : List TableInfo) → AllByRecursion (IsGiven next) tables → ((n : ℕ) → n < 2 ^ 64 → Contains (map (λ i. i.id) tables) n → P n) → AllByRecursion (λ i. P i.id) tables
@@ -69,23 +69,23 @@ each_given P next tables given to =
     recursion_from_All (λ (i : TableInfo). P i.id) tables (λ k d lt. to (get_or tables k d).id (All-from_recursion (IsGiven next) tables given k d lt).0 (contains_map (λ (i : TableInfo). i.id) tables k d lt))
 
 -- what a home's last record names
-pub names_home : (t : Tree) → AreKeyspaces t.keyspaces → (id : ℕ) (h : Home) → get t.homes id ≡ Some h → Lives t.keyspaces.living id → names_in t id ≡ map (λ i. i.id) h.last.tables
+pub names_home : (t : Tree) → AreKeyspaces t.keyspaces → (id : ℕ) (h : Home) → get t.homes id ≡ Some h → KeyspaceLives t.keyspaces.living id → names_in t id ≡ map (λ i. i.id) h.last.tables
 names_home t are id h is lives =
     let some : id ≢ 0 = lives_some t.keyspaces are id lives in
     ap (λ (b : Bool). map (λ (i : TableInfo). i.id) (if b then listed t.last.table else (last_in (get t.homes id)).tables)) (zero_test id some)
     ∙ ap (λ (o : Option Home). map (λ (i : TableInfo). i.id) (last_in o).tables) is
 
-module _ (state : State) (records : List Fields) (t : Tree) (rests : RestsInTree state records t) where
+module _ (state : DiskState) (records : List Fields) (t : Tree) (rests : RestsInTree state records t) where
   -- the ids of the tables that tree 0's last record names have their place, and were given out
   named_given : AllByRecursion (IsGiven t.last.next_table_id) (listed t.last.table)
   named_given = all_given (fields t.last) (last_record state records t.last t.keyspaces rests.catalog)
 
   -- so have those of a home, which is that of a keyspace that lives
-  home_given : (id : ℕ) (h : Home) → get t.homes id ≡ Some h → Lives t.keyspaces.living id × AllByRecursion (IsGiven h.last.next_table_id) h.last.tables
+  home_given : (id : ℕ) (h : Home) → get t.homes id ≡ Some h → KeyspaceLives t.keyspaces.living id × AllByRecursion (IsGiven h.last.next_table_id) h.last.tables
   home_given id h is = of (keyspace_at id t.keyspaces.living) refl (get t.homes id) is (rests.homes id)
     where
       of : (k : Option LivingKeyspace) → keyspace_at id t.keyspaces.living ≡ k → (there : Option Home) → there ≡ Some h → HasSafeHomeAt state id k there
-          → Lives t.keyspaces.living id × AllByRecursion (IsGiven h.last.next_table_id) h.last.tables
+          → KeyspaceLives t.keyspaces.living id × AllByRecursion (IsGiven h.last.next_table_id) h.last.tables
       of (Some k) e (Some i) is safe =
           let same : i ≡ h = cc in
           (found_lives t.keyspaces.living id k e, subst (λ (j : Home). AllByRecursion (IsGiven j.last.next_table_id) j.last.tables) same (all_given i.last (home_record state id safe.records i safe.rests)))
@@ -94,8 +94,8 @@ module _ (state : State) (records : List Fields) (t : Tree) (rests : RestsInTree
       of None e None is safe = let no : None ≡ Some h = is in cc
 
   -- what holds of each keyspace that lives, and of each table that its record names, holds of each home
-  at_homes : (P : Name → Type 0) → P (codes "keyspaces") → ((id : ℕ) → Lives t.keyspaces.living id → id < 2 ^ 64 → P (keyspace_folder id) × P (current_name id))
-      → ((id n : ℕ) → Lives t.keyspaces.living id → id < 2 ^ 64 → n < 2 ^ 64 → Contains (names_in t id) n → P (table_name id n)) → (id : ℕ) (h : Home) → get t.homes id ≡ Some h → At id h.last.tables P
+  at_homes : (P : Name → Type 0) → P (codes "keyspaces") → ((id : ℕ) → KeyspaceLives t.keyspaces.living id → id < 2 ^ 64 → P (keyspace_folder id) × P (current_name id))
+      → ((id n : ℕ) → KeyspaceLives t.keyspaces.living id → id < 2 ^ 64 → n < 2 ^ 64 → Contains (names_in t id) n → P (table_name id n)) → (id : ℕ) (h : Home) → get t.homes id ≡ Some h → At id h.last.tables P
   at_homes P all to each id h is =
       let here = home_given id h is in
       let small = lives_small t.keyspaces rests.catalog.are id here.0 in
@@ -136,8 +136,8 @@ module _ (state : State) (records : List Fields) (t : Tree) (rests : RestsInTree
           un.unnamed (subst (λ (m : ℕ). Contains (names_in t un.id) m) same.1 (subst (λ (i : ℕ). Contains (names_in t i) n) same.0 has))
 
   module _ (home : OwnFiles) (un : IsUnnamedHome t.keyspaces.living home) where
-    other_id : (id : ℕ) → Lives t.keyspaces.living id → id ≢ un.id
-    other_id id lives e = un.dead (subst (Lives t.keyspaces.living) e lives)
+    other_id : (id : ℕ) → KeyspaceLives t.keyspaces.living id → id ≢ un.id
+    other_id id lives e = un.dead (subst (KeyspaceLives t.keyspaces.living) e lives)
 
     table_of : (P : Name → Type 0) → ((n : ℕ) → n < 2 ^ 64 → P (table_name 0 n)) → AllByRecursion (λ i. P (table_name 0 i.id)) (listed t.last.table)
     table_of P to = each_more (IsGiven t.last.next_table_id) (λ i. P (table_name 0 i.id)) (λ i given. to i.id given.0) (listed t.last.table) named_given
@@ -200,7 +200,7 @@ inner_within : (id : ℕ) (file : Name) → folder_of file ≡ keyspace_folder i
 inner_within id file inside = under_within id file (in_folder (keyspace_folder id) file (λ none. cc) inside)
 
 -- its names are in `keyspaces`
-pub planned_within : (names : Names) (living : List LivingKeyspace) (plan : SweepPlan) → IsPlan names living plan → All (λ name. is_under (codes "keyspaces") name ≡ true) (planned plan)
+pub planned_within : (names : TablesNamed) (living : List LivingKeyspace) (plan : SweepPlan) → IsSweepPlan names living plan → All (λ name. is_under (codes "keyspaces") name ≡ true) (planned plan)
 planned_within names living plan is = planned_all (λ name. is_under (codes "keyspaces") name ≡ true) plan
     (λ i d lt. let un = is.tables i d lt in subst (λ (n : Name). is_under (codes "keyspaces") n ≡ true) (sym un.name_is) (Apart.table_within un.id un.table))
     (λ i d lt. let un = is.homes i d lt in (
@@ -208,9 +208,9 @@ planned_within names living plan is = planned_all (λ name. is_under (codes "key
       λ j e less. inner_within un.id (string_bytes (get_or (get_or plan.homes.items i d).files.items j e)) (un.inside j e less),
     ))
 
-module _ (state : State) (records : List Fields) (t : Tree) (rests : RestsInTree state records t) where
+module _ (state : DiskState) (records : List Fields) (t : Tree) (rests : RestsInTree state records t) where
   -- keyspaces that rest don't rest on any of them
-  pub planned_spare : (plan : SweepPlan) → IsPlan (names_in t) t.keyspaces.living plan → All (IsSpare t) (planned plan)
+  pub planned_spare : (plan : SweepPlan) → IsSweepPlan (names_in t) t.keyspaces.living plan → All (IsSpare t) (planned plan)
   planned_spare plan is = planned_all (IsSpare t) plan
       (λ i d lt. table_spare state records t rests _ (is.tables i d lt))
       (λ i d lt. let un = is.homes i d lt in (
@@ -218,16 +218,16 @@ module _ (state : State) (records : List Fields) (t : Tree) (rests : RestsInTree
         λ j e less. inner_spare state records t rests _ un _ (un.inside j e less),
       ))
 
-  pub spare_run : (plan : SweepPlan) (old new : Meaning) → IsPlan (names_in t) t.keyspaces.living plan → Removes (Contains (planned plan)) old new → Removes (IsSpare t) old new
+  pub spare_run : (plan : SweepPlan) (old new : Meaning) → IsSweepPlan (names_in t) t.keyspaces.living plan → RemovesNames (Contains (planned plan)) old new → RemovesNames (IsSpare t) old new
   spare_run plan old new is run = Removals.weaker (Contains (planned plan)) (IsSpare t) old new (λ name has. All-contains (IsSpare t) (planned plan) name (planned_spare plan is) has) run
 
-pub within_run : (names : Names) (living : List LivingKeyspace) (plan : SweepPlan) (old new : Meaning) → IsPlan names living plan → Removes (Contains (planned plan)) old new → Within (codes "keyspaces") old new
+pub within_run : (names : TablesNamed) (living : List LivingKeyspace) (plan : SweepPlan) (old new : Meaning) → IsSweepPlan names living plan → RemovesNames (Contains (planned plan)) old new → Within (codes "keyspaces") old new
 within_run names living plan old new is run =
     Removals.within (Contains (planned plan)) (codes "keyspaces") old new (λ name has. All-contains (λ n. is_under (codes "keyspaces") n ≡ true) (planned plan) name (planned_within names living plan is) has) run
 
 -- ---- the ids that are free
 
-missing_or_not : (entry : Entry) → (entry ≡ Missing) ⊎ (entry ≢ Missing)
+missing_or_not : (entry : DiskEntry) → (entry ≡ Missing) ⊎ (entry ≢ Missing)
 missing_or_not Missing = inl refl
 missing_or_not (File synced unsynced) = inr (λ e. let no : File synced unsynced ≡ Missing = e in cc)
 missing_or_not Folder = inr (λ e. let no : Folder ≡ Missing = e in cc)
@@ -239,7 +239,7 @@ named_below t id given has =
     (All-map (λ n. n < t.last.next_table_id) (λ (i : TableInfo). i.id) (listed t.last.table) (λ k d lt. (All-from_recursion (IsGiven t.last.next_table_id) (listed t.last.table) given k d lt).1)) has
 
 pub tables_free : (old new : Meaning) (records : List Fields) (t : Tree) (plan : SweepPlan) → RestsInTree (state_in old) records t → FindsTables (state_in old) (names_in t) (map string_bytes plan.tables.items)
-    → Removes (Contains (planned plan)) old new → AreGone (state_in new) (planned plan) → IsFree (state_in new) 0 t.last.next_table_id
+    → RemovesNames (Contains (planned plan)) old new → NamesAreGone (state_in new) (planned plan) → IsFree (state_in new) 0 t.last.next_table_id
 tables_free old new records t plan rests finds run gone id least small = elim (missing_or_not (state_in old (table_name 0 id)).now) [
   | inl none ↦ Removals.stays_missing (Contains (planned plan)) old new (table_name 0 id) run none
   | inr some ↦ ⊎_elim
@@ -250,7 +250,7 @@ tables_free old new records t plan rests finds run gone id least small = elim (m
 ]
 
 pub swept : (old new : Meaning) (records : List Fields) (t : Tree) (plan : SweepPlan) (r : Result Unit Error) → RestsInTree (state_in old) records t → FindsTables (state_in old) (names_in t) (map string_bytes plan.tables.items)
-    → IsPlan (names_in t) t.keyspaces.living plan → Removes (Contains (planned plan)) old new → OnOk r (AreGone (state_in new) (planned plan)) → OnOk r (LiesInTree (state_in new) records t)
+    → IsSweepPlan (names_in t) t.keyspaces.living plan → RemovesNames (Contains (planned plan)) old new → OnOk r (NamesAreGone (state_in new) (planned plan)) → OnOk r (LiesInTree (state_in new) records t)
 swept old new records t plan (Ok done) rests finds is run gone = record {
   rests = spared records t old new (spare_run (state_in old) records t rests plan old new is run) rests;
   free = tables_free old new records t plan rests finds run gone;
@@ -259,13 +259,13 @@ swept old new records t plan (Err e) rests finds is run gone = tt
 
 -- ---- what is left
 
-module _ (old new : State) (last : Catalog) (living : List LivingKeyspace) (names : Names) (ids : List ℕ) (plan : SweepPlan) (finds : FindsAll old names living ids plan) (are : AreFolderIds (standing old) ids) (gone : AreGone new (planned plan))
-    (small : (id : ℕ) → Lives living id → id < 2 ^ 64) (brings : BringsNoTable old new)
-    (tree : (n : ℕ) → Contains (names 0) n → option_map (λ table. table.id) last.table ≡ Some n) (named : (id n : ℕ) → Lives living id → Contains (names id) n → NamesTable (standing old) id n) where
+module _ (old new : DiskState) (last : Catalog) (living : List LivingKeyspace) (names : TablesNamed) (ids : List ℕ) (plan : SweepPlan) (finds : FindsAll old names living ids plan) (are : AreFolderIds (standing old) ids) (gone : NamesAreGone new (planned plan))
+    (small : (id : ℕ) → KeyspaceLives living id → id < 2 ^ 64) (brings : BringsNoTable old new)
+    (tree : (n : ℕ) → Contains (names 0) n → option_map (λ table. table.id) last.table ≡ Some n) (named : (id n : ℕ) → KeyspaceLives living id → Contains (names id) n → NamesTable (standing old) id n) where
   at_planned : (name : Name) → Contains (planned plan) name → (new name).now ≡ Missing
   at_planned name has = All-contains (λ (n : Name). (new n).now ≡ Missing) (planned plan) name (All-from_recursion (λ (n : Name). (new n).now ≡ Missing) (planned plan) gone) has
 
-  found : (id : ℕ) → id < 2 ^ 64 → id ≢ 0 → (Lives living id → ⊥) → (old (keyspace_folder id)).now ≡ Folder → HoldsOnlyOwn old id → Any (AreOwnFiles old id) plan.homes.items
+  found : (id : ℕ) → id < 2 ^ 64 → id ≢ 0 → (KeyspaceLives living id → ⊥) → (old (keyspace_folder id)).now ≡ Folder → HoldsOnlyOwn old id → Any (AreOwnFiles old id) plan.homes.items
   found id fits some dead stands holds = finds.homes id ((are.each id).1 (fits, stands)) some dead holds
 
   -- a name of a home that is planned

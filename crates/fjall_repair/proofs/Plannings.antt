@@ -16,7 +16,7 @@ use Rattle.fjall_recovery.specs.Journals.{AreJournalIds}
 use Rattle.fjall_repair.specs.declared.beginning.plan.FileState.{FileState}
 use Rattle.fjall_repair.specs.declared.beginning.plan.BeginPlan.{BeginPlan}
 use Rattle.fjall_repair.specs.Begun.{IsActive}
-use Rattle.fjall_repair.specs.Plans.{AreToBe, IsFound, IsPlan, first_text}
+use Rattle.fjall_repair.specs.Plans.{AreToBe, IsBeginPlan, IsFound, first_text}
 
 pub found_to_be : (image : Image) (ids : List ℕ) → AreJournalIds image ids → ids ≢ [] → AreToBe image ids
 found_to_be image ids are some = record {
@@ -77,7 +77,7 @@ found_along found bytes other image one name same at_bytes at_image at_name is =
 
 pub plan_of : (image one two : Image) (plan : BeginPlan) (ids wanted bytes : List ℕ) → one ≡ image → two ≡ image → ids ≡ plan.sealed.items ++ plan.active ∷ [] → map string_bytes plan.journals.items ≡ map journal_name ids → AreToBe image ids
     → plan.first.items ≡ first_text → wanted ≡ plan.first.items → IsFound plan.records wanted (text_in (one (codes "keyspaces/0/current")))
-    → plan.header.items ≡ header V3 → bytes ≡ plan.header.items → IsFound plan.marker bytes (text_in (two (codes "version"))) → IsPlan image plan
+    → plan.header.items ≡ header V3 → bytes ≡ plan.header.items → IsFound plan.marker bytes (text_in (two (codes "version"))) → IsBeginPlan image plan
 plan_of image one two plan ids wanted bytes at_one at_two is names to_be first wanted_is records header_is bytes_is marker = record {
   names = names ∙ ap (λ (l : List ℕ). map journal_name l) is;
   to_be = subst (AreToBe image) is to_be;

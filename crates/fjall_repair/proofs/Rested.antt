@@ -7,29 +7,29 @@ use Rattle.std.specs.FinMap.{get}
 use Rattle.std.proofs.lemmas.List.{append-nil, get_or_default, length-append, length-drop, map-append, nil_from_length, take_all, take_at}
 use Rattle.std.proofs.Math.Seq.{get_or-append_right}
 use Rattle.fjall_base.specs.Crash.{keeping}
-use Rattle.fjall_base.specs.Disk.{Name, Entry, Missing, File, Folder, State, Image, IsFile, IsNoFile, IsNoFolder, IsThere, folder_of}
+use Rattle.fjall_base.specs.Disk.{Name, DiskEntry, Missing, File, Folder, DiskState, Image, IsFile, IsNoFile, IsNoFolder, IsThere, folder_of}
 use Rattle.fjall_files.specs.Regions.{IsSafe}
 use Rattle.fjall_journal.specs.declared.batch.Tail.TheVariants.{Clean, Torn}
 use Rattle.fjall_journal.specs.Batches.{Written, IsWritten, shown}
 use Rattle.fjall_table.specs.declared.table_info.TableInfo.{TableInfo}
-use Rattle.fjall_tree.specs.Records.{Fields, IsRecord, IsRecords, record_text}
+use Rattle.fjall_manifest.specs.Records.{Fields, IsRecord, IsRecords, record_text}
 use Rattle.fjall_base.specs.Lists.{last_of}
 use Rattle.fjall_files.specs.Texts.{text_in}
 use Rattle.fjall_base.proofs.Lists.{last_behind}
 use Rattle.fjall_files.specs.Marker.{marker_tells}
 use Rattle.fjall_files.specs.Names.{journal_name, keyspace_folder, current_name, table_name}
-use Rattle.fjall_home.specs.Homes as homes
-use Rattle.fjall_home.specs.Homes.{AreSafe, HasHome, HoldTables, HoldsText, Home, only, records_text}
-use Rattle.fjall_home.proofs.Resting.{IsGiven, all_given, each_more, last_has}
-use Rattle.fjall_versions.specs.Replays.{first_fault}
-use Rattle.fjall_catalog.specs.Catalog.{Rests, home_of}
+use Rattle.fjall_manifest.specs.Homes as homes
+use Rattle.fjall_manifest.specs.Homes.{AreSafe, HasHome, HoldTables, HoldsText, Home, only, records_text}
+use Rattle.fjall_manifest.proofs.Resting.{IsGiven, all_given, each_more, last_has}
+use Rattle.fjall_contents.specs.Replays.{first_fault}
+use Rattle.fjall_catalog.specs.Catalog.{CatalogRests, home_of}
 use Rattle.fjall_recovery.specs.Folders.{Contents, IsOpenable, file_bytes}
 use Rattle.fjall_recovery.specs.Homes.{HasOpenableHome, HaveVersions}
-use Rattle.fjall_recovery.specs.Journals.{Journal, ReadsAs, AreRead, batches_in, journal_text}
+use Rattle.fjall_recovery.specs.Journals.{WholeJournal, ReadsAs, AreJournalsRead, batches_in, journal_text}
 use Rattle.fjall_recovery.specs.Places.{HasSafeHome, IsNeverFile, Journaling, LiesInRoot, RestsInTree, journal_ids, journals_with, texts_of}
 use Rattle.fjall_recovery.proofs.Housing.{is_housed}
 use Rattle.fjall_repair.specs.Steps.{IsRested, IsSynced, active_of, sealed_of}
-use Rattle.fjall_repair.specs.Sweeps.{Lives}
+use Rattle.fjall_repair.specs.Sweeps.{KeyspaceLives}
 use Rattle.fjall_repair.proofs.Naming.{folder_of-journal, folder_of-folder, folder_of-current, folder_of-table}
 use Rattle.fjall_repair.proofs.Halving.{tree_of}
 use Rattle.fjall_repair.proofs.Homing.{HasCounts, catalog_counts, open_counts}
@@ -52,54 +52,54 @@ sealed_first : (xs : List ℕ) (x : ℕ) → sealed_of (xs ++ x ∷ []) ≡ xs
 sealed_first xs x = let all = length-append xs (x ∷ []) in take_at xs (x ∷ []) (length (xs ++ x ∷ []) - 1) (omega arith)
 
 -- the sealed journals, and the active one
-pub record Parted (journals : List Journal) : Type 0 where
-  pub sealed : List Journal
-  pub active : Journal
+pub record Parted (journals : List WholeJournal) : Type 0 where
+  pub sealed : List WholeJournal
+  pub active : WholeJournal
   pub is : journals ≡ sealed ++ active ∷ []
 
-pub parted : (j : Journal) (journals : List Journal) → Parted (j ∷ journals)
+pub parted : (j : WholeJournal) (journals : List WholeJournal) → Parted (j ∷ journals)
 parted j [] = record { sealed = []; active = j; is = refl }
-parted j (k ∷ journals) = let rest = parted k journals in record { sealed = j ∷ rest.sealed; active = rest.active; is = ap (λ (l : List Journal). j ∷ l) rest.is }
+parted j (k ∷ journals) = let rest = parted k journals in record { sealed = j ∷ rest.sealed; active = rest.active; is = ap (λ (l : List WholeJournal). j ∷ l) rest.is }
 
-ids_parted : (sealed : List Journal) (a : Journal) → ids_of (sealed ++ a ∷ []) ≡ ids_of sealed ++ a.id ∷ []
-ids_parted sealed a = map-append (λ (j : Journal). j.id) sealed (a ∷ [])
+ids_parted : (sealed : List WholeJournal) (a : WholeJournal) → ids_of (sealed ++ a ∷ []) ≡ ids_of sealed ++ a.id ∷ []
+ids_parted sealed a = map-append (λ (j : WholeJournal). j.id) sealed (a ∷ [])
 
-pub active_parted : (journals : List Journal) (p : Parted journals) → active_of (ids_of journals) ≡ p.active.id
+pub active_parted : (journals : List WholeJournal) (p : Parted journals) → active_of (ids_of journals) ≡ p.active.id
 active_parted journals p = ap (λ js. active_of (ids_of js)) p.is ∙ ap active_of (ids_parted p.sealed p.active) ∙ active_last (ids_of p.sealed) p.active.id
 
-pub sealed_parted : (journals : List Journal) (p : Parted journals) → sealed_of (ids_of journals) ≡ ids_of p.sealed
+pub sealed_parted : (journals : List WholeJournal) (p : Parted journals) → sealed_of (ids_of journals) ≡ ids_of p.sealed
 sealed_parted journals p = ap (λ js. sealed_of (ids_of js)) p.is ∙ ap sealed_of (ids_parted p.sealed p.active) ∙ sealed_first (ids_of p.sealed) p.active.id
 
-pub last_parted : (journals : List Journal) (p : Parted journals) → last_of journals ≡ Some p.active
+pub last_parted : (journals : List WholeJournal) (p : Parted journals) → last_of journals ≡ Some p.active
 last_parted journals p = ap last_of p.is ∙ last_behind p.sealed p.active
 
 -- ---- entries of which a crash leaves so many bytes
 
-kept_folder : (k : ℕ) (e : Entry) → keeping k e ≡ Folder → e ≡ Folder
+kept_folder : (k : ℕ) (e : DiskEntry) → keeping k e ≡ Folder → e ≡ Folder
 kept_folder k Missing is = let bad : ⊥ = cc in absurd bad
 kept_folder k (File synced unsynced) is = let bad : ⊥ = cc in absurd bad
 kept_folder k Folder is = refl
 
-kept_file : (k : ℕ) (e : Entry) → IsFile e → IsFile (keeping k e)
+kept_file : (k : ℕ) (e : DiskEntry) → IsFile e → IsFile (keeping k e)
 kept_file k Missing file = absurd file
 kept_file k Folder file = absurd file
 kept_file k (File synced unsynced) file = tt
 
-no_file : (e : Entry) → (IsFile e → ⊥) → IsNoFile e
+no_file : (e : DiskEntry) → (IsFile e → ⊥) → IsNoFile e
 no_file Missing none = tt
 no_file Folder none = tt
 no_file (File synced unsynced) none = none tt
 
-no_folder : (e : Entry) → (e ≡ Folder → ⊥) → IsNoFolder e
+no_folder : (e : DiskEntry) → (e ≡ Folder → ⊥) → IsNoFolder e
 no_folder Missing none = tt
 no_folder Folder none = none refl
 no_folder (File synced unsynced) none = tt
 
-kept_synced : (e : Entry) (bytes : List ℕ) → e ≡ File bytes [] → keeping 0 e ≡ File bytes []
+kept_synced : (e : DiskEntry) (bytes : List ℕ) → e ≡ File bytes [] → keeping 0 e ≡ File bytes []
 kept_synced e bytes is = ap (keeping 0) is ∙ ap (λ l. File l []) (append-nil bytes)
 
 -- a file of which a crash leaves the same count of bytes whatever it keeps is synced
-same_whole : (e : Entry) (count : ℕ) → IsFile e → ((k : ℕ) → length (text_in (keeping k e)) ≡ count) → (bytes : List ℕ) × (e ≡ File bytes []) × (text_in (keeping 0 e) ≡ bytes)
+same_whole : (e : DiskEntry) (count : ℕ) → IsFile e → ((k : ℕ) → length (text_in (keeping k e)) ≡ count) → (bytes : List ℕ) × (e ≡ File bytes []) × (text_in (keeping 0 e) ≡ bytes)
 same_whole Missing count file same = absurd file
 same_whole Folder count file same = absurd file
 same_whole (File synced unsynced) count file same =
@@ -113,8 +113,8 @@ same_whole (File synced unsynced) count file same =
 
 -- ---- lists of journals
 
-read_parts : (image : Image) (js : List Journal) (a : Journal) → AreRead image (js ++ a ∷ [])
-    → AllByRecursion (λ (j : Journal). ReadsAs (journal_text image j.id) j.batches Clean) js × (ReadsAs (journal_text image a.id) a.batches Clean ⊎ ReadsAs (journal_text image a.id) a.batches Torn)
+read_parts : (image : Image) (js : List WholeJournal) (a : WholeJournal) → AreJournalsRead image (js ++ a ∷ [])
+    → AllByRecursion (λ (j : WholeJournal). ReadsAs (journal_text image j.id) j.batches Clean) js × (ReadsAs (journal_text image a.id) a.batches Clean ⊎ ReadsAs (journal_text image a.id) a.batches Torn)
 read_parts image [] a read = (tt, read)
 read_parts image (j ∷ []) a read = ((read.0, tt), read.1)
 read_parts image (j ∷ k ∷ js) a read = let rest = read_parts image (k ∷ js) a read.1 in ((read.0, rest.0), rest.1)
@@ -127,7 +127,7 @@ pub each_front : {A : Type 0} (P : A → Type 0) (xs ys : List A) → AllByRecur
 each_front P [] ys all = tt
 each_front P (x ∷ xs) ys all = (all.0, each_front P xs ys all.1)
 
-written_all : (image : Image) (js : List Journal) → AreRead image js → AllByRecursion IsWritten (batches_in js)
+written_all : (image : Image) (js : List WholeJournal) → AreJournalsRead image js → AllByRecursion IsWritten (batches_in js)
 written_all image [] read = tt
 written_all image (j ∷ []) read = each_both IsWritten j.batches [] (⊎_elim (λ clean. clean.whole.each) (λ torn. torn.whole.each) read) tt
 written_all image (j ∷ k ∷ js) read = each_both IsWritten j.batches (batches_in (k ∷ js)) read.0.whole.each (written_all image (k ∷ js) read.1)
@@ -144,7 +144,7 @@ short_text text bs short (inr torn) = let n = whole_length text bs torn.end torn
 
 -- ---- a disk at rest
 
-module _ (s : State) (c : Contents) (rest : IsRested s c) where
+module _ (s : DiskState) (c : Contents) (rest : IsRested s c) where
   abbrev pub image : Image
   image = left 0 s
 
@@ -163,15 +163,15 @@ module _ (s : State) (c : Contents) (rest : IsRested s c) where
   whole_text : (q : Name) (bytes : List ℕ) → IsThere image (folder_of q) → (s q).now ≡ File bytes [] → text_in (image q) ≡ bytes
   whole_text q bytes there is = ap text_in (seen q there ∙ kept_synced (s q).now bytes is) ∙ append-nil bytes
 
-  small_ids : AllByRecursion (λ (j : Journal). j.id < 2 ^ 64) c.journals
+  small_ids : AllByRecursion (λ (j : WholeJournal). j.id < 2 ^ 64) c.journals
   small_ids = fits_all c.journals (λ id has. ((sound.journals.ids.each id).0 has).0)
 
   never : (q : Name) → folder_of q ≡ [] → (IsFile (image q) → ⊥) → IsNeverFile (s q)
   never q root none =
-      subst (λ (es : List Entry). AllByRecursion IsNoFile ((s q).now ∷ es)) (sym (rest.root q root)) (no_file (s q).now (λ file. none (subst IsFile (sym (in_root q root)) (kept_file 0 (s q).now file))), tt)
+      subst (λ (es : List DiskEntry). AllByRecursion IsNoFile ((s q).now ∷ es)) (sym (rest.root q root)) (no_file (s q).now (λ file. none (subst IsFile (sym (in_root q root)) (kept_file 0 (s q).now file))), tt)
 
-  sealed_safe : (js : List Journal) → AllByRecursion (λ (j : Journal). j.id < 2 ^ 64) js → AllByRecursion (λ f. IsSynced (s f).now) (map journal_name (ids_of js)) → AllByRecursion (λ (j : Journal). ReadsAs (journal_text image j.id) j.batches Clean) js
-      → AllByRecursion (λ (j : Journal). IsSafe s (journal_name j.id) (texts_of j.batches)) js
+  sealed_safe : (js : List WholeJournal) → AllByRecursion (λ (j : WholeJournal). j.id < 2 ^ 64) js → AllByRecursion (λ f. IsSynced (s f).now) (map journal_name (ids_of js)) → AllByRecursion (λ (j : WholeJournal). ReadsAs (journal_text image j.id) j.batches Clean) js
+      → AllByRecursion (λ (j : WholeJournal). IsSafe s (journal_name j.id) (texts_of j.batches)) js
   sealed_safe [] small synced read = tt
   sealed_safe (j ∷ js) small synced read =
       let root = folder_of-journal j.id small.0 in
@@ -184,10 +184,10 @@ module _ (s : State) (c : Contents) (rest : IsRested s c) where
     journaling = record { sealed = p.sealed; active = p.active.id; whole = p.active.batches; later = []; cut = 0 }
 
     pub with_is : journals_with journaling [] ≡ c.journals
-    with_is = ap (λ (bs : List Written). p.sealed ++ (let r : Journal = record { id = p.active.id; batches = bs } in r) ∷ []) (append-nil p.active.batches) ∙ sym p.is
+    with_is = ap (λ (bs : List Written). p.sealed ++ (let r : WholeJournal = record { id = p.active.id; batches = bs } in r) ∷ []) (append-nil p.active.batches) ∙ sym p.is
 
     active_small : p.active.id < 2 ^ 64
-    active_small = last_has (λ (j : Journal). j.id < 2 ^ 64) c.journals p.active small_ids (last_parted c.journals p)
+    active_small = last_has (λ (j : WholeJournal). j.id < 2 ^ 64) c.journals p.active small_ids (last_parted c.journals p)
 
     ids_same : journal_ids journaling ≡ ids_of c.journals
     ids_same = ap ids_of with_is
@@ -196,7 +196,7 @@ module _ (s : State) (c : Contents) (rest : IsRested s c) where
     lies_in_root =
         let marker = rest.whole.0 in
         let marker_text : text_in (image (codes "version")) ≡ marker.0 = whole_text (codes "version") marker.0 (inl refl) marker.1 in
-        let parts = read_parts image p.sealed p.active (subst (AreRead image) p.is sound.journals.read) in
+        let parts = read_parts image p.sealed p.active (subst (AreJournalsRead image) p.is sound.journals.read) in
         let active_root = folder_of-journal p.active.id active_small in
         let active_synced : IsSynced (s (journal_name p.active.id)).now = subst (λ (n : ℕ). IsSynced (s (journal_name n)).now) (active_parted c.journals p) rest.ended.0 in
         let active_text : text_in (image (journal_name p.active.id)) ≡ active_synced.0 = whole_text (journal_name p.active.id) active_synced.0 (inl active_root) active_synced.1 in
@@ -212,7 +212,7 @@ module _ (s : State) (c : Contents) (rest : IsRested s c) where
           ascending = subst IsStrictlyIncreasing (sym ids_same) sound.journals.ids.ascending;
           fit = subst (All (λ id. id < 2 ^ 64)) (sym ids_same) (λ k d lt. ((sound.journals.ids.each (get_or (ids_of c.journals) k d)).0 (k, lt, get_or_default (ids_of c.journals) k _ d lt)).0);
           others = λ id small none. never (journal_name id) (folder_of-journal id small) (λ file. none (subst (λ (ids : List ℕ). Contains ids id) (sym ids_same) ((sound.journals.ids.each id).1 (small, file))));
-          sealed = sealed_safe p.sealed (each_front (λ (j : Journal). j.id < 2 ^ 64) p.sealed (p.active ∷ []) (subst (AllByRecursion (λ (j : Journal). j.id < 2 ^ 64)) p.is small_ids))
+          sealed = sealed_safe p.sealed (each_front (λ (j : WholeJournal). j.id < 2 ^ 64) p.sealed (p.active ∷ []) (subst (AllByRecursion (λ (j : WholeJournal). j.id < 2 ^ 64)) p.is small_ids))
               (subst (λ (ids : List ℕ). AllByRecursion (λ f. IsSynced (s f).now) (map journal_name ids)) (sealed_parted c.journals p) rest.whole.1) parts.0;
           active = safe (journal_name p.active.id) (texts_of p.active.batches) (active_synced.1 ∙ ap (λ l. File l []) active_is) (rest.root (journal_name p.active.id) active_root);
           written = subst (λ js. AllByRecursion IsWritten (batches_in js)) (sym with_is) (written_all image c.journals sound.journals.read);
@@ -231,7 +231,7 @@ module _ (s : State) (c : Contents) (rest : IsRested s c) where
       lost : (IsThere image (folder_of q) → ⊥) → IsThere image (folder_of q)
       lost none = let no : Missing ≡ Folder = sym ((left_is 0 s).lost q none) ∙ is in let bad : ⊥ = cc in absurd bad
 
-      stands : (folder : Name) (entry : Entry) → folder_of q ≡ folder → image folder ≡ entry → (folder ≡ [] → ⊥) → IsThere image (folder_of q)
+      stands : (folder : Name) (entry : DiskEntry) → folder_of q ≡ folder → image folder ≡ entry → (folder ≡ [] → ⊥) → IsThere image (folder_of q)
       stands folder Folder at here some = inr (ap image at ∙ here)
       stands folder Missing at here some = lost (λ there. ⊎_elim (λ root. some (sym at ∙ root)) (λ folder_is. let no : Missing ≡ Folder = sym here ∙ ap image (sym at) ∙ folder_is in let bad : ⊥ = cc in bad) there)
       stands folder (File a u) at here some = lost (λ there. ⊎_elim (λ root. some (sym at ∙ root)) (λ folder_is. let no : File a u ≡ Folder = sym here ∙ ap image (sym at) ∙ folder_is in let bad : ⊥ = cc in bad) there)
@@ -286,12 +286,12 @@ module _ (s : State) (c : Contents) (rest : IsRested s c) where
     table_safe n bytes fits all here =
         let name = table_name id n in
         let at : (k : ℕ) → left k s name ≡ keeping k (s name).now = λ k. left_there k s name (subst (IsThere (left k s)) (sym (folder_of-table id n fits)) (inr (all k).0)) in
-        let counts : (k : ℕ) → length (text_in (keeping k (s name).now)) ≡ length bytes = λ k. (let one = (all k).1 in ap (λ (e : Entry). length (text_in e)) (sym (at k)) ∙ ap length one.1.1 ∙ one.2) in
+        let counts : (k : ℕ) → length (text_in (keeping k (s name).now)) ≡ length bytes = λ k. (let one = (all k).1 in ap (λ (e : DiskEntry). length (text_in e)) (sym (at k)) ∙ ap length one.1.1 ∙ one.2) in
         let whole = same_whole (s name).now (length bytes) (was_file (s name).now (subst IsFile (at 0) here.0)) counts in
         let text : whole.0 ≡ bytes = sym whole.2 ∙ ap text_in (sym (at 0)) ∙ here.1 in
         safe name bytes (whole.1 ∙ ap (λ l. File l []) text) (inside name (folder_of-table id n fits))
       where
-        was_file : (e : Entry) → IsFile (keeping 0 e) → IsFile e
+        was_file : (e : DiskEntry) → IsFile (keeping 0 e) → IsFile e
         was_file Missing file = file
         was_file Folder file = file
         was_file (File synced unsynced) file = tt
@@ -332,7 +332,7 @@ module _ (s : State) (c : Contents) (rest : IsRested s c) where
   others : (k : ℕ) → IsOpenable (left k s) c
   others k = rest.images (left k s) (left_is k s)
 
-  catalog_rests : Rests s sound.records c.last c.keyspaces
+  catalog_rests : CatalogRests s sound.records c.last c.keyspaces
   catalog_rests =
       let says = sound.catalog in
       record {
@@ -345,14 +345,14 @@ module _ (s : State) (c : Contents) (rest : IsRested s c) where
       }
 
   -- the same home is there in what another crash leaves
-  home_counts : (id : ℕ) (h : Home) → Lives c.keyspaces.living id → get c.homes id ≡ Some h → HasOpenableHome image id h → (k : ℕ) → HasCounts (left k s) id h
+  home_counts : (id : ℕ) (h : Home) → KeyspaceLives c.keyspaces.living id → get c.homes id ≡ Some h → HasOpenableHome image id h → (k : ℕ) → HasCounts (left k s) id h
   home_counts id h lives at stands k =
       let there = is_housed (left k s) c.keyspaces.living c.homes id (others k).homes (lives_found c.keyspaces.living id lives) in
       let both : Some there.0 ≡ Some h = sym there.1 ∙ at in
       let same : there.0 ≡ h = cc in
       open_counts image (left k s) id h there.0 stands (ap (λ (i : Home). i.last) same) there.2
 
-  safe_home : (id : ℕ) (h : Home) → Lives c.keyspaces.living id → get c.homes id ≡ Some h → HasOpenableHome image id h → HasSafeHome s id h
+  safe_home : (id : ℕ) (h : Home) → KeyspaceLives c.keyspaces.living id → get c.homes id ≡ Some h → HasOpenableHome image id h → HasSafeHome s id h
   safe_home id h lives at stands = record {
     records = stands.records;
     rests = home_rests id (with_living c.keyspaces.living id lives) stands.records h stands.home (home_counts id h lives at stands);
@@ -363,7 +363,7 @@ module _ (s : State) (c : Contents) (rest : IsRested s c) where
 
   pub rests_in_tree : HaveVersions c.homes c.versions → RestsInTree s sound.records (tree_of c)
   rests_in_tree have = record {
-    named = λ name inside none. subst (λ (es : List Entry). AllByRecursion IsNoFolder ((s name).now ∷ es)) (sym (rest.folders.0 name inside))
+    named = λ name inside none. subst (λ (es : List DiskEntry). AllByRecursion IsNoFolder ((s name).now ∷ es)) (sym (rest.folders.0 name inside))
         (no_folder (s name).now (λ folder. sound.keyspaces_named name inside (names_left (codes "keyspaces") (inr keyspaces_there) name inside ∙ ap (keeping 0) folder) none), tt);
     catalog = catalog_rests;
     made = sound.made;

@@ -3,26 +3,26 @@ use Rattle.std.proofs.Common.{◌≡◌, inl, inr, ⊎_elim, ℕ, ◌<◌, ◌^�
 use Rattle.std.specs.Prelude.{◌↔◌, Contains}
 use Rattle.std.specs.List.{AllByRecursion}
 use Rattle.std.proofs.lemmas.List.{take_all, length-take}
-use Rattle.fjall_base.specs.Disk.{Name, Entry, Missing, File, Folder, State, Image, IsFile, IsImage, IsThere, Survives, SomeSurvives, folder_of, standing}
+use Rattle.fjall_base.specs.Disk.{Name, DiskEntry, Missing, File, Folder, DiskState, Image, IsFile, IsImage, IsThere, Survives, SomeSurvives, folder_of, standing}
 use Rattle.fjall_base.proofs.States.{survives_whole}
 use Rattle.fjall_files.specs.Texts.{text_in}
 use Rattle.fjall_table.specs.declared.table_info.TableInfo.{TableInfo}
-use Rattle.fjall_tree.specs.Records.{Fields, IsRecord, IsRecords}
+use Rattle.fjall_manifest.specs.Records.{Fields, IsRecord, IsRecords}
 use Rattle.fjall_files.specs.Names.{journal_name, keyspace_folder, current_name, table_name}
-use Rattle.fjall_home.specs.Homes.{HasFiles, HoldTables, HoldsText, Home}
-use Rattle.fjall_home.proofs.Meanings as homes
-use Rattle.fjall_home.proofs.Resting.{IsGiven, all_given, each_more, last_has}
+use Rattle.fjall_manifest.specs.Homes.{HasFiles, HoldTables, HoldsText, Home}
+use Rattle.fjall_manifest.proofs.Meanings as homes
+use Rattle.fjall_manifest.proofs.Resting.{IsGiven, all_given, each_more, last_has}
 use Rattle.fjall_meta.specs.Keyspaces.{Keyspaces}
 use Rattle.fjall_catalog.specs.Catalog.{home_of}
 use Rattle.fjall_catalog.specs.Catalog as catalog
 use Rattle.fjall_catalog.proofs.Meanings.{last_one, one_catalog}
 use Rattle.fjall_recovery.specs.Folders.{Contents, IsOpenable, file_bytes}
 use Rattle.fjall_recovery.specs.Homes.{HasOpenableHome}
-use Rattle.fjall_recovery.specs.Journals.{Journal, journal_text}
+use Rattle.fjall_recovery.specs.Journals.{WholeJournal, journal_text}
 use Rattle.fjall_recovery.proofs.Alike.{sound_by}
 use Rattle.fjall_recovery.proofs.Housing.{is_housed}
 use Rattle.fjall_repair.specs.Steps.{IsSynced, active_of, ended_names, folder_names, whole_names}
-use Rattle.fjall_repair.specs.Sweeps.{Lives}
+use Rattle.fjall_repair.specs.Sweeps.{KeyspaceLives}
 use Rattle.fjall_repair.proofs.Naming.{folder_of-journal, folder_of-current, folder_of-table}
 use Rattle.fjall_repair.proofs.Homing.{HasCounts, catalog_counts, open_counts}
 use Rattle.fjall_repair.proofs.Items.{contains_map, each_in}
@@ -34,7 +34,7 @@ use Rattle.fjall_repair.proofs.Carrying.{survived_text}
 
 -- ---- what survives of an entry
 
-pub file_survives : (e left : Entry) → Survives e left → IsFile left ↔ IsFile e
+pub file_survives : (e left : DiskEntry) → Survives e left → IsFile left ↔ IsFile e
 file_survives Missing left is = ((λ f. absurd (subst IsFile is f)), (λ f. absurd f))
 file_survives Folder left is = ((λ f. absurd (subst IsFile is f)), (λ f. absurd f))
 file_survives (File synced unsynced) left some = ((λ f. tt), (λ f. subst IsFile (sym some.1) tt))
@@ -47,43 +47,43 @@ same_by_length text part n count is all some =
 
 -- ---- an image of a disk on which all that counts is synced
 
-module _ (s : State) (c : Contents) (sound : IsOpenable (standing s) c) (root : (q : Name) → folder_of q ≡ [] → (s q).older ≡ [])
+module _ (s : DiskState) (c : Contents) (sound : IsOpenable (standing s) c) (root : (q : Name) → folder_of q ≡ [] → (s q).older ≡ [])
     (folders : AllByRecursion (λ f. (q : Name) → folder_of q ≡ f → (s q).older ≡ []) (folder_names (map (λ k. k.id) c.keyspaces.living)))
     (whole : AllByRecursion (λ f. IsSynced (s f).now) (whole_names (ids_of c.journals)))
     (ended : AllByRecursion (λ f. IsSynced (s f).now) (ended_names (active_of (ids_of c.journals)) (map (λ k. k.id) c.keyspaces.living)))
     (image : Image) (is : IsImage s image) (d : Contents) (other : IsOpenable image d) where
   seen : (q : Name) → IsThere image (folder_of q) → (s q).older ≡ [] → Survives (s q).now (image q)
-  seen q there older = ⊎_elim (λ here. here) (λ was. absurd (subst (λ (es : List Entry). SomeSurvives es (image q)) older was)) (is.kept q there)
+  seen q there older = ⊎_elim (λ here. here) (λ was. absurd (subst (λ (es : List DiskEntry). SomeSurvives es (image q)) older was)) (is.kept q there)
 
   synced_seen : (q : Name) → IsThere image (folder_of q) → (s q).older ≡ [] → IsSynced (s q).now → image q ≡ (s q).now
-  synced_seen q there older (bytes, at) = survives_whole bytes (image q) (subst (λ (e : Entry). Survives e (image q)) at (seen q there older)) ∙ sym at
+  synced_seen q there older (bytes, at) = survives_whole bytes (image q) (subst (λ (e : DiskEntry). Survives e (image q)) at (seen q there older)) ∙ sym at
 
   -- ---- the root
 
-  small_ids : AllByRecursion (λ (j : Journal). j.id < 2 ^ 64) c.journals
+  small_ids : AllByRecursion (λ (j : WholeJournal). j.id < 2 ^ 64) c.journals
   small_ids = fits_all c.journals (λ id has. ((sound.journals.ids.each id).0 has).0)
 
   files_alike : (id : ℕ) → id < 2 ^ 64 → IsFile (image (journal_name id)) ↔ IsFile (s (journal_name id)).now
   files_alike id small = let at = folder_of-journal id small in file_survives (s (journal_name id)).now (image (journal_name id)) (seen (journal_name id) (inl at) (root (journal_name id) at))
 
-  texts_alike : (js : List Journal) → AllByRecursion (λ (j : Journal). j.id < 2 ^ 64) js → AllByRecursion (λ f. IsSynced (s f).now) (map journal_name (ids_of js)) → AllByRecursion (λ (j : Journal). journal_text image j.id ≡ journal_text (standing s) j.id) js
+  texts_alike : (js : List WholeJournal) → AllByRecursion (λ (j : WholeJournal). j.id < 2 ^ 64) js → AllByRecursion (λ f. IsSynced (s f).now) (map journal_name (ids_of js)) → AllByRecursion (λ (j : WholeJournal). journal_text image j.id ≡ journal_text (standing s) j.id) js
   texts_alike [] small synced = tt
   texts_alike (j ∷ js) small synced =
       let at = folder_of-journal j.id small.0 in
       (ap text_in (synced_seen (journal_name j.id) (inl at) (root (journal_name j.id) at) synced.0), texts_alike js small.1 synced.1)
 
-  texts_parted : Parted c.journals → AllByRecursion (λ (j : Journal). journal_text image j.id ≡ journal_text (standing s) j.id) c.journals
+  texts_parted : Parted c.journals → AllByRecursion (λ (j : WholeJournal). journal_text image j.id ≡ journal_text (standing s) j.id) c.journals
   texts_parted p =
-      let smalls = subst (AllByRecursion (λ (j : Journal). j.id < 2 ^ 64)) p.is small_ids in
+      let smalls = subst (AllByRecursion (λ (j : WholeJournal). j.id < 2 ^ 64)) p.is small_ids in
       let names = subst (λ (ids : List ℕ). AllByRecursion (λ f. IsSynced (s f).now) (map journal_name ids)) (sealed_parted c.journals p) whole.1 in
       let last = subst (λ (n : ℕ). IsSynced (s (journal_name n)).now) (active_parted c.journals p) ended.0 in
-      let active_small : p.active.id < 2 ^ 64 = last_has (λ (j : Journal). j.id < 2 ^ 64) c.journals p.active small_ids (last_parted c.journals p) in
-      subst (AllByRecursion (λ (j : Journal). journal_text image j.id ≡ journal_text (standing s) j.id)) (sym p.is)
-      (each_both (λ (j : Journal). journal_text image j.id ≡ journal_text (standing s) j.id) p.sealed (p.active ∷ []) (texts_alike p.sealed (each_front (λ (j : Journal). j.id < 2 ^ 64) p.sealed (p.active ∷ []) smalls) names)
+      let active_small : p.active.id < 2 ^ 64 = last_has (λ (j : WholeJournal). j.id < 2 ^ 64) c.journals p.active small_ids (last_parted c.journals p) in
+      subst (AllByRecursion (λ (j : WholeJournal). journal_text image j.id ≡ journal_text (standing s) j.id)) (sym p.is)
+      (each_both (λ (j : WholeJournal). journal_text image j.id ≡ journal_text (standing s) j.id) p.sealed (p.active ∷ []) (texts_alike p.sealed (each_front (λ (j : WholeJournal). j.id < 2 ^ 64) p.sealed (p.active ∷ []) smalls) names)
       (texts_alike (p.active ∷ []) (active_small, tt) (last, tt)))
 
-  texts_all : (js : List Journal) → c.journals ≡ js → AllByRecursion (λ (j : Journal). journal_text image j.id ≡ journal_text (standing s) j.id) c.journals
-  texts_all [] none = subst (AllByRecursion (λ (j : Journal). journal_text image j.id ≡ journal_text (standing s) j.id)) (sym none) tt
+  texts_all : (js : List WholeJournal) → c.journals ≡ js → AllByRecursion (λ (j : WholeJournal). journal_text image j.id ≡ journal_text (standing s) j.id) c.journals
+  texts_all [] none = subst (AllByRecursion (λ (j : WholeJournal). journal_text image j.id ≡ journal_text (standing s) j.id)) (sym none) tt
   texts_all (j ∷ js) some = texts_parted (subst Parted (sym some) (parted j js))
 
   -- ---- the keyspaces
@@ -128,7 +128,7 @@ module _ (s : State) (c : Contents) (sound : IsOpenable (standing s) c) (root : 
         record {
           current = subst IsFile (sym same) stands.current;
           end = stands.end;
-          whole = subst (λ (e : Entry). IsRecords (text_in e) records stands.end) (sym same) stands.whole;
+          whole = subst (λ (e : DiskEntry). IsRecords (text_in e) records stands.end) (sym same) stands.whole;
           last_is = stands.last_is;
           tables = tables_alike h.last.tables h.texts counts.texts fits counts.folder stands.tables counts.tables counts.counts;
         }
@@ -138,7 +138,7 @@ module _ (s : State) (c : Contents) (sound : IsOpenable (standing s) c) (root : 
 
   one_last : c.last ≡ d.last
   one_last = last_one (catalog.records_in image) sound.records other.records sound.catalog.files.end other.catalog.files.end c.last d.last
-      (subst (λ (e : Entry). IsRecords (text_in e) sound.records sound.catalog.files.end) (sym (current_alike 0 first_has other.folder)) sound.catalog.files.whole) other.catalog.files.whole sound.catalog.files.last_is other.catalog.files.last_is
+      (subst (λ (e : DiskEntry). IsRecords (text_in e) sound.records sound.catalog.files.end) (sym (current_alike 0 first_has other.folder)) sound.catalog.files.whole) other.catalog.files.whole sound.catalog.files.last_is other.catalog.files.last_is
 
   same_files : HasFiles image 0 sound.records (home_of c.last sound.catalog.texts)
   same_files = files_alike_here 0 first_has sound.records (home_of c.last sound.catalog.texts) sound.catalog.files
@@ -152,18 +152,18 @@ module _ (s : State) (c : Contents) (sound : IsOpenable (standing s) c) (root : 
       (one_catalog image sound.records other.records c.last d.last c.keyspaces d.keyspaces says other.catalog).2
 
   -- and the home of each of them is there, with as many bytes in its tables
-  same_counts : (id : ℕ) (h : Home) → Lives c.keyspaces.living id → HasOpenableHome (standing s) id h → HasCounts image id h
+  same_counts : (id : ℕ) (h : Home) → KeyspaceLives c.keyspaces.living id → HasOpenableHome (standing s) id h → HasCounts image id h
   same_counts id h lives stands =
       let has = with_living c.keyspaces.living id lives in
-      let alive = lives_found d.keyspaces.living id (subst (λ (k : Keyspaces). Lives k.living id) same_keyspaces lives) in
+      let alive = lives_found d.keyspaces.living id (subst (λ (k : Keyspaces). KeyspaceLives k.living id) same_keyspaces lives) in
       let there = is_housed image d.keyspaces.living d.homes id other.homes alive in
       let files = there.2.home.files in
-      let whole = subst (λ (e : Entry). IsRecords (text_in e) there.2.records files.end) (current_alike id has there.2.home.folder) files.whole in
+      let whole = subst (λ (e : DiskEntry). IsRecords (text_in e) there.2.records files.end) (current_alike id has there.2.home.folder) files.whole in
       let same : there.0.last ≡ h.last =
       homes.last_one (text_in (s (current_name id)).now) there.2.records stands.records files.end stands.home.files.end there.0.last h.last whole stands.home.files.whole files.last_is stands.home.files.last_is in
       open_counts (standing s) image id h there.0 stands same there.2
 
-  home_alike : (id : ℕ) (h : Home) → Lives c.keyspaces.living id → HasOpenableHome (standing s) id h → HasOpenableHome image id h
+  home_alike : (id : ℕ) (h : Home) → KeyspaceLives c.keyspaces.living id → HasOpenableHome (standing s) id h → HasOpenableHome image id h
   home_alike id h lives stands =
       let has = with_living c.keyspaces.living id lives in
       let counts = same_counts id h lives stands in

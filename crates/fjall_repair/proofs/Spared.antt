@@ -2,13 +2,13 @@
 use Rattle.std.proofs.Common.{◌≡◌, ◌≢◌, inl, inr, ℕ, List, [], ◌∷◌, codes, Option, None, Some, refl, sym, subst}
 use Rattle.std.specs.List.{AllByRecursion}
 use Rattle.std.specs.FinMap.{get}
-use Rattle.fjall_base.specs.Disk.{Name, Missing, State, Image, Meaning, Survives, LeavesBy, LeavesOnly, after, folder_of, put, state_in}
+use Rattle.fjall_base.specs.Disk.{Name, Missing, DiskState, Image, Meaning, Survives, LeavesBy, LeavesOnly, after, folder_of, put, state_in}
 use Rattle.fjall_base.proofs.States.{differs, put-other}
 use Rattle.fjall_files.proofs.Parts.{in_region}
-use Rattle.fjall_tree.specs.Records.{Fields}
+use Rattle.fjall_manifest.specs.Records.{Fields}
 use Rattle.fjall_files.specs.Names.{IsNameOf, keyspace_folder}
-use Rattle.fjall_home.specs.Homes.{Home}
-use Rattle.fjall_home.proofs.Resting.{At, at_more, rests_along as home_rests_along}
+use Rattle.fjall_manifest.specs.Homes.{Home}
+use Rattle.fjall_manifest.proofs.Resting.{At, at_more, rests_along as home_rests_along}
 use Rattle.fjall_meta.specs.declared.living.LivingKeyspace.{LivingKeyspace}
 use Rattle.fjall_meta.specs.Keyspaces.{keyspace_at}
 use Rattle.fjall_catalog.specs.Catalog.{listed}
@@ -16,7 +16,7 @@ use Rattle.fjall_catalog.proofs.Resting.{rests_along}
 use Rattle.fjall_recovery.specs.Halves.{HasTree, Tree, is_of_keyspaces}
 use Rattle.fjall_recovery.specs.Places.{HasSafeHomeAt, IsNeverFolder, RestsInTree}
 use Rattle.fjall_recovery.proofs.Trees.{crashes_leave_the_tree}
-use Rattle.fjall_repair.specs.Sweeps.{Removes, removals}
+use Rattle.fjall_repair.specs.Sweeps.{RemovesNames, removals}
 
 -- what holds at each name that keyspaces rest on
 pub record AtTree (t : Tree) (P : Name → Type 0) : Type 0 where
@@ -32,13 +32,13 @@ tree_more t P Q to at = record {
 }
 
 -- what stands at those names is all that matters
-home_along : (old new : State) (id : ℕ) (k : Option LivingKeyspace) (h : Option Home) → ((i : Home) → h ≡ Some i → At id i.last.tables (λ q. new q ≡ old q)) → HasSafeHomeAt old id k h → HasSafeHomeAt new id k h
+home_along : (old new : DiskState) (id : ℕ) (k : Option LivingKeyspace) (h : Option Home) → ((i : Home) → h ≡ Some i → At id i.last.tables (λ q. new q ≡ old q)) → HasSafeHomeAt old id k h → HasSafeHomeAt new id k h
 home_along old new id (Some k) (Some h) at have = record { records = have.records; rests = home_rests_along old new id have.records h (at h refl) have.rests; indexes = have.indexes; indexed = have.indexed; clears = have.clears }
 home_along old new id None None at have = tt
 home_along old new id (Some k) None at have = absurd have
 home_along old new id None (Some h) at have = absurd have
 
-pub tree_along : (old new : State) (records : List Fields) (t : Tree) → AtTree t (λ q. new q ≡ old q) → RestsInTree old records t → RestsInTree new records t
+pub tree_along : (old new : DiskState) (records : List Fields) (t : Tree) → AtTree t (λ q. new q ≡ old q) → RestsInTree old records t → RestsInTree new records t
 tree_along old new records t at rests = record {
   named = λ name inside stray. subst IsNeverFolder (sym (at.strays name inside stray)) (rests.named name inside stray);
   catalog = rests_along old new records t.last t.keyspaces at.catalog rests.catalog;
@@ -51,23 +51,23 @@ tree_along old new records t at rests = record {
 abbrev pub IsSpare : Tree → Name → Type 0
 IsSpare t name = AtTree t (λ q. q ≢ name)
 
-one_spared : (state : State) (records : List Fields) (t : Tree) (name : Name) → IsSpare t name → RestsInTree state records t → RestsInTree (put state name Missing) records t
+one_spared : (state : DiskState) (records : List Fields) (t : Tree) (name : Name) → IsSpare t name → RestsInTree state records t → RestsInTree (put state name Missing) records t
 one_spared state records t name spare rests =
     tree_along state (put state name Missing) records t (tree_more t (λ q. q ≢ name) (λ q. put state name Missing q ≡ state q) (λ q other. put-other state name Missing q (differs q name other)) spare) rests
 
-all_spared : (state : State) (records : List Fields) (t : Tree) (names : List Name) → AllByRecursion (IsSpare t) names → RestsInTree state records t → RestsInTree (after state (removals names)) records t
+all_spared : (state : DiskState) (records : List Fields) (t : Tree) (names : List Name) → AllByRecursion (IsSpare t) names → RestsInTree state records t → RestsInTree (after state (removals names)) records t
 all_spared state records t [] spare rests = rests
 all_spared state records t (name ∷ names) spare rests = all_spared (put state name Missing) records t names spare.1 (one_spared state records t name spare.0 rests)
 
-pub moments : (state : State) (records : List Fields) (t : Tree) (names : List Name) (image : Image) → AllByRecursion (IsSpare t) names → RestsInTree state records t → LeavesBy Survives state (removals names) image → HasTree image t
+pub moments : (state : DiskState) (records : List Fields) (t : Tree) (names : List Name) (image : Image) → AllByRecursion (IsSpare t) names → RestsInTree state records t → LeavesBy Survives state (removals names) image → HasTree image t
 moments state records t [] image spare rests left = crashes_leave_the_tree state image records t rests (in_region is_of_keyspaces state image left)
 moments state records t (name ∷ names) image spare rests (inl now) = crashes_leave_the_tree state image records t rests (in_region is_of_keyspaces state image now)
 moments state records t (name ∷ names) image spare rests (inr later) = moments (put state name Missing) records t names image spare.1 (one_spared state records t name spare.0 rests) later
 
-module _ (records : List Fields) (t : Tree) (old new : Meaning) (run : Removes (IsSpare t) old new) (rests : RestsInTree (state_in old) records t) where
+module _ (records : List Fields) (t : Tree) (old new : Meaning) (run : RemovesNames (IsSpare t) old new) (rests : RestsInTree (state_in old) records t) where
   -- the keyspaces rest as before
   pub spared : RestsInTree (state_in new) records t
-  spared = subst (λ (state : State). RestsInTree state records t) (sym run.took.state) (all_spared (state_in old) records t run.names run.each rests)
+  spared = subst (λ (state : DiskState). RestsInTree state records t) (sym run.took.state) (all_spared (state_in old) records t run.names run.each rests)
 
   -- and at each moment they are left
   pub spared_run : LeavesOnly old new (λ image. HasTree image t)

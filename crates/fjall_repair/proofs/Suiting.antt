@@ -3,24 +3,24 @@ use Rattle.std.proofs.Common.{◌≡◌, inl, inr, ⊎_elim, ℕ, ◌≤◌, Boo
 use Rattle.std.specs.List.{AllByRecursion}
 use Rattle.std.proofs.lemmas.List.{length-drop}
 use Rattle.std.proofs.lemmas.Bool.Decides.{nat_tests}
-use Rattle.fjall_base.specs.Disk.{Name, Entry, Image, IsFile}
+use Rattle.fjall_base.specs.Disk.{Name, DiskEntry, Image, IsFile}
 use Rattle.fjall_journal.specs.Batches.{IsWhole, IsTail}
-use Rattle.fjall_tree.specs.Records.{Fields, IsRecords}
+use Rattle.fjall_manifest.specs.Records.{Fields, IsRecords}
 use Rattle.fjall_base.specs.Lists.{last_of}
-use Rattle.fjall_tree.proofs.Currents.{one_reading}
+use Rattle.fjall_manifest.proofs.Currents.{one_reading}
 use Rattle.fjall_files.specs.Names.{journal_name, current_name}
 use Rattle.fjall_meta.specs.Keyspaces.{Keyspaces}
 use Rattle.fjall_meta.specs.declared.living.LivingKeyspace.{LivingKeyspace}
 use Rattle.fjall_recovery.specs.declared.folder.RecoveredFolder.{RecoveredFolder}
-use Rattle.fjall_home.specs.declared.reading.LoadedHome.{LoadedHome}
-use Rattle.fjall_recovery.specs.Folders.{Contents, IsFinished, IsOpenable, Shows}
+use Rattle.fjall_manifest.specs.declared.reading.LoadedHome.{LoadedHome}
+use Rattle.fjall_recovery.specs.Folders.{Contents, IsFinished, IsOpenable, ShowsContents}
 use Rattle.fjall_recovery.specs.Homes.{AreHomesRead}
-use Rattle.fjall_recovery.specs.Journals.{Journal, AreJournalIds, EndsAt, HoldsJournals, journal_text, tail_of}
+use Rattle.fjall_recovery.specs.Journals.{WholeJournal, AreJournalIds, EndsAt, HoldsJournals, journal_text, tail_of}
 use Rattle.fjall_recovery.proofs.Alone.{one_list_of_journals}
 use Rattle.fjall_recovery.specs.Places.{texts_of}
 use Rattle.fjall_repair.specs.declared.mending.plan.FileEnd.{FileEnd}
 use Rattle.fjall_repair.specs.declared.mending.plan.MendPlan.{MendPlan}
-use Rattle.fjall_repair.specs.Steps.{End, IsOpened, IsPlanOf, IsRightEnd, IsTreeEnd, Suits, active_of, end_of, ended_names, folder_names, home_end, opened, tree_end, whole_names, with_active}
+use Rattle.fjall_repair.specs.Steps.{End, IsMendPlan, IsOpened, IsRightEnd, IsTreeEnd, Suits, active_of, end_of, ended_names, folder_names, home_end, opened, tree_end, whole_names, with_active}
 use Rattle.fjall_repair.specs.Mended.{IsMendingOf}
 use Rattle.fjall_base.specs.declared.error.Error.{Error}
 use Rattle.fjall_catalog.specs.Catalog.{records_in}
@@ -39,39 +39,39 @@ pub ends_found : (image : Image) (f : RecoveredFolder) (c : Contents) → IsOpen
 ends_found image f c sound finished =
     let found = finished.journals in
     let holds : HoldsJournals image found.journals = record { ids = subst (AreJournalIds image) (sym found.named) finished.journal_ids; read = found.read; sound = found.gathers.sound } in
-    subst (λ (js : List Journal). EndsAt image js f.journals.end f.journals.torn) (one_list_of_journals image found.journals c.journals holds sound.journals) found.ends
+    subst (λ (js : List WholeJournal). EndsAt image js f.journals.end f.journals.torn) (one_list_of_journals image found.journals c.journals holds sound.journals) found.ends
 
-pub ends_last : (image : Image) (front : List Journal) (a : Journal) (end : ℕ) (torn : Bool) → EndsAt image (front ++ a ∷ []) end torn → IsWhole (journal_text image a.id) a.batches end × IsTail (drop end (journal_text image a.id)) (tail_of torn)
+pub ends_last : (image : Image) (front : List WholeJournal) (a : WholeJournal) (end : ℕ) (torn : Bool) → EndsAt image (front ++ a ∷ []) end torn → IsWhole (journal_text image a.id) a.batches end × IsTail (drop end (journal_text image a.id)) (tail_of torn)
 ends_last image [] a end torn ends = ends
 ends_last image (j ∷ []) a end torn ends = ends
 ends_last image (j ∷ k ∷ front) a end torn ends = ends_last image (k ∷ front) a end torn ends
 
 -- where the last journal's whole batches end, their texts do
-pub ends_length : (image : Image) (js : List Journal) (end : ℕ) (torn : Bool) → EndsAt image js end torn → (journal : Journal) → last_of (opened js) ≡ Some journal → length (texts_of journal.batches) ≡ end
+pub ends_length : (image : Image) (js : List WholeJournal) (end : ℕ) (torn : Bool) → EndsAt image js end torn → (journal : WholeJournal) → last_of (opened js) ≡ Some journal → length (texts_of journal.batches) ≡ end
 ends_length image [] end torn ends journal last =
-    let first : Journal = record { id = 1; batches = [] } in
+    let first : WholeJournal = record { id = 1; batches = [] } in
     let one : Some journal ≡ Some first = sym last in
     let same : journal ≡ first = cc in
-    ap (λ (j : Journal). length (texts_of j.batches)) same ∙ sym ends.0
+    ap (λ (j : WholeJournal). length (texts_of j.batches)) same ∙ sym ends.0
 ends_length image (j ∷ js) end torn ends journal last =
     let p = parted j js in
     let one : Some journal ≡ Some p.active = sym last ∙ last_parted (j ∷ js) p in
     let same : journal ≡ p.active = cc in
-    let whole = (ends_last image p.sealed p.active end torn (subst (λ (l : List Journal). EndsAt image l end torn) p.is ends)).0 in
-    ap (λ (k : Journal). length (texts_of k.batches)) same ∙ sym (whole_length (journal_text image p.active.id) p.active.batches end whole)
+    let whole = (ends_last image p.sealed p.active end torn (subst (λ (l : List WholeJournal). EndsAt image l end torn) p.is ends)).0 in
+    ap (λ (k : WholeJournal). length (texts_of k.batches)) same ∙ sym (whole_length (journal_text image p.active.id) p.active.batches end whole)
 
 untorn : (text : List ℕ) (end : ℕ) (torn : Bool) → IsTail (drop end text) (tail_of torn) → torn ≡ false → length text ≤ end
 untorn text end true tail is = let bad : ⊥ = cc in absurd bad
 untorn text end false tail is = let none = ap length tail in let l = length-drop end text in omega (arith, none, l)
 
 module _ (image made : Image) (active : Name) (is : IsOpened image made active) where
-  journal_right : (c : Contents) (js : List Journal) (end : ℕ) (torn : Bool) → c.journals ≡ opened js → active ≡ journal_name (active_of (ids_of js)) → AreJournalIds image (ids_of js) → EndsAt image js end torn
+  journal_right : (c : Contents) (js : List WholeJournal) (end : ℕ) (torn : Bool) → c.journals ≡ opened js → active ≡ journal_name (active_of (ids_of js)) → AreJournalIds image (ids_of js) → EndsAt image js end torn
       → IsRightEnd made c (record { name = active; cut = torn; len = end })
   journal_right c [] end torn journals named ids ends = ⊎_elim
       (λ was. let none = (ids.each 1).1 (omega arith, subst (λ (n : Name). IsFile (image n)) named was.0) in let lt = none.1 in absurd (omega (arith, lt)))
       (λ new.
-      let first : Journal = record { id = 1; batches = [] } in
-      let count = ap (λ (e : Entry). length (text_in e)) new.1 in
+      let first : WholeJournal = record { id = 1; batches = [] } in
+      let count = ap (λ (e : DiskEntry). length (text_in e)) new.1 in
       record {
         file = subst IsFile (sym new.1) tt;
         kind = inl (record { journal = first; last = ap last_of journals; named = named; is = ends.0 });
@@ -82,7 +82,7 @@ module _ (image made : Image) (active : Name) (is : IsOpened image made active) 
       (λ was.
       let p = parted j js in
       let at : active ≡ journal_name p.active.id = named ∙ ap journal_name (active_parted (j ∷ js) p) in
-      let here = ends_last image p.sealed p.active end torn (subst (λ (l : List Journal). EndsAt image l end torn) p.is ends) in
+      let here = ends_last image p.sealed p.active end torn (subst (λ (l : List WholeJournal). EndsAt image l end torn) p.is ends) in
       let text : text_in (made active) ≡ journal_text image p.active.id = ap text_in (was.1 ∙ ap image at) in
       let count = ap length text in
       record {
@@ -104,10 +104,10 @@ module _ (image made : Image) (active : Name) (is : IsOpened image made active) 
         → (e.cut ≡ false → length (text_in (image (current_name id))) ≤ e.len) → IsRightEnd made c e
     records_right c id e records at file whole uncut =
         let same : image (current_name id) ≡ made e.name = sym (current_same id) ∙ ap made (sym at) in
-        let count = ap (λ (d : Entry). length (text_in d)) same in
+        let count = ap (λ (d : DiskEntry). length (text_in d)) same in
         record {
           file = subst IsFile same file;
-          kind = inr (record { id = id; named = at; records = records; whole = subst (λ (d : Entry). IsRecords (text_in d) records e.len) same whole });
+          kind = inr (record { id = id; named = at; records = records; whole = subst (λ (d : DiskEntry). IsRecords (text_in d) records e.len) same whole });
           uncut = λ not. (let le = uncut not in omega (arith, le, count));
           long = (let le = whole.within in omega (arith, le, count));
         }
@@ -152,7 +152,7 @@ home_names [] = refl
 home_names (h ∷ homes) = ap (λ ns. current_name h.id ∷ ns) (home_names homes)
 
 -- the names of all files that are ended
-pub planned_names : (f : RecoveredFolder) (tree : End) (p : MendPlan) → tree.name ≡ current_name 0 → IsPlanOf f tree p → map name_of_end p.ends.items ≡ ended_names (active_of f.journal_ids.items) (map (λ (h : LoadedHome). h.id) f.homes.items)
+pub planned_names : (f : RecoveredFolder) (tree : End) (p : MendPlan) → tree.name ≡ current_name 0 → IsMendPlan f tree p → map name_of_end p.ends.items ≡ ended_names (active_of f.journal_ids.items) (map (λ (h : LoadedHome). h.id) f.homes.items)
 planned_names f tree p named plan =
     names_of p.ends.items ∙ ap (map (λ (e : End). e.name)) plan.ends
     ∙ ap (λ (n : Name). journal_name (active_of f.journal_ids.items) ∷ n ∷ map (λ (e : End). e.name) (map home_end f.homes.items)) named
@@ -173,11 +173,11 @@ tree_ends image f read = record {
 }
 
 -- so a plan for the folder that was read is one of the image
-pub plan_is : (image : Image) (f : RecoveredFolder) (result : Result MendPlan Error) → IsFinished image f → IfOk result (IsPlanOf f (tree_end f.catalog)) → IfOk result (IsMendingOf image f)
+pub plan_is : (image : Image) (f : RecoveredFolder) (result : Result MendPlan Error) → IsFinished image f → IfOk result (IsMendPlan f (tree_end f.catalog)) → IfOk result (IsMendingOf image f)
 plan_is image f (Ok p) read is = (tree_end f.catalog, tree_ends image f read, is)
 plan_is image f (Err e) read is = tt
 
-pub suits : (image : Image) (f : RecoveredFolder) (c : Contents) (tree : End) (p : MendPlan) → IsOpenable image c → IsFinished image f → Shows f c → IsTreeEnd image tree → IsPlanOf f tree p → Suits image c p
+pub suits : (image : Image) (f : RecoveredFolder) (c : Contents) (tree : End) (p : MendPlan) → IsOpenable image c → IsFinished image f → ShowsContents f c → IsTreeEnd image tree → IsMendPlan f tree p → Suits image c p
 suits image f c tree p sound finished shows tree_end plan =
     let ids : f.journal_ids.items ≡ ids_of c.journals = shows.ids in
     let living : map (λ (h : LoadedHome). h.id) f.homes.items ≡ map (λ (k : LivingKeyspace). k.id) c.keyspaces.living =

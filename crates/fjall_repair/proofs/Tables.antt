@@ -8,7 +8,7 @@ use Rattle.std.proofs.lemmas.List.Elements.{All-contains, All-contains_itself, A
 use Rattle.std.specs.declared.alloc.Global.{Global}
 use Rattle.fjall_base.specs.declared.error.Error.{Error}
 use Rattle.fjall_base.specs.declared.disk.DirEntry.{DirEntry}
-use Rattle.fjall_base.specs.Disk.{Name, Missing, State, Lists}
+use Rattle.fjall_base.specs.Disk.{Name, Missing, DiskState, Lists}
 use Rattle.fjall_base.proofs.Names.{bool_cases}
 use Rattle.fjall_files.specs.Names.{keyspace_folder, table_name}
 use Rattle.fjall_files.specs.Lists.{AreIds, IsTableIn}
@@ -65,7 +65,7 @@ contains_filter p xs x (k, lt, at) passes =
 
 -- ---- what a folder's list tells of tables
 
-module _ (state : State) (id : ℕ) (listed files : List DirEntry) (lists : Lists state (keyspace_folder id) listed) (files_are : files ≡ map as_file listed) (ids : List ℕ) (are : AreIds (IsTableIn (keyspace_folder id)) files ids) where
+module _ (state : DiskState) (id : ℕ) (listed files : List DirEntry) (lists : Lists state (keyspace_folder id) listed) (files_are : files ≡ map as_file listed) (ids : List ℕ) (are : AreIds (IsTableIn (keyspace_folder id)) files ids) where
   small : All (λ n. n < 2 ^ 64) ids
   small k d lt = let (i, entry, less, at, is) = (are.each (get_or ids k d)).0 (All-contains_itself ids k d lt) in is.1.0
 
@@ -86,7 +86,7 @@ module _ (state : State) (id : ℕ) (listed files : List DirEntry) (lists : List
         (λ same. inl same) (other_cases named n);
   })
 
-pub tables_ok : (state : State) (id : ℕ) (named : List TableInfo) (listed files : List DirEntry) (ids : List ℕ) (folder : Name) (result : Result (Vec (String Global) Global) Error) → Lists state folder listed → folder ≡ keyspace_folder id
+pub tables_ok : (state : DiskState) (id : ℕ) (named : List TableInfo) (listed files : List DirEntry) (ids : List ℕ) (folder : Name) (result : Result (Vec (String Global) Global) Error) → Lists state folder listed → folder ≡ keyspace_folder id
     → files ≡ map as_file listed → AreIds (IsTableIn (keyspace_folder id)) files ids
     → IfOk result (λ names. map string_bytes names.items ≡ other_tables id named ids) → IfOk result (λ names. AreTables state id named (map string_bytes names.items))
 tables_ok state id named listed files ids folder (Ok names) lists at files_are are is =

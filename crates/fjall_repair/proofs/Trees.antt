@@ -3,21 +3,21 @@ use Rattle.std.proofs.Common.{◌≡◌, ℕ, true, false, List, [], ◌∷◌, 
 use Rattle.std.specs.Prelude.{OnOk, OnErr}
 use Rattle.std.specs.Str.{bytes_eq}
 use Rattle.fjall_base.specs.declared.error.Error.{Error}
-use Rattle.fjall_base.specs.Disk.{Name, Entry, File, Folder, Place, State, SyncFolder, Meaning, Took, folder_of, making, standing, state_in}
+use Rattle.fjall_base.specs.Disk.{Name, DiskEntry, File, Folder, Place, DiskState, SyncFolder, Meaning, Took, folder_of, making, standing, state_in}
 use Rattle.fjall_base.proofs.States.{settle-in, settle-out}
 use Rattle.fjall_files.specs.Texts.{text_in}
 use Rattle.fjall_files.specs.Regions.{Within, is_under}
 use Rattle.fjall_files.proofs.Changes.{settle-now, within_on, within_start}
 use Rattle.fjall_files.proofs.Made.{making_other, making_within, within_none}
-use Rattle.fjall_tree.specs.Records.{IsRecord}
+use Rattle.fjall_manifest.specs.Records.{IsRecord}
 use Rattle.fjall_files.specs.Names.{keyspace_folder, current_name}
 use Rattle.fjall_files.proofs.Fitting.{folder_of-current, folder_of-folder}
-use Rattle.fjall_home.specs.Homes.{only}
+use Rattle.fjall_manifest.specs.Homes.{only}
 use Rattle.fjall_catalog.specs.Catalog.{fields, first_catalog, records_in}
 use Rattle.fjall_catalog.proofs.Naming.{current_zero, folder_zero}
 use Rattle.fjall_catalog.proofs.Shapes.{first_fits}
 use Rattle.fjall_repair.specs.declared.beginning.plan.FileState.{FileState}
-use Rattle.fjall_repair.specs.Making.{CanHold, GoesOn, MayStand, StaysAt}
+use Rattle.fjall_repair.specs.Making.{CanHold, MakingGoesOn, MayStand, StaysAt}
 use Rattle.fjall_repair.specs.Plans.{HasFirstTree, IsFound, first_text}
 use Rattle.fjall_repair.proofs.Holding.{current_holds}
 use Rattle.fjall_repair.proofs.Moments.{IsNoTable, elsewhere, goes_made, goes_none}
@@ -27,10 +27,10 @@ use Rattle.fjall_repair.proofs.Standing.{folder_stands}
 -- ---- folders
 
 module _ (name : Name) (old new : Meaning) (result : Result Unit Error) (ok : OnOk result (Took old new (making name Folder (state_in old name).now))) (err : OnErr result (Took old new [])) where
-  pub goes_folder : (marking : _) → IsNoTable name → MayStand marking name Folder → GoesOn marking old new
+  pub goes_folder : (marking : _) → IsNoTable name → MayStand marking name Folder → MakingGoesOn marking old new
   goes_folder marking no_table stands = by result ok err
     where
-      by : (r : Result Unit Error) → OnOk r (Took old new (making name Folder (state_in old name).now)) → OnErr r (Took old new []) → GoesOn marking old new
+      by : (r : Result Unit Error) → OnOk r (Took old new (making name Folder (state_in old name).now)) → OnErr r (Took old new []) → MakingGoesOn marking old new
       by (Ok done) took none = goes_made marking old new name no_table Folder (state_in old name).now stands took
       by (Err e) took none = goes_none marking old new none
 
@@ -46,7 +46,7 @@ module _ (name : Name) (old new : Meaning) (result : Result Unit Error) (ok : On
     where
       by : (r : Result Unit Error) → OnOk r (Took old new (making name Folder (state_in old name).now)) → OnErr r (Took old new []) → state_in new q ≡ state_in old q
       by (Ok done) took none = making_other old new name q Folder (state_in old name).now not took
-      by (Err e) took none = ap (λ (s : State). s q) none.state
+      by (Err e) took none = ap (λ (s : DiskState). s q) none.state
 
 pub keyspaces_stands : MayStand false (codes "keyspaces") Folder
 keyspaces_stands = folder_stands false (codes "keyspaces") (λ inside. (let no : [] ≡ codes "keyspaces" = inside in cc))
@@ -86,27 +86,27 @@ settled_under folder inner old new (Err e) under ok err = within_none folder old
 module _ (old mid new : Meaning) (one : Took old mid (SyncFolder (codes "keyspaces/0") ∷ [])) (two : Took mid new (SyncFolder (codes "keyspaces") ∷ [])) where
   still : (q : Name) → (state_in new q).now ≡ (state_in old q).now
   still q =
-      ap (λ (s : State). (s q).now) two.state ∙ settle-now (state_in mid) (codes "keyspaces") q
-      ∙ ap (λ (s : State). (s q).now) one.state ∙ settle-now (state_in old) (codes "keyspaces/0") q
+      ap (λ (s : DiskState). (s q).now) two.state ∙ settle-now (state_in mid) (codes "keyspaces") q
+      ∙ ap (λ (s : DiskState). (s q).now) one.state ∙ settle-now (state_in old) (codes "keyspaces/0") q
 
   inside : (q : Name) → folder_of q ≡ codes "keyspaces" → state_in new q ≡ only (state_in old q).now
   inside q at =
-      let place : state_in new q ≡ only (state_in mid q).now = ap (λ (s : State). s q) two.state ∙ settle-in (state_in mid) (codes "keyspaces") q at in
-      place ∙ ap (λ (e : Entry). only e) (ap (λ (s : State). (s q).now) one.state ∙ settle-now (state_in old) (codes "keyspaces/0") q)
+      let place : state_in new q ≡ only (state_in mid q).now = ap (λ (s : DiskState). s q) two.state ∙ settle-in (state_in mid) (codes "keyspaces") q at in
+      place ∙ ap (λ (e : DiskEntry). only e) (ap (λ (s : DiskState). (s q).now) one.state ∙ settle-now (state_in old) (codes "keyspaces/0") q)
 
   records : state_in new (current_name 0) ≡ only (state_in old (current_name 0)).now
   records =
       let apart : bytes_eq (folder_of (current_name 0)) (codes "keyspaces") ≡ false = ap (λ (n : Name). bytes_eq (folder_of n) (codes "keyspaces")) current_zero in
       let here : folder_of (current_name 0) ≡ codes "keyspaces/0" = folder_of-current 0 ∙ folder_zero in
-      ap (λ (s : State). s (current_name 0)) two.state ∙ settle-out (state_in mid) (codes "keyspaces") (current_name 0) apart
-      ∙ ap (λ (s : State). s (current_name 0)) one.state ∙ settle-in (state_in old) (codes "keyspaces/0") (current_name 0) here
+      ap (λ (s : DiskState). s (current_name 0)) two.state ∙ settle-out (state_in mid) (codes "keyspaces") (current_name 0) apart
+      ∙ ap (λ (s : DiskState). s (current_name 0)) one.state ∙ settle-in (state_in old) (codes "keyspaces/0") (current_name 0) here
 
   first_tree_settled : (state_in old (codes "keyspaces")).now ≡ Folder → (state_in old (keyspace_folder 0)).now ≡ Folder → (state_in old (current_name 0)).now ≡ File first_text [] → HasFirstTree (state_in new)
   first_tree_settled outer inner current = record {
     keyspaces = still (codes "keyspaces") ∙ outer;
     settled = λ name at. ap (λ (p : Place). p.older) (inside name at);
-    folder = inside (keyspace_folder 0) (folder_of-folder 0 (omega arith)) ∙ ap (λ (e : Entry). only e) inner;
-    current = records ∙ ap (λ (e : Entry). only e) current;
+    folder = inside (keyspace_folder 0) (folder_of-folder 0 (omega arith)) ∙ ap (λ (e : DiskEntry). only e) inner;
+    current = records ∙ ap (λ (e : DiskEntry). only e) current;
   }
 
 pub first_tree : (old mid new : Meaning) (result : Result Unit Error) → Took old mid (SyncFolder (codes "keyspaces/0") ∷ []) → OnOk result (Took mid new (SyncFolder (codes "keyspaces") ∷ []))
@@ -123,7 +123,7 @@ pub records_hold : (text : List ℕ) → text ≡ first_text → CanHold false (
 records_hold text is = subst (λ (l : List ℕ). CanHold false (codes "keyspaces/0/current") l) (sym is) (subst (λ (n : Name). CanHold false n first_text) current_zero (current_holds first_record_is))
 
 -- what was found of them is there yet
-pub records_found : (found : FileState) (text : List ℕ) (old new : State) → text ≡ first_text → records_in (standing new) ≡ records_in (standing old) → IsFound found first_text (records_in (standing old)) → IsFound found text (text_in (standing new (codes "keyspaces/0/current")))
+pub records_found : (found : FileState) (text : List ℕ) (old new : DiskState) → text ≡ first_text → records_in (standing new) ≡ records_in (standing old) → IsFound found first_text (records_in (standing old)) → IsFound found text (text_in (standing new (codes "keyspaces/0/current")))
 records_found found text old new is same found_is =
     subst (λ (l : List ℕ). IsFound found l (text_in (standing new (codes "keyspaces/0/current")))) (sym is)
     (subst (λ (n : Name). IsFound found first_text (text_in (standing new n))) current_zero (subst (λ (l : List ℕ). IsFound found first_text l) (sym same) found_is))
@@ -136,5 +136,5 @@ inner_still old new stays is =
     let apart : bytes_eq (keyspace_folder 0) (codes "keyspaces/0/current") ≡ false = ap (λ (n : Name). bytes_eq n (codes "keyspaces/0/current")) folder_zero in
     ap (λ (p : Place). p.now) (elsewhere (codes "keyspaces/0/current") old new (keyspace_folder 0) apart stays) ∙ is
 
-pub current_filled : (new : State) (text : List ℕ) → text ≡ first_text → (new (codes "keyspaces/0/current")).now ≡ File text [] → (new (current_name 0)).now ≡ File first_text []
+pub current_filled : (new : DiskState) (text : List ℕ) → text ≡ first_text → (new (codes "keyspaces/0/current")).now ≡ File text [] → (new (current_name 0)).now ≡ File first_text []
 current_filled new text is at = ap (λ (n : Name). (new n).now) current_zero ∙ at ∙ ap (λ (l : List ℕ). File l []) is

@@ -3,18 +3,18 @@ use Rattle.std.proofs.Common.{◌≡◌, ◌≢◌, ◌⊎◌, inl, inr, ⊎_eli
 use Rattle.std.specs.Prelude.{Contains}
 use Rattle.std.specs.List.{AllByRecursion}
 use Rattle.std.proofs.lemmas.List.Kept.{AllPairs-from_increasing}
-use Rattle.fjall_base.specs.Disk.{Name, Entry, Folder, State, Image, IsFile}
+use Rattle.fjall_base.specs.Disk.{Name, DiskEntry, Folder, DiskState, Image, IsFile}
 use Rattle.fjall_base.proofs.Lists.{front_of_part}
 use Rattle.fjall_journal.specs.declared.batch.Tail.TheVariants.{Clean, Torn}
-use Rattle.fjall_tree.specs.Records.{Fields, IsRecords}
+use Rattle.fjall_manifest.specs.Records.{Fields, IsRecords}
 use Rattle.fjall_base.specs.Lists.{last_of}
 use Rattle.fjall_files.specs.Texts.{text_in}
 use Rattle.fjall_meta.proofs.Rising.{Rises, from_pairs}
 use Rattle.fjall_files.specs.Names.{journal_name, current_name, table_name}
-use Rattle.fjall_home.proofs.Resting.{last_has}
+use Rattle.fjall_manifest.proofs.Resting.{last_has}
 use Rattle.fjall_files.specs.Marker.{marker_tells}
 use Rattle.fjall_recovery.specs.Folders.{Contents, IsOpenable, file_bytes}
-use Rattle.fjall_recovery.specs.Journals.{Journal, ReadsAs, AreRead, journal_text}
+use Rattle.fjall_recovery.specs.Journals.{WholeJournal, ReadsAs, AreJournalsRead, journal_text}
 use Rattle.fjall_recovery.specs.Halves.{HasRoot}
 use Rattle.fjall_recovery.specs.Places.{texts_of}
 use Rattle.fjall_repair.specs.Steps.{EndsBatches, EndsRecords, Stays}
@@ -24,13 +24,13 @@ use Rattle.fjall_repair.proofs.Cutting.{Lasts, journal_cut, records_cut}
 
 -- ---- the ids of journals
 
-pub fits_all : (js : List Journal) → ((id : ℕ) → Contains (map (λ (j : Journal). j.id) js) id → id < 2 ^ 64) → AllByRecursion (λ (j : Journal). j.id < 2 ^ 64) js
+pub fits_all : (js : List WholeJournal) → ((id : ℕ) → Contains (map (λ (j : WholeJournal). j.id) js) id → id < 2 ^ 64) → AllByRecursion (λ (j : WholeJournal). j.id < 2 ^ 64) js
 fits_all [] fits = tt
 fits_all (j ∷ js) fits = (fits j.id (0, omega arith, refl), fits_all js (λ id has. fits id (suc has.0, omega (arith, has.1), has.2)))
 
-last_above : (x : ℕ) (js : List Journal) (a : Journal) → All (λ y. x < y) (map (λ (j : Journal). j.id) js) → last_of js ≡ Some a → x < a.id
+last_above : (x : ℕ) (js : List WholeJournal) (a : WholeJournal) → All (λ y. x < y) (map (λ (j : WholeJournal). j.id) js) → last_of js ≡ Some a → x < a.id
 last_above x [] a all is = let bad : ⊥ = cc in absurd bad
-last_above x (j ∷ []) a all is = let same : j ≡ a = cc in subst (λ (b : Journal). x < b.id) same (all 0 0 (omega arith))
+last_above x (j ∷ []) a all is = let same : j ≡ a = cc in subst (λ (b : WholeJournal). x < b.id) same (all 0 0 (omega arith))
 last_above x (j ∷ k ∷ js) a all is = last_above x (k ∷ js) a (λ i d lt. all (suc i) d (omega (arith, lt))) is
 
 -- ---- one file is cut
@@ -65,26 +65,26 @@ module _ (image other : Image) (f : Name) (len : ℕ) (at : Cuts image other f l
 
   -- ---- the active journal
 
-  module _ (a : Journal) (named : f ≡ journal_name a.id) (is : len ≡ length (texts_of a.batches)) where
-    read_last : (j : Journal) → j ≡ a → AreRead image (j ∷ []) → AreRead other (j ∷ [])
+  module _ (a : WholeJournal) (named : f ≡ journal_name a.id) (is : len ≡ length (texts_of a.batches)) where
+    read_last : (j : WholeJournal) → j ≡ a → AreJournalsRead image (j ∷ []) → AreJournalsRead other (j ∷ [])
     read_last j same read = ⊎_elim
         (λ alike. subst (λ t. ReadsAs t j.batches Clean ⊎ ReadsAs t j.batches Torn) (ap text_in (sym alike)) read)
         (λ cut. subst (λ t. ReadsAs t j.batches Clean ⊎ ReadsAs t j.batches Torn) (sym cut.1.text)
-        (journal_cut (journal_text image j.id) j.batches cut.1.k (let n = ap (λ (b : Journal). length (texts_of b.batches)) same in let le = cut.1.le in omega (arith, n, is, le)) read))
+        (journal_cut (journal_text image j.id) j.batches cut.1.k (let n = ap (λ (b : WholeJournal). length (texts_of b.batches)) same in let le = cut.1.le in omega (arith, n, is, le)) read))
         (at (journal_name j.id))
 
-    read_cut : (js : List Journal) → AllByRecursion (λ (j : Journal). j.id < 2 ^ 64) js → Rises (λ x y. x < y) (map (λ (j : Journal). j.id) js) → last_of js ≡ Some a → AreRead image js → AreRead other js
+    read_cut : (js : List WholeJournal) → AllByRecursion (λ (j : WholeJournal). j.id < 2 ^ 64) js → Rises (λ x y. x < y) (map (λ (j : WholeJournal). j.id) js) → last_of js ≡ Some a → AreJournalsRead image js → AreJournalsRead other js
     read_cut [] fits rises last read = tt
     read_cut (j ∷ []) fits rises last read = let same : j ≡ a = cc in read_last j same read
     read_cut (j ∷ k ∷ js) fits rises last read =
-        let small : a.id < 2 ^ 64 = last_has (λ (b : Journal). b.id < 2 ^ 64) (j ∷ k ∷ js) a fits last in
+        let small : a.id < 2 ^ 64 = last_has (λ (b : WholeJournal). b.id < 2 ^ 64) (j ∷ k ∷ js) a fits last in
         let less : j.id < a.id = last_above j.id (k ∷ js) a rises.0 last in
         let apart : journal_name j.id ≢ f = λ same. (let equal = journals_apart j.id a.id fits.0 small (same ∙ named) in omega (arith, less, equal)) in
         (subst (λ t. ReadsAs t j.batches Clean) (ap text_in (sym (elsewhere (journal_name j.id) apart))) read.0, read_cut (k ∷ js) fits.1 rises.1 last read.1)
 
-    root_cut : (js : List Journal) → last_of js ≡ Some a → HasRoot image js → HasRoot other js
+    root_cut : (js : List WholeJournal) → last_of js ≡ Some a → HasRoot image js → HasRoot other js
     root_cut js last root = record {
-      marker = ap (λ (e : Entry). marker_tells (file_bytes e)) (elsewhere (codes "version") (λ same. marker_journal a.id (same ∙ named))) ∙ root.marker;
+      marker = ap (λ (e : DiskEntry). marker_tells (file_bytes e)) (elsewhere (codes "version") (λ same. marker_journal a.id (same ∙ named))) ∙ root.marker;
       named = λ name in_root file. root.named name in_root (file_back name file);
       holds = record {
         ids = record {
@@ -94,7 +94,7 @@ module _ (image other : Image) (f : Name) (len : ℕ) (at : Cuts image other f l
             (λ here. (root.holds.ids.each id).1 (here.0, file_back (journal_name id) here.1)),
           );
         };
-        read = read_cut js (fits_all js (λ id has. ((root.holds.ids.each id).0 has).0)) (from_pairs (λ x y. x < y) (map (λ (j : Journal). j.id) js) (AllPairs-from_increasing (map (λ (j : Journal). j.id) js) root.holds.ids.ascending)) last root.holds.read;
+        read = read_cut js (fits_all js (λ id has. ((root.holds.ids.each id).0 has).0)) (from_pairs (λ x y. x < y) (map (λ (j : WholeJournal). j.id) js) (AllPairs-from_increasing (map (λ (j : WholeJournal). j.id) js) root.holds.ids.ascending)) last root.holds.read;
         sound = root.holds.sound;
       };
     }
@@ -133,7 +133,7 @@ module _ (image other : Image) (f : Name) (len : ℕ) (at : Cuts image other f l
 
 -- ---- what stays
 
-module _ (start : State) (c : Contents) (image other : Image) (f : Name) (len : ℕ) (at : Cuts image other f len) (stays : Stays start c image) where
+module _ (start : DiskState) (c : Contents) (image other : Image) (f : Name) (len : ℕ) (at : Cuts image other f len) (stays : Stays start c image) where
   parts_left : (q : Name) → (start q).older ≡ [] → (n : ℕ) × (text_in (other q) ≡ take n (text_in (start q).now))
   parts_left q older =
       let was = stays.parts q older in

@@ -1,7 +1,7 @@
 -- One turn of the loop that ends files.
 use Rattle.std.proofs.Common.{◌≡◌, ◌≢◌, inl, inr, ℕ, ◌+◌, ◌<◌, List, [], length, take, get_or, All, string_bytes, sym, ◌∙◌, ap, subst}
 use Rattle.std.proofs.lemmas.List.Elements.{All-take}
-use Rattle.fjall_base.specs.Disk.{Name, LeavesOnly, Meaning, Place, State, standing, state_in}
+use Rattle.fjall_base.specs.Disk.{Name, LeavesOnly, Meaning, Place, DiskState, standing, state_in}
 use Rattle.fjall_base.proofs.Moments.{at_end, runs_on, weaken}
 use Rattle.fjall_files.specs.Trims.{IsTrimmed, ended_place}
 use Rattle.fjall_recovery.specs.Folders.{Contents}
@@ -11,10 +11,10 @@ use Rattle.fjall_repair.proofs.Ending.{MayBeEnded, ended_here, ended_still, may_
 use Rattle.fjall_repair.proofs.Naming.{same_or_not}
 use Rattle.fjall_repair.proofs.Items.{all_more, all_with, item_has}
 
-abbrev pub AreRight : State → Contents → List FileEnd → Type 0
+abbrev pub AreRight : DiskState → Contents → List FileEnd → Type 0
 AreRight start c ends = All (λ e. IsRightEnd (standing start) c (end_of e)) ends
 
-abbrev pub AreSettled : State → List FileEnd → Type 0
+abbrev pub AreSettled : DiskState → List FileEnd → Type 0
 AreSettled start ends = All (λ e. (start (string_bytes e.name)).older ≡ []) ends
 
 module _ (old mid new : Meaning) (ends : List FileEnd) (i : ℕ) (x : FileEnd) (at : x ≡ get_or ends i x) (lt : i < length ends) (file : Name) (is : file ≡ string_bytes x.name) where

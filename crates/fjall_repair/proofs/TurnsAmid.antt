@@ -2,7 +2,7 @@
 use Rattle.std.proofs.Common.{◌≡◌, ◌≢◌, ◌⊎◌, inl, inr, ⊎_elim, ℕ, ◌+◌, ◌<◌, Bool, true, false, List, [], ◌++◌, length, take, get_or, string_bytes, refl, sym, ◌∙◌, ap, subst, arith}
 use Rattle.std.proofs.lemmas.List.{append-nil, take_all}
 use Rattle.fjall_base.specs.Store.{Store, Command}
-use Rattle.fjall_base.specs.Disk.{Name, Entry, Missing, File, Folder, Image, IsFile, LeavesOnly, Meaning, Place, State, standing, state_in}
+use Rattle.fjall_base.specs.Disk.{Name, DiskEntry, Missing, File, Folder, Image, IsFile, LeavesOnly, Meaning, Place, DiskState, standing, state_in}
 use Rattle.fjall_base.proofs.Moments.{at_end, runs_on, weaken}
 use Rattle.fjall_files.specs.Texts.{text_in}
 use Rattle.fjall_files.specs.Trims.{IsTrimmed, ended, ended_place}
@@ -18,7 +18,7 @@ use Rattle.fjall_repair.proofs.Turns.{AreRight, AreSettled}
 
 -- ---- what stands where a file was ended
 
-entry_cut : (cut : Bool) (len : ℕ) (image other : Image) (f : Name) (e : Entry) → image f ≡ e → other f ≡ ended cut len e → (other f ≡ image f) ⊎ IsCut image other len f
+entry_cut : (cut : Bool) (len : ℕ) (image other : Image) (f : Name) (e : DiskEntry) → image f ≡ e → other f ≡ ended cut len e → (other f ≡ image f) ⊎ IsCut image other len f
 entry_cut true len image other f Missing was is = inl (is ∙ sym was)
 entry_cut false len image other f Missing was is = inl (is ∙ sym was)
 entry_cut true len image other f Folder was is = inl (is ∙ sym was)
@@ -28,17 +28,17 @@ entry_cut true len image other f (File synced unsynced) was is = inr (record {
   still = subst IsFile (sym is) tt;
   k = len;
   le = omega arith;
-  text = ap text_in is ∙ append-nil (take len (synced ++ unsynced)) ∙ ap (λ (d : Entry). take len (text_in d)) (sym was);
+  text = ap text_in is ∙ append-nil (take len (synced ++ unsynced)) ∙ ap (λ (d : DiskEntry). take len (text_in d)) (sym was);
 })
 entry_cut false len image other f (File synced unsynced) was is = inr (record {
   file = subst IsFile (sym was) tt;
   still = subst IsFile (sym is) tt;
   k = len + length (synced ++ unsynced);
   le = omega arith;
-  text = ap text_in is ∙ append-nil (synced ++ unsynced) ∙ sym (take_all (len + length (synced ++ unsynced)) (synced ++ unsynced) (omega arith)) ∙ ap (λ (d : Entry). take (len + length (synced ++ unsynced)) (text_in d)) (sym was);
+  text = ap text_in is ∙ append-nil (synced ++ unsynced) ∙ sym (take_all (len + length (synced ++ unsynced)) (synced ++ unsynced) (omega arith)) ∙ ap (λ (d : DiskEntry). take (len + length (synced ++ unsynced)) (text_in d)) (sym was);
 })
 
-ended_cuts : (mid new : State) (f : Name) (cut : Bool) (len : ℕ) → new f ≡ ended_place cut len (mid f) → ((q : Name) → q ≢ f → new q ≡ mid q) → Cuts (standing mid) (standing new) f len
+ended_cuts : (mid new : DiskState) (f : Name) (cut : Bool) (len : ℕ) → new f ≡ ended_place cut len (mid f) → ((q : Name) → q ≢ f → new q ≡ mid q) → Cuts (standing mid) (standing new) f len
 ended_cuts mid new f cut len placed elsewhere q = ⊎_elim
     (λ same.
     let here = entry_cut cut len (standing mid) (standing new) f (mid f).now refl (ap (λ (p : Place). p.now) placed) in
@@ -46,7 +46,7 @@ ended_cuts mid new f cut len placed elsewhere q = ⊎_elim
     (λ not. inl (ap (λ (p : Place). p.now) (elsewhere q not))) (same_or_not q f)
 
 -- at the start
-pub stays_first : (start : State) (c : Contents) → IsOpenable (standing start) c → Stays start c (standing start)
+pub stays_first : (start : DiskState) (c : Contents) → IsOpenable (standing start) c → Stays start c (standing start)
 stays_first start c sound = record { sound = sound; parts = λ q older. (length (text_in (start q).now), sym (take_all (length (text_in (start q).now)) (text_in (start q).now) (omega arith))) }
 
 module _ (old mid new : Meaning) (ends : List FileEnd) (i : ℕ) (x : FileEnd) (at : x ≡ get_or ends i x) (lt : i < length ends) (file : Name) (is : file ≡ string_bytes x.name) where

@@ -1,7 +1,7 @@
 -- What was begun: a database without keyspaces, whose journals hold nothing, and which of them is active.
 use Rattle.std.specs.Prelude.{◌≡◌, ◌⊎◌, ℕ, ◌<◌, ◌≤◌, ◌^◌, List, [], ◌∷◌}
 use Rattle.std.specs.FinMap.{empty}
-use Rattle.fjall_base.specs.Disk.{Image, State, IsFile}
+use Rattle.fjall_base.specs.Disk.{Image, DiskState, IsFile}
 use Rattle.fjall_files.specs.Names.{journal_name}
 use Rattle.fjall_meta.specs.Keyspaces.{no_keyspaces}
 use Rattle.fjall_catalog.specs.Catalog.{fields, first_catalog}
@@ -11,7 +11,7 @@ use Rattle.fjall_repair.specs.Plans.{empty_journals}
 
 -- A database without keyspaces rests on the disk: its journals hold nothing, and these are the ids of the sealed ones and that
 -- of the active one.
-pub record IsBegunOn (state : State) (sealed : List ℕ) (active : ℕ) : Type 0 where
+pub record IsBegunOn (state : DiskState) (sealed : List ℕ) (active : ℕ) : Type 0 where
   pub j : Journaling
   pub root : LiesInRoot state j
   pub journals : journals_with j [] ≡ journals_with (empty_journals sealed active) []

@@ -6,6 +6,3 @@ pub mod Steps
 pub mod Amids
 pub mod Listing
 pub mod Sweeps
-pub mod Opened
-pub mod Replaying
-pub mod Readings

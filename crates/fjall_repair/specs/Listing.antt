@@ -2,7 +2,7 @@
 use Rattle.std.specs.Prelude.{◌≡◌, ◌≢◌, ◌⊎◌, ◌==◌, ℕ, ◌<◌, ◌^◌, Bool, false, not, List, filter, map, Contains}
 use Rattle.std.specs.List.{list_any}
 use Rattle.fjall_table.specs.declared.table_info.TableInfo.{TableInfo}
-use Rattle.fjall_base.specs.Disk.{Name, Missing, State}
+use Rattle.fjall_base.specs.Disk.{Name, Missing, DiskState}
 use Rattle.fjall_base.specs.declared.disk.DirEntry.{DirEntry}
 use Rattle.fjall_files.specs.Names.{table_name}
 
@@ -19,6 +19,6 @@ abbrev pub as_file : DirEntry → DirEntry
 as_file entry = record { name = entry.name; is_folder = false }
 
 -- the names of all tables that stand in the folder of this id, but those of the ones that are named
-pub record AreTables (state : State) (id : ℕ) (named : List TableInfo) (names : List Name) : Type 0 where
+pub record AreTables (state : DiskState) (id : ℕ) (named : List TableInfo) (names : List Name) : Type 0 where
   pub each : (name : Name) → Contains names name → (n : ℕ) × (n < 2 ^ 64) × (name ≡ table_name id n) × (Contains (map (λ table. table.id) named) n → ⊥)
   pub whole : (n : ℕ) → n < 2 ^ 64 → (state (table_name id n)).now ≢ Missing → Contains (map (λ table. table.id) named) n ⊎ Contains names (table_name id n)

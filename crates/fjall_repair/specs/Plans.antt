@@ -5,17 +5,17 @@ use Rattle.std.specs.List.Sorted.{IsStrictlyIncreasing}
 use Rattle.std.specs.Str.{bytes_eq}
 use Rattle.std.specs.FinMap.{empty}
 use Rattle.fjall_base.specs.declared.error.FormatVersion.TheVariants.{V3}
-use Rattle.fjall_base.specs.Disk.{Meaning, Name, File, Folder, State, Image, IsFile, folder_of}
+use Rattle.fjall_base.specs.Disk.{Meaning, Name, File, Folder, DiskState, Image, IsFile, folder_of}
 use Rattle.fjall_files.specs.Texts.{text_in}
 use Rattle.fjall_files.specs.Calls.{seen}
 use Rattle.fjall_files.specs.Regions.{IsSafe}
-use Rattle.fjall_tree.specs.Records.{record_text}
+use Rattle.fjall_manifest.specs.Records.{record_text}
 use Rattle.fjall_files.specs.Marker.{header}
 use Rattle.fjall_files.specs.Names.{journal_name, keyspace_folder, current_name}
 use Rattle.fjall_meta.specs.Keyspaces.{no_keyspaces}
-use Rattle.fjall_home.specs.Homes.{only}
+use Rattle.fjall_manifest.specs.Homes.{only}
 use Rattle.fjall_catalog.specs.Catalog.{fields, first_catalog, records_in}
-use Rattle.fjall_recovery.specs.Journals.{Journal}
+use Rattle.fjall_recovery.specs.Journals.{WholeJournal}
 use Rattle.fjall_recovery.specs.Halves.{Tree}
 use Rattle.fjall_recovery.specs.Places.{Journaling, LiesInRoot, RestsInTree, journals_with}
 use Rattle.fjall_repair.specs.declared.beginning.plan.FileState.{FileState}
@@ -41,7 +41,7 @@ pub record AreToBe (image : Image) (ids : List ℕ) : Type 0 where
   pub all : (id : ℕ) → id < 2 ^ 64 → IsFile (image (journal_name id)) → Contains ids id
 
 -- The plan fits what stands in the image. The journals have the ids of the sealed ones and the active one's.
-pub record IsPlan (image : Image) (plan : BeginPlan) : Type 0 where
+pub record IsBeginPlan (image : Image) (plan : BeginPlan) : Type 0 where
   pub names : map string_bytes plan.journals.items ≡ map journal_name (plan.sealed.items ++ plan.active ∷ [])
   pub to_be : AreToBe image (plan.sealed.items ++ plan.active ∷ [])
   pub first_is : plan.first.items ≡ first_text
@@ -50,7 +50,7 @@ pub record IsPlan (image : Image) (plan : BeginPlan) : Type 0 where
   pub marker : IsFound plan.marker (header V3) (text_in (image (codes "version")))
 
 -- Tree 0 is made, and all of it is safe but the name of `keyspaces`.
-pub record HasFirstTree (state : State) : Type 0 where
+pub record HasFirstTree (state : DiskState) : Type 0 where
   pub keyspaces : (state (codes "keyspaces")).now ≡ Folder
   pub settled : (name : Name) → folder_of name ≡ codes "keyspaces" → (state name).older ≡ []
   pub folder : state (keyspace_folder 0) ≡ only Folder
@@ -61,7 +61,7 @@ abbrev pub first_tree : Tree
 first_tree = record { last = first_catalog; keyspaces = no_keyspaces; homes = empty; versions = empty }
 
 -- the journal of this id, which holds nothing
-abbrev pub empty_journal : ℕ → Journal
+abbrev pub empty_journal : ℕ → WholeJournal
 empty_journal id = record { id = id; batches = [] }
 
 -- the journals of these ids, which hold nothing, the last of them active
@@ -75,15 +75,15 @@ empty_journals sealed active = record {
 }
 
 -- the journals of a database that is begun by this plan
-abbrev pub journals_begun : BeginPlan → List Journal
+abbrev pub journals_begun : BeginPlan → List WholeJournal
 journals_begun plan = journals_with (empty_journals plan.sealed.items plan.active) []
 
 -- the state with a whole marker that is safe
-abbrev pub marked : State → State
+abbrev pub marked : DiskState → DiskState
 marked state name = if bytes_eq name (codes "version") then only (File (header V3) []) else state name
 
 -- Nothing but the marker is to be done: with it the database is made, and no crash brings back a name of the root.
-pub record AwaitsMarker (state : State) (sealed : List ℕ) (active : ℕ) : Type 0 where
+pub record AwaitsMarker (state : DiskState) (sealed : List ℕ) (active : ℕ) : Type 0 where
   pub root : LiesInRoot (marked state) (empty_journals sealed active)
   pub tree : RestsInTree (marked state) (fields first_catalog ∷ []) first_tree
   pub settled : (name : Name) → folder_of name ≡ [] → (state name).older ≡ []
@@ -99,7 +99,7 @@ abbrev pub FindsFirst : Image → FileState → Type 0
 FindsFirst image found = IsFound found first_text (records_in image)
 
 -- a file of these bytes stands there, all of them synced
-abbrev pub IsFilled : State → Name → List ℕ → Type 0
+abbrev pub IsFilled : DiskState → Name → List ℕ → Type 0
 IsFilled state name bytes = (state name).now ≡ File bytes []
 
 -- these are the names of journals, and so this is so

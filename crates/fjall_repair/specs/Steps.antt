@@ -1,17 +1,17 @@
 -- What is done to a folder that is mended, and what each part of it keeps.
 use Rattle.std.specs.Prelude.{◌≡◌, ◌⊎◌, All, Contains, ◌≢◌, ℕ, ◌-◌, ◌≤◌, Bool, false, nat_lt, List, [], ◌∷◌, length, map, take, codes, slice_index_or, string_bytes, Some}
 use Rattle.std.specs.List.{AllByRecursion}
-use Rattle.fjall_base.specs.Disk.{Name, Entry, Meaning, Missing, File, Place, State, Image, IsFile, IsImage, all_synced, folder_of}
-use Rattle.fjall_tree.specs.Records.{Fields, IsRecords}
+use Rattle.fjall_base.specs.Disk.{Name, DiskEntry, Meaning, Missing, File, Place, DiskState, Image, IsFile, IsImage, all_synced, folder_of}
+use Rattle.fjall_manifest.specs.Records.{Fields, IsRecords}
 use Rattle.fjall_base.specs.Lists.{last_of}
 use Rattle.fjall_files.specs.Texts.{text_in}
 use Rattle.fjall_files.specs.Calls.{seen}
 use Rattle.fjall_files.specs.Names.{journal_name, keyspace_folder, current_name}
 use Rattle.fjall_catalog.specs.declared.reading.LoadedCatalog.{LoadedCatalog}
 use Rattle.fjall_recovery.specs.declared.folder.RecoveredFolder.{RecoveredFolder}
-use Rattle.fjall_home.specs.declared.reading.LoadedHome.{LoadedHome}
+use Rattle.fjall_manifest.specs.declared.reading.LoadedHome.{LoadedHome}
 use Rattle.fjall_recovery.specs.Folders.{Contents, IsOpenable}
-use Rattle.fjall_recovery.specs.Journals.{Journal}
+use Rattle.fjall_recovery.specs.Journals.{WholeJournal}
 use Rattle.fjall_recovery.specs.Places.{texts_of}
 use Rattle.fjall_repair.specs.declared.mending.plan.FileEnd.{FileEnd}
 use Rattle.fjall_repair.specs.declared.mending.plan.MendPlan.{MendPlan}
@@ -60,7 +60,7 @@ ended_names active ids = journal_name active ∷ current_name 0 ∷ map current_
 
 -- the file is the active journal's, and its whole batches end there
 pub record EndsBatches (c : Contents) (name : Name) (len : ℕ) : Type 0 where
-  pub journal : Journal
+  pub journal : WholeJournal
   pub last : last_of c.journals ≡ Some journal
   pub named : name ≡ journal_name journal.id
   pub is : len ≡ length (texts_of journal.batches)
@@ -82,7 +82,7 @@ pub record IsRightEnd (image : Image) (c : Contents) (e : End) : Type 0 where
 -- ---- what the steps keep
 
 -- the journals, or an empty one of the id 1 where there is none
-abbrev pub opened : List Journal → List Journal
+abbrev pub opened : List WholeJournal → List WholeJournal
 opened [] = record { id = 1; batches = [] } ∷ []
 opened (j ∷ journals) = j ∷ journals
 
@@ -96,7 +96,7 @@ pub record IsOpened (image made : Image) (active : Name) : Type 0 where
   pub here : (IsFile (image active) × (made active ≡ image active)) ⊎ ((image active ≡ Missing) × (made active ≡ File [] []))
 
 -- a file all of whose bytes are synced
-abbrev pub IsSynced : Entry → Type 0
+abbrev pub IsSynced : DiskEntry → Type 0
 IsSynced entry = (bytes : List ℕ) × (entry ≡ File bytes [])
 
 -- what was there before is as it was, and what stands now is as it was or synced
@@ -105,12 +105,12 @@ pub record IsSame (old new : Place) : Type 0 where
   pub now : (new.now ≡ old.now) ⊎ (new.now ≡ all_synced old.now)
 
 -- the file has its first bytes alone, all of them synced
-abbrev pub IsEnded : State → State → End → Type 0
+abbrev pub IsEnded : DiskState → DiskState → End → Type 0
 IsEnded start state e = (state e.name).now ≡ File (take e.len (text_in (start e.name).now)) []
 
 -- An opening finds nothing wrong in the image, which holds this, and each file whose name is synced has a beginning of what it
 -- had.
-pub record Stays (start : State) (c : Contents) (image : Image) : Type 0 where
+pub record Stays (start : DiskState) (c : Contents) (image : Image) : Type 0 where
   pub sound : IsOpenable image c
   pub parts : (q : Name) → (start q).older ≡ [] → (n : ℕ) × (text_in (image q) ≡ take n (text_in (start q).now))
 
@@ -119,10 +119,10 @@ pub record Stays (start : State) (c : Contents) (image : Image) : Type 0 where
 -- The plan suits what stands and holds this: it names all that counts, and each file's end is right once the active journal
 -- is there.
 pub record Suits (image : Image) (c : Contents) (p : MendPlan) : Type 0 where
-  pub active : string_bytes p.active ≡ journal_name (active_of (map (λ (j : Journal). j.id) c.journals))
+  pub active : string_bytes p.active ≡ journal_name (active_of (map (λ (j : WholeJournal). j.id) c.journals))
   pub folders : map string_bytes p.folders.items ≡ folder_names (map (λ k. k.id) c.keyspaces.living)
-  pub whole : map string_bytes p.whole.items ≡ whole_names (map (λ (j : Journal). j.id) c.journals)
-  pub ended : map (λ (e : FileEnd). string_bytes e.name) p.ends.items ≡ ended_names (active_of (map (λ (j : Journal). j.id) c.journals)) (map (λ k. k.id) c.keyspaces.living)
+  pub whole : map string_bytes p.whole.items ≡ whole_names (map (λ (j : WholeJournal). j.id) c.journals)
+  pub ended : map (λ (e : FileEnd). string_bytes e.name) p.ends.items ≡ ended_names (active_of (map (λ (j : WholeJournal). j.id) c.journals)) (map (λ k. k.id) c.keyspaces.living)
   pub right : (made : Image) → IsOpened image made (string_bytes p.active) → AllByRecursion (IsRightEnd made (with_active c)) (map end_of p.ends.items)
 
 -- the end of tree 0's records: the whole ones end there, and where it isn't to be cut nothing stands behind
@@ -136,7 +136,7 @@ abbrev pub journal_end : RecoveredFolder → End
 journal_end f = record { name = journal_name (active_of f.journal_ids.items); cut = f.journals.torn; len = f.journals.end }
 
 -- the plan for the folder that was read, whose tree 0 has this end
-pub record IsPlanOf (f : RecoveredFolder) (tree : End) (p : MendPlan) : Type 0 where
+pub record IsMendPlan (f : RecoveredFolder) (tree : End) (p : MendPlan) : Type 0 where
   pub active : string_bytes p.active ≡ journal_name (active_of f.journal_ids.items)
   pub folders : map string_bytes p.folders.items ≡ folder_names (map (λ (h : LoadedHome). h.id) f.homes.items)
   pub whole : map string_bytes p.whole.items ≡ whole_names f.journal_ids.items
@@ -151,27 +151,27 @@ EndsWithRecords text = (records : List Fields) (end : ℕ) → IsRecords text re
 -- When all steps were taken: an opening finds nothing wrong in whatever a crash leaves, which holds this; no name that counts is
 -- unsynced, nor is a file that the plan names; and nothing stands behind the active journal's batches, nor behind the records of
 -- tree 0 and of each keyspace that lives.
-pub record IsRested (state : State) (c : Contents) : Type 0 where
+pub record IsRested (state : DiskState) (c : Contents) : Type 0 where
   pub images : (image : Image) → IsImage state image → IsOpenable image c
   pub root : (q : Name) → folder_of q ≡ [] → (state q).older ≡ []
   pub folders : AllByRecursion (λ f. (q : Name) → folder_of q ≡ f → (state q).older ≡ []) (folder_names (map (λ k. k.id) c.keyspaces.living))
-  pub whole : AllByRecursion (λ f. IsSynced (state f).now) (whole_names (map (λ (j : Journal). j.id) c.journals))
-  pub ended : AllByRecursion (λ f. IsSynced (state f).now) (ended_names (active_of (map (λ (j : Journal). j.id) c.journals)) (map (λ k. k.id) c.keyspaces.living))
-  pub active : (journal : Journal) → last_of c.journals ≡ Some journal → length (text_in (state (journal_name journal.id)).now) ≤ length (texts_of journal.batches)
+  pub whole : AllByRecursion (λ f. IsSynced (state f).now) (whole_names (map (λ (j : WholeJournal). j.id) c.journals))
+  pub ended : AllByRecursion (λ f. IsSynced (state f).now) (ended_names (active_of (map (λ (j : WholeJournal). j.id) c.journals)) (map (λ k. k.id) c.keyspaces.living))
+  pub active : (journal : WholeJournal) → last_of c.journals ≡ Some journal → length (text_in (state (journal_name journal.id)).now) ≤ length (texts_of journal.batches)
   pub records : (id : ℕ) → Contains (0 ∷ map (λ k. k.id) c.keyspaces.living) id → EndsWithRecords (text_in (state (current_name id)).now)
 
 -- ---- what a step is asked for
 
 -- the name is that of the active journal of these contents
 abbrev pub IsActiveIn : Contents → Name → Type 0
-IsActiveIn c name = name ≡ journal_name (active_of (map (λ (j : Journal). j.id) c.journals))
+IsActiveIn c name = name ≡ journal_name (active_of (map (λ (j : WholeJournal). j.id) c.journals))
 
 -- all of these are right ends
 abbrev pub AreRightEnds : Image → Contents → List FileEnd → Type 0
 AreRightEnds image c ends = All (λ e. IsRightEnd image c (end_of e)) ends
 
 -- the names of all of these files are synced
-abbrev pub AreNamesSynced : State → List FileEnd → Type 0
+abbrev pub AreNamesSynced : DiskState → List FileEnd → Type 0
 AreNamesSynced state ends = All (λ e. (state (string_bytes e.name)).older ≡ []) ends
 
 -- P is so of what the folder on the disk holds, where an opening finds nothing wrong in it and the plan suits it

@@ -3,8 +3,6 @@
 
 mod plan;
 mod steps;
-mod whole;
 
-pub(crate) use plan::active_id;
-pub use plan::{FileEnd, MendPlan};
-pub use whole::{mend, plan_mending};
+pub use plan::{FileEnd, MendPlan, active_id, plan_of};
+pub use steps::carry_out;

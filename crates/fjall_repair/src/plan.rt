@@ -7,11 +7,11 @@ ghost use Rattle.fjall_recovery.specs.Refusals.{HasRisen, IsDue};
 ghost use Rattle.fjall_files.specs.Calls.{AllServed};
 ghost use Rattle.fjall_meta.specs.declared.living.LivingKeyspace.{LivingKeyspace};
 ghost use Rattle.fjall_repair.specs.Listing.{AreTables, as_file, other_tables};
-ghost use Rattle.fjall_repair.specs.Sweeps.{AreHomesOf, FindsAll, FindsHomes, FindsTables, FindsTablesOf, HasAll, IsOwnHome, IsPlan, IsUnnamedHome, IsUnnamedTable, Lives, names_of};
+ghost use Rattle.fjall_repair.specs.Sweeps.{AreHomesOf, FindsAll, FindsHomes, FindsTables, FindsTablesOf, HasAll, IsOwnHome, IsSweepPlan, IsUnnamedHome, IsUnnamedTable, KeyspaceLives, names_of};
 
 use fjall_base::{DirEntry, Disk, Error, Result};
 use fjall_files::{OwnFiles, list_folder, list_own_files, table_name, tables};
-use fjall_home::LoadedHome;
+use fjall_manifest::LoadedHome;
 use fjall_meta::LivingKeyspace;
 use fjall_table::TableInfo;
 use std::alloc::Global;
@@ -116,7 +116,7 @@ fn lives(living: &[LivingKeyspace], id: u64) -> bool
 
 /// Whether the folder of this id is tree 0's, or that of a keyspace that lives.
 fn is_named(living: &[LivingKeyspace], id: u64) -> bool
-    ensures { IsTrue result ↔ ((id ≡ 0) ⊎ Lives living.now id) }
+    ensures { IsTrue result ↔ ((id ≡ 0) ⊎ KeyspaceLives living.now id) }
 {
     id == 0 || lives(living, id)
 }
@@ -166,7 +166,7 @@ pub fn plan_sweep<D: Disk>(
     living: &[LivingKeyspace],
     folder_ids: &[u64],
 ) -> Result<SweepPlan>
-    ensures right { IsTrue D.honest → AreHomesOf living.now homes.now → IfOk result (IsPlan (names_of tree.now homes.now) living.now) }
+    ensures right { IsTrue D.honest → AreHomesOf living.now homes.now → IfOk result (IsSweepPlan (names_of tree.now homes.now) living.now) }
     ensures whole { IsTrue D.honest → AreHomesOf living.now homes.now
         → IfOk result (FindsAll (state_in (D.meaning disk.old)) (names_of tree.now homes.now) living.now folder_ids.now) }
     ensures same { IsTrue D.honest → Took (D.meaning disk.old) (D.meaning disk.new) [] }

@@ -9,8 +9,8 @@ ghost use Rattle.fjall_meta.specs.declared.living.LivingKeyspace.{LivingKeyspace
 ghost use Rattle.fjall_recovery.specs.Halves.{HasTree, Tree};
 ghost use Rattle.fjall_recovery.specs.Places.{LiesInTree, RestsInTree};
 ghost use Rattle.fjall_files.specs.Regions.{Within};
-ghost use Rattle.fjall_repair.specs.Sweeps.{AreGone, FindsTables, HasAll, IsPlan, IsUnnamedHome, Names, Removes, home_names, names_in, planned};
-ghost use Rattle.fjall_tree.specs.Records.{Fields};
+ghost use Rattle.fjall_repair.specs.Sweeps.{FindsTables, HasAll, IsSweepPlan, IsUnnamedHome, NamesAreGone, RemovesNames, TablesNamed, home_names, names_in, planned};
+ghost use Rattle.fjall_manifest.specs.Records.{Fields};
 
 use crate::plan::SweepPlan;
 use fjall_base::{Disk, Result};
@@ -18,8 +18,8 @@ use fjall_files::OwnFiles;
 
 /// Removes files, one after another, where they are there.
 fn remove_all<D: Disk>(disk: &mut D, names: &[String]) -> Result<()>
-    ensures removes { IsTrue D.honest → Removes (Contains (map string_bytes names.now)) (D.meaning disk.old) (D.meaning disk.new) }
-    ensures gone { IsTrue D.honest → OnOk result (AreGone (state_in (D.meaning disk.new)) (map string_bytes names.now)) }
+    ensures removes { IsTrue D.honest → RemovesNames (Contains (map string_bytes names.now)) (D.meaning disk.old) (D.meaning disk.new) }
+    ensures gone { IsTrue D.honest → OnOk result (NamesAreGone (state_in (D.meaning disk.new)) (map string_bytes names.now)) }
     ensures cause { OnlyFaults (D.meaning disk.old) (D.meaning disk.new) result }
     ensures kinds { IsTrue D.honest → StaysTidy (D.meaning disk.old) (D.meaning disk.new) }
     ensures served { IsTrue D.honest → All (λ name. IsNoFolder (state_in (D.meaning disk.old) (string_bytes name)).now) names.now
@@ -33,8 +33,8 @@ fn remove_all<D: Disk>(disk: &mut D, names: &[String]) -> Result<()>
 
 /// Removes what is in a folder, and then the folder.
 fn remove_unnamed<D: Disk>(disk: &mut D, home: &OwnFiles) -> Result<()>
-    ensures removes { IsTrue D.honest → Removes (Contains (home_names home.now)) (D.meaning disk.old) (D.meaning disk.new) }
-    ensures gone { IsTrue D.honest → OnOk result (AreGone (state_in (D.meaning disk.new)) (home_names home.now)) }
+    ensures removes { IsTrue D.honest → RemovesNames (Contains (home_names home.now)) (D.meaning disk.old) (D.meaning disk.new) }
+    ensures gone { IsTrue D.honest → OnOk result (NamesAreGone (state_in (D.meaning disk.new)) (home_names home.now)) }
     ensures cause { OnlyFaults (D.meaning disk.old) (D.meaning disk.new) result }
     ensures kinds { IsTrue D.honest → StaysTidy (D.meaning disk.old) (D.meaning disk.new) }
     ensures served { IsTrue D.honest → IsTidy (state_in (D.meaning disk.old)) → (living : List LivingKeyspace) → IsUnnamedHome living home.now
@@ -46,8 +46,8 @@ fn remove_unnamed<D: Disk>(disk: &mut D, home: &OwnFiles) -> Result<()>
 
 /// Removes folders with what is in them, one after another.
 fn remove_homes<D: Disk>(disk: &mut D, homes: &[OwnFiles]) -> Result<()>
-    ensures removes { IsTrue D.honest → Removes (Contains (flat_map home_names homes.now)) (D.meaning disk.old) (D.meaning disk.new) }
-    ensures gone { IsTrue D.honest → OnOk result (AreGone (state_in (D.meaning disk.new)) (flat_map home_names homes.now)) }
+    ensures removes { IsTrue D.honest → RemovesNames (Contains (flat_map home_names homes.now)) (D.meaning disk.old) (D.meaning disk.new) }
+    ensures gone { IsTrue D.honest → OnOk result (NamesAreGone (state_in (D.meaning disk.new)) (flat_map home_names homes.now)) }
     ensures cause { OnlyFaults (D.meaning disk.old) (D.meaning disk.new) result }
     ensures kinds { IsTrue D.honest → StaysTidy (D.meaning disk.old) (D.meaning disk.new) }
     ensures served { IsTrue D.honest → IsTidy (state_in (D.meaning disk.old)) → (living : List LivingKeyspace) → All (IsUnnamedHome living) homes.now
@@ -66,26 +66,26 @@ fn remove_homes<D: Disk>(disk: &mut D, homes: &[OwnFiles]) -> Result<()>
 /// has removed was named by nothing either.
 pub fn sweep<D: Disk>(disk: &mut D, plan: &SweepPlan) -> Result<()>
     // Names of the plan are removed and nothing else is done, and after a success none of them is left.
-    ensures removes { IsTrue D.honest → Removes (Contains (planned plan.now)) (D.meaning disk.old) (D.meaning disk.new) }
-    ensures gone { IsTrue D.honest → OnOk result (AreGone (state_in (D.meaning disk.new)) (planned plan.now)) }
-    ensures within { IsTrue D.honest → (t : Tree) → IsPlan (names_in t) t.keyspaces.living plan.now
+    ensures removes { IsTrue D.honest → RemovesNames (Contains (planned plan.now)) (D.meaning disk.old) (D.meaning disk.new) }
+    ensures gone { IsTrue D.honest → OnOk result (NamesAreGone (state_in (D.meaning disk.new)) (planned plan.now)) }
+    ensures within { IsTrue D.honest → (t : Tree) → IsSweepPlan (names_in t) t.keyspaces.living plan.now
         → Within (codes "keyspaces") (D.meaning disk.old) (D.meaning disk.new) }
     // A crash at any moment of the call leaves what the records name.
-    ensures any_moment { IsTrue D.honest → (records : List Fields) (t : Tree) → IsPlan (names_in t) t.keyspaces.living plan.now
+    ensures any_moment { IsTrue D.honest → (records : List Fields) (t : Tree) → IsSweepPlan (names_in t) t.keyspaces.living plan.now
         → RestsInTree (state_in (D.meaning disk.old)) records t
         → LeavesOnly (D.meaning disk.old) (D.meaning disk.new) (λ image. HasTree image t) }
     // It rests as before, also where the call fails.
-    ensures rests { IsTrue D.honest → (records : List Fields) (t : Tree) → IsPlan (names_in t) t.keyspaces.living plan.now
+    ensures rests { IsTrue D.honest → (records : List Fields) (t : Tree) → IsSweepPlan (names_in t) t.keyspaces.living plan.now
         → RestsInTree (state_in (D.meaning disk.old)) records t
         → RestsInTree (state_in (D.meaning disk.new)) records t }
-    ensures ok { IsTrue D.honest → (records : List Fields) (t : Tree) → IsPlan (names_in t) t.keyspaces.living plan.now
+    ensures ok { IsTrue D.honest → (records : List Fields) (t : Tree) → IsSweepPlan (names_in t) t.keyspaces.living plan.now
         → RestsInTree (state_in (D.meaning disk.old)) records t
         → FindsTables (state_in (D.meaning disk.old)) (names_in t) (map string_bytes plan.now.tables.items)
         → OnOk result (LiesInTree (state_in (D.meaning disk.new)) records t) }
     ensures cause { OnlyFaults (D.meaning disk.old) (D.meaning disk.new) result }
     ensures kinds { IsTrue D.honest → StaysTidy (D.meaning disk.old) (D.meaning disk.new) }
-    ensures served { IsTrue D.honest → IsTidy (state_in (D.meaning disk.old)) → (names : Names) (living : List LivingKeyspace)
-        → IsPlan names living plan.now → All (HasAll (state_in (D.meaning disk.old))) plan.now.homes.items
+    ensures served { IsTrue D.honest → IsTidy (state_in (D.meaning disk.old)) → (names : TablesNamed) (living : List LivingKeyspace)
+        → IsSweepPlan names living plan.now → All (HasAll (state_in (D.meaning disk.old))) plan.now.homes.items
         → AllServed (D.meaning disk.old) (D.meaning disk.new) }
 {
     remove_all(disk, &plan.tables)?;

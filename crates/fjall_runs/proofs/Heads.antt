@@ -1,7 +1,6 @@
 -- The first of the heads of runs.
 use Rattle.std.proofs.Common.{◌≡◌, ℕ, zero, suc, ◌+◌, ◌<◌, ◌≤◌, Bool, true, false, List, [], ◌∷◌, ◌++◌, length, map, take, get_or, Option, Some, None, refl, sym, ap, subst, ◌∙◌, arith, ◌⊎◌, inl, inr}
 use Rattle.std.specs.List.{All, AllByRecursion, slice_get, slice_set}
-use Rattle.std.specs.Option.{option_map}
 use Rattle.std.specs.Cmp.{IsTotalOrder}
 use Rattle.std.specs.Ordering.{nat_cmp, ordering_then}
 use Rattle.std.specs.declared.cmp.Ordering.{Ordering}
@@ -14,7 +13,7 @@ use Rattle.fjall_table.specs.declared.table_entry.TableEntry.{TableEntry}
 use Rattle.fjall_memtable.specs.Stamps.{stamp_cmp, stamp_total}
 use Rattle.fjall_memtable.specs.Entries.{stamp_of}
 use Rattle.fjall_memtable.proofs.Fronts.{less}
-use Rattle.fjall_sorted.specs.Sorted.{IsFirst, IsUpTo, IsUpToFirst}
+use Rattle.fjall_memtable.specs.Sorted.{IsFirst, IsUpTo, IsUpToFirst}
 use Rattle.fjall_runs.specs.Heads.{ComesBefore, HasFirst, HasTwo}
 
 -- ---- the order
@@ -287,12 +286,6 @@ turned back runs at other run v two get head second =
 pub has_one : (runs : List (List Entry)) (at : ℕ) (run : List Entry) (v : Entry) → slice_get runs at ≡ Some run → Some v ≡ slice_get run 0 → (v : Entry) × (rest : List Entry) × (slice_get runs at ≡ Some (v ∷ rest))
 has_one runs at run v get head = let h = headed run v head in (v, h.0, get ∙ ap Some h.1)
 
--- ---- all runs
-
-pub is_first : (back : Bool) (runs : List (List Entry)) (best : Option (ℕ × TableEntry)) → HasFirst back runs best → IsFirst back runs (option_map (λ first. first.0) best)
-is_first back runs None has = has
-is_first back runs (Some first) has = (seen first.1, has.0, has.1)
-
 -- ---- one more of the runs
 
 plus_one : (n : ℕ) → suc n + 1 ≡ suc (n + 1)
@@ -307,12 +300,6 @@ pub taken_len : {A B : Type 0} (f : A → B) (xs : List A) (i : ℕ) → i ≤ l
 taken_len f xs zero le = refl
 taken_len f [] (suc i) le = absurd (omega arith)
 taken_len f (x ∷ xs) (suc i) le = ap suc (taken_len f xs i (omega arith))
-
-pub taken_whole : {A B : Type 0} (f : A → B) (xs : List A) (i : ℕ) → length xs ≤ i → take i (map f xs) ≡ map f xs
-taken_whole f [] zero le = refl
-taken_whole f [] (suc i) le = refl
-taken_whole f (x ∷ xs) zero le = absurd (omega arith)
-taken_whole f (x ∷ xs) (suc i) le = ap (λ (zs : List _). f x ∷ zs) (taken_whole f xs i (omega arith))
 
 -- the run at a place
 pub got_at : {A B : Type 0} (f : A → B) (xs : List A) (i : ℕ) (x : A) → i < length xs → x ≡ get_or xs i x → slice_get (map f xs) i ≡ Some (f x)

@@ -6,7 +6,7 @@ use Rattle.std.specs.Str.{bytes_eq}
 use Rattle.std.proofs.lemmas.Bool.Decides.{nat_tests}
 use Rattle.fjall_base.specs.Pairs.{Bytes}
 use Rattle.fjall_table.specs.Blocks.{Entry}
-use Rattle.fjall_sorted.specs.Pages.{found_with, is_another, pair_found, pair_in, pair_of, pairs_back}
+use Rattle.fjall_memtable.specs.SortedPages.{found_with, is_another, pair_found, pair_in, pair_of, pairs_back}
 use Rattle.fjall_runs.specs.Texts.{pairs_in}
 use Rattle.fjall_runs.specs.Keyed.{IsKeyed, Keyed, found_in, last_in, pairs_of_last}
 use Rattle.fjall_runs.proofs.Texts.{more_pairs, pairs_len}

@@ -1,4 +1,9 @@
 pub mod Heads
-pub mod Texts
-pub mod Paging
-pub mod Keyeds
+mod Texts
+mod RunPaging
+mod Keyeds
+mod Parts
+mod Paging
+pub mod Orders
+mod Reading
+pub mod Looping

@@ -1,107 +1,279 @@
--- Pages over runs, version after version.
-use Rattle.std.proofs.Common.{◌≡◌, ℕ, zero, suc, ◌+◌, ◌<◌, ◌≤◌, Bool, true, false, List, [], ◌∷◌, ◌++◌, length, map, take, get_or, Some, None, refl, sym, ap, subst, ◌∙◌, arith, length-append}
-use Rattle.std.specs.List.{All, slice_get, slice_set}
-use Rattle.std.proofs.lemmas.List.{append-nil, take-append-le}
-use Rattle.std.proofs.lemmas.List.Elements.{All-head, All-tail}
-use Rattle.fjall_base.specs.Pairs.{Bytes}
+-- Pages over runs some of which stand only partly in memory.
+use Rattle.std.proofs.Common.{◌≡◌, ℕ, zero, suc, ◌+◌, ◌-◌, ◌<◌, ◌≤◌, Bool, true, false, cond, List, [], ◌∷◌, ◌++◌, length, map, take, drop, reverse, get_or, slice_get, slice_set, position, Option, Some, None, IfSome, refl, sym, ap, subst, ◌∙◌, arith, ◌&&◌, ltb, inl, inr}
+use Rattle.std.specs.List.{AllByRecursion, position_or_len}
+use Rattle.std.proofs.lemmas.Bool.{cases_Bool, ltb-false}
+use Rattle.std.proofs.lemmas.List.{append-nil, reverse-reverse, take-append-le}
+use Rattle.std.proofs.lemmas.List.Elements.{All-from_recursion, recursion_from_All}
+use Rattle.fjall_base.specs.Pairs.{Bytes, KeyRange}
 use Rattle.fjall_table.specs.Blocks.{Entry}
-use Rattle.fjall_views.specs.Jobs.{OnceEach}
-use Rattle.fjall_sorted.specs.Sorted.{IsFirst, IsInTurn, flat, in_turn, sorted}
-use Rattle.fjall_sorted.proofs.Taking.{first_taken, runs_in_turn, others_once}
+use Rattle.fjall_table.specs.Tables.{entries_of, entries_within}
+use Rattle.fjall_memtable.specs.Sorted.{IsFirst, IsUpToFirst, flat, in_turn}
+use Rattle.fjall_runs.proofs.RunPaging as runs
+use Rattle.fjall_runs.proofs.RunPaging.{made_more, made_all, set_run, got_run}
+use Rattle.fjall_runs.specs.declared.page_run.PageRun.{PageRun}
+use Rattle.fjall_runs.specs.declared.page_run.PageRun.TheVariants.{Memory, Table}
+use Rattle.fjall_runs.specs.declared.page_maker.PageMaker.{PageMaker}
+use Rattle.fjall_runs.specs.declared.page_maker.PageMaker.TheVariants.{Front, Back}
+use Rattle.fjall_runs.specs.Parts.{Ahead}
+use Rattle.fjall_runs.specs.Runs.{ahead_of, all_behind, all_of, behind_of, is_dry, is_empty, joined, left_in}
+use Rattle.fjall_runs.specs.Pages.{IsMade, goes_back, made, made_with}
+use Rattle.fjall_runs.specs.Leads.{Leading, UndryBut}
 
--- The runs are in order, and what is made with all that is left in them is the whole.
-pub record IsMade (back : Bool) (runs : List (List Entry)) (whole : List (Bytes × Bytes)) (all : List Entry → List (Bytes × Bytes)) (made : List (Bytes × Bytes)) (max : ℕ) : Type 0 where
-  pub ordered : All (IsInTurn back) runs
-  pub once : OnceEach (flat runs)
-  pub told : all (in_turn back (sorted (flat runs))) ≡ whole
-  pub few : length made ≤ max
+-- ---- runs none of which has to be filled
+
+-- Where nothing of a list is in memory, nothing is behind it.
+abbrev Ready : List (List Entry) → List (List Entry) → Type 0
+Ready [] more = Unit {0}
+Ready (run ∷ runs) [] = Unit {0}
+Ready (run ∷ runs) (rest ∷ more) = (run ≡ [] → rest ≡ []) × Ready runs more
+
+none_taken : (n : ℕ) (blocks : List (List Entry)) → n ≡ 0 → take n blocks ≡ []
+none_taken n blocks e = ap (λ (k : ℕ). take k blocks) e
+
+turned_none : (back : Bool) → in_turn {A = Entry} back [] ≡ []
+turned_none false = refl
+turned_none true = refl
+
+none_left : (back : Bool) (held : List Entry) → in_turn back held ≡ [] → held ≡ []
+none_left false held e = e
+none_left true held e = sym (reverse-reverse held) ∙ ap (λ (es : List Entry). reverse es) e
+
+past_end : (held : List Entry) (next last : ℕ) → held ≡ [] → (is_empty held && ltb next last) ≡ false → last - next ≡ 0
+past_end [] next last e dry = let f : ltb next last ≡ false = dry in omega (arith, ltb-false next last f)
+past_end (h ∷ held) next last e dry = absurd (cc e)
+
+ready_one : (range : KeyRange) (blocks : List (List Entry)) (run : PageRun) → is_dry run ≡ false → left_in run ≡ [] → behind_of range blocks (ahead_of run) ≡ []
+ready_one range blocks (Memory run) dry e = refl
+ready_one range blocks (Table part) dry e =
+    let none = past_end part.held part.ahead.next part.ahead.last (none_left part.ahead.back part.held e) dry in
+    ap (λ (bs : List (List Entry)). in_turn part.ahead.back (entries_within range (entries_of bs))) (none_taken (part.ahead.last - part.ahead.next) (drop part.ahead.next blocks) none) ∙ turned_none part.ahead.back
+
+ready_all : (range : KeyRange) (tables : List (List (List Entry))) (runs : List PageRun) → AllByRecursion (λ run. is_dry run ≡ false) runs → Ready (map left_in runs) (all_behind range tables (map ahead_of runs))
+ready_all range tables [] each = tt
+ready_all range [] (run ∷ runs) each = (ready_one range [] run each.0, ready_all range [] runs each.1)
+ready_all range (blocks ∷ tables) (run ∷ runs) each = (ready_one range blocks run each.0, ready_all range tables runs each.1)
+
+-- where no element passes a test, each fails it
+none_found : {X : Type 0} (p : X → Bool) (xs : List X) → length xs ≤ position_or_len p xs → AllByRecursion (λ x. p x ≡ false) xs
+none_found p [] le = tt
+none_found p (x ∷ xs) le = elim (cases_Bool (p x)) [
+  | inl t ↦ absurd (omega (arith, le, starts t))
+  | inr f ↦ (f, none_found p xs (omega (arith, le, goes_on f)))
+]
+  where
+    starts : p x ≡ true → position_or_len p (x ∷ xs) ≡ 0
+    starts t = rw t refl
+
+    goes_on : p x ≡ false → position_or_len p (x ∷ xs) ≡ position_or_len p xs + 1
+    goes_on f = rw f (omega arith)
+
+none_passes : (t : Bool) (at : ℕ) → cond t (Some at) None ≡ None → t ≡ false
+none_passes true at e = absurd (cc e)
+none_passes false at e = refl
+
+pub all_undry : (runs : List PageRun) → position is_dry runs ≡ None → AllByRecursion (λ run. is_dry run ≡ false) runs
+all_undry runs e = none_found is_dry runs (ltb-false (position_or_len is_dry runs) (length runs) (none_passes (ltb (position_or_len is_dry runs) (length runs)) (position_or_len is_dry runs) e))
+
+pub none_dry : (range : KeyRange) (tables : List (List (List Entry))) (runs : List PageRun) → position is_dry runs ≡ None → Ready (map left_in runs) (all_behind range tables (map ahead_of runs))
+none_dry range tables runs e = ready_all range tables runs (all_undry runs e)
+
+-- ---- the first version of all
+
+-- The run at a place with what is behind it.
+record IsJoined (lefts behinds : List (List Entry)) (at : ℕ) (v : Entry) (rest : List Entry) : Type 0 where
+  more : List Entry
+  here : slice_get (joined lefts behinds) at ≡ Some (v ∷ (rest ++ more))
+  set : joined (slice_set lefts at rest) behinds ≡ slice_set (joined lefts behinds) at (rest ++ more)
+
+joined_at : (lefts behinds : List (List Entry)) (at : ℕ) (v : Entry) (rest : List Entry) → slice_get lefts at ≡ Some (v ∷ rest) → IsJoined lefts behinds at v rest
+joined_at [] behinds at v rest e = absurd cc
+joined_at (run ∷ lefts) [] zero v rest e =
+    let is : run ≡ v ∷ rest = cc in
+    record { more = []; here = ap (λ (r : List Entry). Some (r ++ [])) is; set = refl }
+joined_at (run ∷ lefts) (b ∷ behinds) zero v rest e =
+    let is : run ≡ v ∷ rest = cc in
+    record { more = b; here = ap (λ (r : List Entry). Some (r ++ b)) is; set = refl }
+joined_at (run ∷ lefts) [] (suc at) v rest e =
+    let j = joined_at lefts [] at v rest e in
+    record { more = j.more; here = j.here; set = ap (λ (rs : List (List Entry)). (run ++ []) ∷ rs) j.set }
+joined_at (run ∷ lefts) (b ∷ behinds) (suc at) v rest e =
+    let j = joined_at lefts behinds at v rest e in
+    record { more = j.more; here = j.here; set = ap (λ (rs : List (List Entry)). (run ++ b) ∷ rs) j.set }
+
+up_to_one : (back : Bool) (v : Entry) (run b : List Entry) → IsUpToFirst back v run → (run ≡ [] → b ≡ []) → IsUpToFirst back v (run ++ b)
+up_to_one back v [] b h ready = subst (IsUpToFirst back v) (sym (ready refl)) tt
+up_to_one back v (w ∷ run) b h ready = h
+
+up_to_all : (back : Bool) (v : Entry) (lefts behinds : List (List Entry)) → Ready lefts behinds → AllByRecursion (IsUpToFirst back v) lefts → AllByRecursion (IsUpToFirst back v) (joined lefts behinds)
+up_to_all back v [] behinds ready h = tt
+up_to_all back v (run ∷ lefts) [] ready h = (up_to_one back v run [] h.0 (λ e. refl), up_to_all back v lefts [] (none_behind lefts) h.1)
+  where
+    none_behind : (lefts : List (List Entry)) → Ready lefts []
+    none_behind [] = tt
+    none_behind (run ∷ lefts) = tt
+up_to_all back v (run ∷ lefts) (b ∷ behinds) ready h = (up_to_one back v run b h.0 ready.0, up_to_all back v lefts behinds ready.1 h.1)
+
+none_joined : (lefts behinds : List (List Entry)) → Ready lefts behinds → AllByRecursion (λ run. run ≡ []) lefts → AllByRecursion (λ run. run ≡ []) (joined lefts behinds)
+none_joined [] behinds ready h = tt
+none_joined (run ∷ lefts) [] ready h = (append-nil run ∙ h.0, none_joined lefts [] (none_behind lefts) h.1)
+  where
+    none_behind : (lefts : List (List Entry)) → Ready lefts []
+    none_behind [] = tt
+    none_behind (run ∷ lefts) = tt
+none_joined (run ∷ lefts) (b ∷ behinds) ready h = (ap (λ (r : List Entry). r ++ b) h.0 ∙ ready.0 h.0, none_joined lefts behinds ready.1 h.1)
 
 -- ---- one version
 
--- the run that was read begins with the first version
-first_left : (left old : List Entry) (runs : List (List Entry)) (at : ℕ) → slice_get runs at ≡ Some left → slice_get runs at ≡ Some old → left ≡ old
-first_left left old runs at e f = cc (e, f)
+-- as the crate below says it
+to_runs : (back : Bool) (rs : List (List Entry)) (whole : List (Bytes × Bytes)) (all : List Entry → List (Bytes × Bytes)) (made_yet : List (Bytes × Bytes)) (max : ℕ) → IsMade back rs whole all made_yet max → runs.IsMade back rs whole all made_yet max
+to_runs back rs whole all made_yet max is = record { ordered = is.ordered; once = is.once; told = is.told; few = is.few }
 
-pub made_more : (back : Bool) (runs others : List (List Entry)) (at : ℕ) (left rest_left : List Entry) (whole : List (Bytes × Bytes)) (all all_new : List Entry → List (Bytes × Bytes)) (made made_new : List (Bytes × Bytes)) (max : ℕ)
-    → IsMade back runs whole all made max → IsFirst back runs (Some at) → slice_get runs at ≡ Some left → others ≡ slice_set runs at rest_left
+of_runs : (back : Bool) (rs : List (List Entry)) (whole : List (Bytes × Bytes)) (all : List Entry → List (Bytes × Bytes)) (made_yet : List (Bytes × Bytes)) (max : ℕ) → runs.IsMade back rs whole all made_yet max → IsMade back rs whole all made_yet max
+of_runs back rs whole all made_yet max is = record { ordered = is.ordered; once = is.once; told = is.told; few = is.few }
+
+joined_more : (back : Bool) (lefts behinds others : List (List Entry)) (at : ℕ) (left rest_left : List Entry) (whole : List (Bytes × Bytes)) (all all_new : List Entry → List (Bytes × Bytes)) (made_yet made_new : List (Bytes × Bytes)) (max : ℕ)
+    → IsMade back (joined lefts behinds) whole all made_yet max → Ready lefts behinds → IsFirst back lefts (Some at) → slice_get lefts at ≡ Some left → others ≡ slice_set lefts at rest_left
     → ((v : Entry) (rest : List Entry) → left ≡ v ∷ rest → rest_left ≡ rest)
     → ((v : Entry) (rest versions : List Entry) → left ≡ v ∷ rest → all_new versions ≡ all (v ∷ versions))
-    → length made_new ≤ length made + 1 → length made < max → IsMade back others whole all_new made_new max
-made_more back runs others at left rest_left whole all all_new made made_new max is first get set passed looked few lt =
+    → length made_new ≤ length made_yet + 1 → length made_yet < max → IsMade back (joined others behinds) whole all_new made_new max
+joined_more back lefts behinds others at left rest_left whole all all_new made_yet made_new max is ready first get set passed looked few lt =
     let v = first.0 in
     let rest = first.1 in
-    let begins : left ≡ v ∷ rest = first_left left (v ∷ rest) runs at get first.2.here in
-    let same : others ≡ slice_set runs at rest = set ∙ ap (λ (run : List Entry). slice_set runs at run) (passed v rest begins) in
-    let taken = first_taken back runs at v rest is.ordered is.once first.2 in
-    record {
-      ordered = subst (All (IsInTurn back)) (sym same) (runs_in_turn back runs at v rest is.ordered first.2);
-      once = subst (λ (rs : List (List Entry)). OnceEach (flat rs)) (sym same) (others_once back runs at v rest is.once first.2);
-      told = ap (λ (rs : List (List Entry)). all_new (in_turn back (sorted (flat rs)))) same
-          ∙ looked v rest (in_turn back (sorted (flat (slice_set runs at rest)))) begins
-          ∙ ap all (sym taken) ∙ is.told;
-      few = omega (arith, few, lt);
-    }
-
--- one version less is left
-shorter : (runs : List (List Entry)) (at : ℕ) (v : Entry) (rest : List Entry) → slice_get runs at ≡ Some (v ∷ rest) → length (flat (slice_set runs at rest)) < length (flat runs)
-shorter [] at v rest e = absurd (cc e)
-shorter (run ∷ runs) zero v rest e =
-    let same : run ≡ v ∷ rest = cc e in
-    let a = length-append rest (flat runs) in
-    let b = length-append run (flat runs) in
-    let n = ap length same in
-    omega (arith, a, b, n)
-shorter (run ∷ runs) (suc at) v rest e =
-    let less = shorter runs at v rest e in
-    let a = length-append run (flat (slice_set runs at rest)) in
-    let b = length-append run (flat runs) in
-    omega (arith, a, b, less)
-
-pub fewer_left : (back : Bool) (runs others : List (List Entry)) (at : ℕ) (left rest_left : List Entry) → IsFirst back runs (Some at) → slice_get runs at ≡ Some left → others ≡ slice_set runs at rest_left
-    → ((v : Entry) (rest : List Entry) → left ≡ v ∷ rest → rest_left ≡ rest) → length (flat others) < length (flat runs)
-fewer_left back runs others at left rest_left first get set passed =
-    let v = first.0 in
-    let rest = first.1 in
-    let begins : left ≡ v ∷ rest = first_left left (v ∷ rest) runs at get first.2.here in
-    let same : others ≡ slice_set runs at rest = set ∙ ap (λ (run : List Entry). slice_set runs at run) (passed v rest begins) in
-    subst (λ (rs : List (List Entry)). length (flat rs) < length (flat runs)) (sym same) (shorter runs at v rest first.2.here)
-
--- ---- the runs of a slice
-
-pub got_run : {A B : Type 0} (f : A → B) (xs : List A) (i : ℕ) (d : A) → i < length xs → slice_get (map f xs) i ≡ Some (f (get_or xs i d))
-got_run f [] i d lt = absurd (omega arith)
-got_run f (y ∷ xs) zero d lt = refl
-got_run f (y ∷ xs) (suc i) d lt = got_run f xs i d (omega arith)
-
-pub set_run : {A B : Type 0} (f : A → B) (xs : List A) (i : ℕ) (x : A) → map f (slice_set xs i x) ≡ slice_set (map f xs) i (f x)
-set_run f [] i x = refl
-set_run f (y ∷ xs) zero x = refl
-set_run f (y ∷ xs) (suc i) x = ap (λ (zs : List _). f y ∷ zs) (set_run f xs i x)
-
--- ---- the end
-
-nothing_flat : (runs : List (List Entry)) → All (λ run. run ≡ []) runs → flat runs ≡ []
-nothing_flat [] each = refl
-nothing_flat (run ∷ runs) each = ap (λ (r : List Entry). r ++ flat runs) (All-head (λ r. r ≡ []) run runs each) ∙ nothing_flat runs (All-tail (λ r. r ≡ []) run runs each)
-
-nothing_turned : (back : Bool) → in_turn back (sorted []) ≡ []
-nothing_turned false = refl
-nothing_turned true = refl
+    let same_left : (l m : List Entry) → slice_get lefts at ≡ Some l → slice_get lefts at ≡ Some m → l ≡ m = λ l m e f. cc (e, f) in
+    let begins : left ≡ v ∷ rest = same_left left (v ∷ rest) get first.2.here in
+    let j = joined_at lefts behinds at v rest first.2.here in
+    let same : joined others behinds ≡ slice_set (joined lefts behinds) at (rest ++ j.more) = ap (λ (rs : List (List Entry)). joined rs behinds) (set ∙ ap (λ (run : List Entry). slice_set lefts at run) (passed v rest begins)) ∙ j.set in
+    let up = All-from_recursion (IsUpToFirst back v) (joined lefts behinds) (up_to_all back v lefts behinds ready (recursion_from_All (IsUpToFirst back v) lefts first.2.first)) in
+    of_runs back (joined others behinds) whole all_new made_new max (made_more back (joined lefts behinds) (joined others behinds) at (v ∷ (rest ++ j.more)) (rest ++ j.more) whole all all_new made_yet made_new max
+    (to_runs back (joined lefts behinds) whole all made_yet max is) (v, rest ++ j.more, record { here = j.here; first = up }) j.here same
+    (λ w behind e. cc e) (λ w behind versions e. looked v rest versions begins ∙ ap (λ (u : Entry). all (u ∷ versions)) (head_of v w (rest ++ j.more) behind e)) few lt)
+  where
+    head_of : (v w : Entry) (vs ws : List Entry) → v ∷ vs ≡ w ∷ ws → v ≡ w
+    head_of v w vs ws e = cc e
 
 -- all was looked at
-pub made_all : (back : Bool) (runs : List (List Entry)) (whole : List (Bytes × Bytes)) (all : List Entry → List (Bytes × Bytes)) (made : List (Bytes × Bytes)) (max : ℕ) → IsMade back runs whole all made max → IsFirst back runs None → all [] ≡ whole
-made_all back runs whole all made max is none =
-    sym (ap (λ (vs : List Entry). all (in_turn back (sorted vs))) (nothing_flat runs none) ∙ ap all (nothing_turned back)) ∙ is.told
+pub joined_all : (back : Bool) (lefts behinds : List (List Entry)) (whole : List (Bytes × Bytes)) (all : List Entry → List (Bytes × Bytes)) (made_yet : List (Bytes × Bytes)) (max : ℕ) → IsMade back (joined lefts behinds) whole all made_yet max → Ready lefts behinds → IsFirst back lefts None → all [] ≡ whole
+joined_all back lefts behinds whole all made_yet max is ready none =
+    made_all back (joined lefts behinds) whole all made_yet max (to_runs back (joined lefts behinds) whole all made_yet max is)
+    (All-from_recursion (λ run. run ≡ []) (joined lefts behinds) (none_joined lefts behinds ready (recursion_from_All (λ run. run ≡ []) lefts none)))
 
-whole_taken : {A : Type 0} (n : ℕ) (xs : List A) → length xs ≤ n → take n xs ≡ xs
-whole_taken zero [] le = refl
-whole_taken (suc n) [] le = refl
-whole_taken zero (x ∷ xs) le = absurd (omega arith)
-whole_taken (suc n) (x ∷ xs) le = ap (λ (zs : List _). x ∷ zs) (whole_taken n xs (omega arith))
+-- ---- runs of a page
 
--- what is behind a full page doesn't count
-pub full_page : {A : Type 0} (max : ℕ) (made more : List A) → max ≤ length made → length made ≤ max → take max (made ++ more) ≡ made
-full_page max made more ge le = take-append-le max made more ge ∙ whole_taken max made le
+pub same_set : {A : Type 0} (xs : List A) (i : ℕ) (x : A) → slice_get xs i ≡ Some x → slice_set xs i x ≡ xs
+same_set [] i x e = absurd (cc e)
+same_set (y ∷ xs) zero x e = let same : y ≡ x = cc e in ap (λ (z : _). z ∷ xs) (sym same)
+same_set (y ∷ xs) (suc i) x e = ap (λ (ys : List _). y ∷ ys) (same_set xs i x e)
 
-pub short_page : {A : Type 0} (max : ℕ) (made : List A) → length made ≤ max → take max (made ++ []) ≡ made
-short_page max made le = ap (take max) (append-nil made) ∙ whole_taken max made le
+-- a run that was passed on has the same blocks to come
+pub same_ahead : (runs : List PageRun) (at : ℕ) (d new : PageRun) → at < length runs → ahead_of new ≡ ahead_of (get_or runs at d) → map ahead_of (slice_set runs at new) ≡ map ahead_of runs
+same_ahead runs at d new lt same = set_run ahead_of runs at new ∙ same_set (map ahead_of runs) at (ahead_of new) (got_run ahead_of runs at d lt ∙ ap (λ a. Some a) (sym same))
+
+-- a full page
+pub full : (page : PageMaker) (max : ℕ) (versions : List Entry) → max ≤ length (made page) → take max (made_with page []) ≡ take max (made_with page versions)
+full (Front page) max versions le = take-append-le max (made (Front page)) _ le ∙ sym (take-append-le max (made (Front page)) _ le)
+full (Back page) max versions le = take-append-le max (made (Back page)) _ le ∙ sym (take-append-le max (made (Back page)) _ le)
+
+-- What a page is gone on with.
+pub record Going (back : Bool) (max : ℕ) (first_page page : PageMaker) (first_runs runs : List PageRun) : Type 0 where
+  pub end : goes_back page ≡ back
+  pub ahead : map ahead_of runs ≡ map ahead_of first_runs
+  pub all : (range : KeyRange) (tables : List (List (List Entry))) (whole : List (Bytes × Bytes)) → IsMade back (all_of range tables first_runs) whole (made_with first_page) (made first_page) max → IsMade back (all_of range tables runs) whole (made_with page) (made page) max
+  pub few : length (made first_page) ≤ max → length (made page) ≤ max
+
+pub going_more : (back : Bool) (max : ℕ) (first_page page after : PageMaker) (first_runs runs : List PageRun) (at : ℕ) (d new : PageRun) → Going back max first_page page first_runs runs
+    → length (made page) < max → AllByRecursion (λ run. is_dry run ≡ false) runs → IsFirst back (map left_in runs) (Some at) → at < length runs
+    → ahead_of new ≡ ahead_of (get_or runs at d) → goes_back after ≡ goes_back page
+    → ((v : Entry) (rest : List Entry) → left_in (get_or runs at d) ≡ v ∷ rest → left_in new ≡ rest)
+    → ((v : Entry) (rest versions : List Entry) → left_in (get_or runs at d) ≡ v ∷ rest → made_with after versions ≡ made_with page (v ∷ versions))
+    → length (made after) ≤ length (made page) + 1
+    → Going back max first_page after first_runs (slice_set runs at new)
+going_more back max first_page page after first_runs runs at d new g lt dry first within ahead ends passed looked few =
+    let kept = same_ahead runs at d new within ahead in
+    record {
+      end = ends ∙ g.end;
+      ahead = kept ∙ g.ahead;
+      all = λ range tables whole is.
+          subst (λ (ahead : List (Option Ahead)). IsMade back (joined (map left_in (slice_set runs at new)) (all_behind range tables ahead)) whole (made_with after) (made after) max) (sym kept)
+          (joined_more back (map left_in runs) (all_behind range tables (map ahead_of runs)) (map left_in (slice_set runs at new)) at (left_in (get_or runs at d)) (left_in new) whole (made_with page) (made_with after) (made page) (made after) max
+          (g.all range tables whole is) (ready_all range tables runs dry) first (got_run left_in runs at d within) (set_run left_in runs at new) passed looked few lt);
+      few = λ le. omega (arith, few, lt);
+    }
+
+-- ---- a run that goes on
+
+undry_but : (at : ℕ) (runs : List PageRun) → AllByRecursion (λ run. is_dry run ≡ false) runs → UndryBut at runs
+undry_but at [] each = tt
+undry_but zero (run ∷ runs) each = each.1
+undry_but (suc at) (run ∷ runs) each = (each.0, undry_but at runs each.1)
+
+undry_set : (at : ℕ) (runs : List PageRun) (new : PageRun) → UndryBut at runs → UndryBut at (slice_set runs at new)
+undry_set at [] new each = tt
+undry_set zero (run ∷ runs) new each = each
+undry_set (suc at) (run ∷ runs) new each = (each.0, undry_set at runs new each.1)
+
+-- what has a version in memory needn't be filled
+undry_one : (run : PageRun) (v : Entry) (rest : List Entry) → left_in run ≡ v ∷ rest → is_dry run ≡ false
+undry_one (Memory run) v rest e = refl
+undry_one (Table part) v rest e = by part.held refl
+  where
+    by : (held : List Entry) → part.held ≡ held → (is_empty part.held && ltb part.ahead.next part.ahead.last) ≡ false
+    by [] none = absurd (nothing_first (sym e ∙ ap (in_turn part.ahead.back) none ∙ turned_none part.ahead.back))
+      where
+        nothing_first : v ∷ rest ≡ [] → ⊥
+        nothing_first f = cc f
+    by (h ∷ held) some = rw some refl
+
+undry_all : (at : ℕ) (runs : List PageRun) (v : Entry) (rest : List Entry) → UndryBut at runs → slice_get (map left_in runs) at ≡ Some (v ∷ rest) → AllByRecursion (λ run. is_dry run ≡ false) runs
+undry_all at [] v rest each e = tt
+undry_all zero (run ∷ runs) v rest each e = (undry_one run v rest (cc e), each)
+undry_all (suc at) (run ∷ runs) v rest each e = (each.0, undry_all at runs v rest each.1 e)
+
+set_again : {A : Type 0} (xs : List A) (i : ℕ) (x y : A) → slice_set (slice_set xs i x) i y ≡ slice_set xs i y
+set_again [] i x y = refl
+set_again (z ∷ xs) zero x y = refl
+set_again (z ∷ xs) (suc i) x y = ap (λ (zs : List _). z ∷ zs) (set_again xs i x y)
+
+set_length : {A : Type 0} (xs : List A) (i : ℕ) (x : A) → length (slice_set xs i x) ≡ length xs
+set_length [] i x = refl
+set_length (y ∷ xs) zero x = refl
+set_length (y ∷ xs) (suc i) x = ap suc (set_length xs i x)
+
+-- the two runs that come first, of some none of which has to be filled
+pub leading : (back : Bool) (runs : List PageRun) (two : ℕ × Option ℕ) → AllByRecursion (λ run. is_dry run ≡ false) runs → IsFirst back (map left_in runs) (Some two.0) → IsFirst back (slice_set (map left_in runs) two.0 []) two.1 → two.0 < length runs → IfSome two.1 (λ other. other < length runs)
+    → Leading back runs two.0 two.1
+leading back runs two undry first second within other_within = record { within = within; other_within = other_within; first = first; second = second; undry = undry }
+
+pub undry_has : (runs : List PageRun) (at : ℕ) → UndryBut at runs → ((v : Entry) × (rest : List Entry) × (slice_get (map left_in runs) at ≡ Some (v ∷ rest))) → AllByRecursion (λ run. is_dry run ≡ false) runs
+undry_has runs at undry has = undry_all at runs has.0 has.1 undry has.2
+
+pub leading_of : (back : Bool) (runs : List PageRun) (at : ℕ) (next : Option (ℕ × Option ℕ)) → UndryBut at runs → IfSome next (λ two. IsFirst back (map left_in runs) (Some two.0)) → IfSome next (λ two. IsFirst back (slice_set (map left_in runs) two.0 []) two.1)
+    → IfSome next (λ two. two.0 < length runs) → IfSome next (λ two. IfSome two.1 (λ other. other < length runs)) → IfSome next (λ _. (v : Entry) × (rest : List Entry) × (slice_get (map left_in runs) at ≡ Some (v ∷ rest))) → IfSome next (λ two. Leading back runs two.0 two.1)
+leading_of back runs at None undry first second within other has = tt
+leading_of back runs at (Some two) undry first second within other has = leading back runs two (undry_has runs at undry has) first second within other
+
+-- what stands of the first of them, once it was passed on
+pub record Passed (back : Bool) (runs : List PageRun) (at : ℕ) (other : Option ℕ) : Type 0 where
+  pub within : at < length runs
+  pub other_within : IfSome other (λ other. other < length runs)
+  pub undry : UndryBut at runs
+  pub second : IsFirst back (slice_set (map left_in runs) at []) other
+
+pub passed_on : (back : Bool) (runs : List PageRun) (at : ℕ) (other : Option ℕ) (new : PageRun) → Leading back runs at other → Passed back (slice_set runs at new) at other
+passed_on back runs at other new l =
+    let long = sym (set_length runs at new) in
+    record {
+      within = subst (λ (n : ℕ). at < n) long l.within;
+      other_within = subst (λ (n : ℕ). IfSome other (λ other. other < n)) long l.other_within;
+      undry = undry_set at runs new (undry_but at runs l.undry);
+      second = subst (λ (rs : List (List Entry)). IsFirst back rs other) (sym (ap (λ (rs : List (List Entry)). slice_set rs at []) (set_run left_in runs at new) ∙ set_again (map left_in runs) at (left_in new) [])) l.second;
+    }
+
+-- The two runs that a page goes on with, if any, and fewer versions are left than at first, or as many before one was looked at.
+abbrev pub IsNext : Bool → ℕ → List PageRun → PageMaker → List PageRun → Option (ℕ × Option ℕ) → Type 0
+IsNext back max first page runs None = length (flat (map left_in runs)) < length (flat (map left_in first))
+IsNext back max first page runs (Some two) = Leading back runs two.0 two.1 × (length (made page) < max) × (length (flat (map left_in runs)) ≤ length (flat (map left_in first)))
+
+pub next_of : (back : Bool) (max : ℕ) (first : List PageRun) (page : PageMaker) (runs : List PageRun) (next : Option (ℕ × Option ℕ)) → length (flat (map left_in runs)) < length (flat (map left_in first)) → IfSome next (λ _. length (made page) < max) → IfSome next (λ two. Leading back runs two.0 two.1)
+    → IsNext back max first page runs next
+next_of back max first page runs None fewer room leads = fewer
+next_of back max first page runs (Some two) fewer room leads = (leads, room, omega (arith, fewer))

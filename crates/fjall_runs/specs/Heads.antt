@@ -3,7 +3,7 @@ use Rattle.std.specs.Prelude.{◌≡◌, ℕ, Bool, true, false, List, [], ◌�
 use Rattle.std.specs.List.{All}
 use Rattle.fjall_table.specs.Blocks.{Entry, seen, IsBefore}
 use Rattle.fjall_table.specs.declared.table_entry.TableEntry.{TableEntry}
-use Rattle.fjall_sorted.specs.Sorted.{IsFirstOf}
+use Rattle.fjall_memtable.specs.Sorted.{IsFirstOf}
 
 -- The first comes before the second as they are gone through, from the start or from behind.
 abbrev pub ComesBefore : Bool → Entry → Entry → Type 0

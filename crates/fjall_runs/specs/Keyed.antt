@@ -2,7 +2,7 @@
 use Rattle.std.specs.Prelude.{ℕ, ◌+◌, ◌≤◌, Bool, if◌then◌else◌, List, [], ◌++◌, Option, Some, None, length, take, drop}
 use Rattle.fjall_base.specs.Pairs.{Bytes}
 use Rattle.fjall_table.specs.Blocks.{Entry}
-use Rattle.fjall_sorted.specs.Pages.{pair_in}
+use Rattle.fjall_memtable.specs.SortedPages.{pair_in}
 use Rattle.fjall_runs.specs.Texts.{AreAllOf}
 
 -- the pairs before the last key, and that key, with its value if it has one

@@ -1,4 +1,9 @@
 pub mod Heads
 pub mod Texts
 pub mod Keyed
+pub mod RunPages
+pub mod Parts
+pub mod Runs
 pub mod Pages
+pub mod Tables
+pub mod Leads

@@ -2,7 +2,7 @@
 
 ghost use Rattle.std.specs.Prelude.{◌≡◌, ◌≤◌, ◌+◌, ◌∷◌, [], List, None, false, length, reverse, take, IfOk, OnOk, IsTrue, ◌↔◌};
 ghost use Rattle.fjall_table.specs.Blocks.{Entry, seen};
-ghost use Rattle.fjall_sorted.specs.Pages.{is_another, pairs_back};
+ghost use Rattle.fjall_memtable.specs.SortedPages.{is_another, pairs_back};
 ghost use Rattle.fjall_runs.specs.Keyed.{found_in};
 
 use crate::front_page::value_shown;
@@ -32,7 +32,7 @@ fn is_of_another(text: &KeyedText, version: &TableEntry<'_>, bound: u64) -> bool
 }
 
 impl BackPage {
-    ghost use Rattle.fjall_runs.specs.Pages.{back_pairs, back_with};
+    ghost use Rattle.fjall_runs.specs.RunPages.{back_pairs, back_with};
 
     /// A page with no pair yet, of what is numbered below the instant; all that is numbered below the bound is cleared. It
     /// takes no memory.

@@ -3,7 +3,7 @@
 ghost use Rattle.std.specs.Prelude.{◌≡◌, ◌≤◌, ◌+◌, ◌++◌, ◌∷◌, [], List, None, length, IfOk, OnOk, IsTrue, ◌↔◌};
 ghost use Rattle.std.specs.Option.{option_map};
 ghost use Rattle.fjall_table.specs.Blocks.{Entry, seen};
-ghost use Rattle.fjall_sorted.specs.Pages.{is_settled, pair_in, pair_of, pairs_of};
+ghost use Rattle.fjall_memtable.specs.SortedPages.{is_settled, pair_in, pair_of, pairs_of};
 ghost use Rattle.fjall_runs.specs.Keyed.{key_of};
 
 use crate::keyed_text::KeyedText;
@@ -43,7 +43,7 @@ fn is_of(text: &KeyedText, version: &TableEntry<'_>) -> bool
 }
 
 impl FrontPage {
-    ghost use Rattle.fjall_runs.specs.Pages.{front_pairs, front_with};
+    ghost use Rattle.fjall_runs.specs.RunPages.{front_pairs, front_with};
 
     /// A page with no pair yet, of what is numbered below the instant; all that is numbered below the bound is cleared. It
     /// takes no memory.

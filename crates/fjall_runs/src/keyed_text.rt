@@ -3,8 +3,8 @@
 ghost use Rattle.std.specs.Prelude.{◌≡◌, ◌++◌, ◌∷◌, [], None, Some, if◌then◌else◌, is_ok, length, IfOk, OnOk};
 ghost use Rattle.std.specs.Option.{option_map};
 ghost use Rattle.fjall_table.specs.Blocks.{seen};
-ghost use Rattle.fjall_sorted.specs.Pages.{is_settled};
-ghost use Rattle.fjall_sorted.specs.Sorted.{in_turn};
+ghost use Rattle.fjall_memtable.specs.SortedPages.{is_settled};
+ghost use Rattle.fjall_memtable.specs.Sorted.{in_turn};
 ghost use Rattle.fjall_runs.specs.Keyed.{all_pairs, key_of, settled};
 
 use crate::pair_text::PairText;

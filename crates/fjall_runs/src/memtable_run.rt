@@ -3,7 +3,7 @@
 ghost use Rattle.std.specs.Prelude.{◌≡◌, drop, slice_get};
 ghost use Rattle.std.specs.Option.{option_map};
 ghost use Rattle.fjall_table.specs.Blocks.{seen};
-ghost use Rattle.fjall_sorted.specs.Sorted.{in_turn};
+ghost use Rattle.fjall_memtable.specs.Sorted.{in_turn};
 ghost use Rattle.fjall_runs.specs.Heads.{with_head};
 
 use crate::run::Run;
@@ -22,7 +22,7 @@ pub struct MemtableRun<'a> {
 impl<'a> Model for MemtableRun<'a> {
     ghost use Rattle.std.specs.Prelude.{List};
     ghost use Rattle.fjall_table.specs.Blocks.{Entry};
-    ghost use Rattle.fjall_sorted.specs.Sorted.{in_turn};
+    ghost use Rattle.fjall_memtable.specs.Sorted.{in_turn};
     ghost use Rattle.fjall_runs.specs.Heads.{with_head};
 
     ghost Value = { List Entry };

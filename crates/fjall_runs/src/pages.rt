@@ -1,107 +1,70 @@
-//! Pages over runs in memory.
+//! Pages over tables on a disk and what stands in memory.
 
-ghost use Rattle.std.specs.Prelude.{◌≡◌, ◌≤◌, ◌<◌, ◌+◌, ◌∷◌, Bool, false, true, List, None, length, map, reverse, take, IfOk, OnOk, IsTrue, IsFalse};
+ghost use Rattle.std.specs.Prelude.{◌≡◌, ◌++◌, ⊤, List, map, take, IfOk, IfErr, IsTrue};
 ghost use Rattle.std.specs.List.{All};
+ghost use Rattle.fjall_base.specs.Pairs.{key_range};
 ghost use Rattle.fjall_table.specs.Blocks.{Entry};
+ghost use Rattle.fjall_table_reader.specs.Files.{IsRefused};
+ghost use Rattle.fjall_table.specs.Tables.{entries_within};
 ghost use Rattle.fjall_views.specs.Jobs.{OnceEach};
-ghost use Rattle.fjall_sorted.specs.Pages.{pairs_back, pairs_of};
-ghost use Rattle.fjall_sorted.specs.Sorted.{IsInTurn, flat, sorted};
-ghost use Rattle.fjall_runs.specs.Pages.{back_pairs, back_with, front_pairs, front_with};
+ghost use Rattle.fjall_memtable.specs.Sorted.{IsInTurn, flat, in_turn, sorted};
+ghost use Rattle.fjall_table_reader.specs.Readers.{AreRead, AreSameTables, LooksOn, SomeTableIsWrong};
+ghost use Rattle.fjall_runs.specs.Pages.{page_of};
 
-use crate::back_page::BackPage;
-use crate::front_page::FrontPage;
-use crate::run::{Run, first_of};
-use fjall_base::KvPair;
-use std::alloc::{AllocError, Global};
+use crate::memtable_run::MemtableRun;
+use crate::page_maker::PageMaker;
+use crate::starts::page_runs;
+use fjall_base::{Disk, KeyBounds, KvPair, Result};
+use fjall_table_reader::TableReader;
+use std::alloc::Global;
 
-// Looks at the first version of a run, and passes it over.
-fn look_from_front<R: Run>(page: &mut FrontPage, run: &mut R) -> Result<(), AllocError>
-    ensures left { OnOk result ((v : Entry) (rest : List Entry) → R.left run.old ≡ v ∷ rest → R.left run.new ≡ rest) }
-    ensures all { OnOk result ((v : Entry) (rest versions : List Entry) → R.left run.old ≡ v ∷ rest → front_with page.new versions ≡ front_with page.old (v ∷ versions)) }
-    ensures few { OnOk result (length (front_pairs page.new) ≤ length (front_pairs page.old) + 1) }
-{
-    let Some(version) = run.first() else {
-        return Ok(());
-    };
-    page.look(&version)?;
-    run.pass();
-    Ok(())
+/// What is asked of a page.
+#[derive(Clone, Copy, Debug)]
+pub struct PageQuery {
+    /// Only what is numbered below it is seen.
+    pub instant: u64,
+    /// All that is numbered below it is cleared.
+    pub bound: u64,
+    /// Whether the last pairs are asked for, and not the first.
+    pub back: bool,
+    /// How many pairs at most.
+    pub max: usize,
 }
 
-fn page_from_front<R: Run>(
+/// The first pairs between the bounds that the tables and the runs in memory make at an instant, or the last ones where
+/// `back` holds, in the order of their keys in both cases; the runs in memory lie between the bounds and are gone through
+/// from the start or from behind alike. A block is read when it is wanted; one that is damaged is `Storage(TableDamaged)`.
+/// Blocks that were read are kept, also after an `Err`.
+pub fn page<D: Disk>(
     alloc: Global,
-    runs: &mut [R],
-    instant: u64,
-    bound: u64,
-    max: usize,
-) -> Result<Vec<KvPair>, AllocError>
-    requires ordered { All (IsInTurn false) (map R.left runs.old) }
-    requires once { OnceEach (flat (map R.left runs.old)) }
-    ensures { IfOk result (λ pairs. pairs.items ≡ take max (pairs_of instant bound None (sorted (flat (map R.left runs.old))))) }
+    disk: &mut D,
+    tables: &mut [TableReader],
+    memory: Vec<MemtableRun<'_>>,
+    range: KeyBounds<'_>,
+    query: PageQuery,
+) -> Result<Vec<KvPair>>
+    ensures pairs { IsTrue D.honest → (entries : List (List Entry)) → AreRead (D.meaning disk.old) tables.old entries → All (IsInTurn query.back) memory.entry.items
+        → OnceEach (flat entries ++ flat (map (in_turn query.back) memory.entry.items))
+        → IfOk result (λ pairs. pairs.items ≡ in_turn query.back (take query.max (page_of query.back query.instant query.bound
+        (in_turn query.back (sorted (entries_within (key_range range.entry) (flat entries) ++ flat (map (in_turn query.back) memory.entry.items))))))) }
+    ensures reads { IsTrue D.honest → (entries : List (List Entry)) → AreRead (D.meaning disk.old) tables.old entries → AreRead (D.meaning disk.new) tables.new entries }
+    ensures refused { IsTrue D.honest → (entries : List (List Entry)) → AreRead (D.meaning disk.old) tables.old entries
+        → IfErr result (IsRefused (SomeTableIsWrong (D.meaning disk.old) tables.old) (D.meaning disk.old).faults (D.meaning disk.new).faults) }
+    ensures tables { AreSameTables tables.old tables.new }
+    ensures disk { LooksOn D.honest (D.meaning disk.old) (D.meaning disk.new) }
+    ensures listed { IfErr result (IsRefused ⊤ (D.meaning disk.old).faults (D.meaning disk.new).faults) }
 {
-    let mut page = FrontPage::new(alloc, instant, bound);
-    while page.len() < max {
-        let Some(at) = first_of(runs, false) else {
-            return page.finish();
-        };
-        look_from_front(&mut page, &mut runs[at])?;
+    let PageQuery {
+        instant,
+        bound,
+        back,
+        max,
+    } = query;
+    let mut all = page_runs(alloc, tables, memory, range, back)?;
+    let mut maker = PageMaker::new(alloc, instant, bound, back);
+    let runs = all.as_mut_slice();
+    'filling: while let Some(at) = maker.go_on(runs, back, max)? {
+        runs[at].fill(alloc, disk, &mut tables[at], range)?;
     }
-    page.finish()
-}
-
-// Looks at the first version of a run that is gone through from behind, and passes it over.
-fn look_from_behind<R: Run>(page: &mut BackPage, run: &mut R) -> Result<(), AllocError>
-    ensures left { OnOk result ((v : Entry) (rest : List Entry) → R.left run.old ≡ v ∷ rest → R.left run.new ≡ rest) }
-    ensures all { OnOk result ((v : Entry) (rest versions : List Entry) → R.left run.old ≡ v ∷ rest → back_with page.new versions ≡ back_with page.old (v ∷ versions)) }
-    ensures few { OnOk result (length (back_pairs page.new) ≤ length (back_pairs page.old) + 1) }
-{
-    let Some(version) = run.first() else {
-        return Ok(());
-    };
-    page.look(&version)?;
-    run.pass();
-    Ok(())
-}
-
-fn page_from_behind<R: Run>(
-    alloc: Global,
-    runs: &mut [R],
-    instant: u64,
-    bound: u64,
-    max: usize,
-) -> Result<Vec<KvPair>, AllocError>
-    requires ordered { All (IsInTurn true) (map R.left runs.old) }
-    requires once { OnceEach (flat (map R.left runs.old)) }
-    ensures { IfOk result (λ pairs. pairs.items ≡ reverse (take max (pairs_back instant bound None (reverse (sorted (flat (map R.left runs.old))))))) }
-{
-    let mut page = BackPage::new(alloc, instant, bound);
-    while page.len() < max {
-        let Some(at) = first_of(runs, true) else {
-            return page.finish(max);
-        };
-        look_from_behind(&mut page, &mut runs[at])?;
-    }
-    page.finish(max)
-}
-
-/// The pairs that the runs' versions make at an instant, where all that is numbered below the bound is cleared: the first
-/// `max` of them, or the last `max` where `back` holds and the runs are gone through from behind; in the order of their
-/// keys in both cases. It is refused for want of memory alone.
-pub fn page<R: Run>(
-    alloc: Global,
-    runs: &mut [R],
-    instant: u64,
-    bound: u64,
-    back: bool,
-    max: usize,
-) -> Result<Vec<KvPair>, AllocError>
-    requires ordered { All (IsInTurn back) (map R.left runs.old) }
-    requires once { OnceEach (flat (map R.left runs.old)) }
-    ensures forward { IsFalse back → IfOk result (λ pairs. pairs.items ≡ take max (pairs_of instant bound None (sorted (flat (map R.left runs.old))))) }
-    ensures back { IsTrue back → IfOk result (λ pairs. pairs.items ≡ reverse (take max (pairs_back instant bound None (reverse (sorted (flat (map R.left runs.old))))))) }
-{
-    if back {
-        return page_from_behind(alloc, runs, instant, bound, max);
-    }
-    page_from_front(alloc, runs, instant, bound, max)
+    Ok(maker.finish(max)?)
 }

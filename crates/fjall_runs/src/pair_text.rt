@@ -1,7 +1,7 @@
 //! The pairs of a page.
 
-ghost use Rattle.std.specs.Prelude.{◌≡◌, ◌+◌, ◌≤◌, ◌++◌, ◌∷◌, [], length, take, drop, IfOk, OnOk, OnErr, IsTrue, ◌↔◌};
-ghost use Rattle.fjall_sorted.specs.Sorted.{in_turn};
+ghost use Rattle.std.specs.Prelude.{◌≡◌, ◌+◌, ◌≤◌, length, take, drop, IfOk, OnOk};
+ghost use Rattle.fjall_memtable.specs.Sorted.{in_turn};
 ghost use Rattle.fjall_runs.specs.Texts.{pairs_in, AreAllOf};
 
 use bytes::Bytes;
@@ -58,49 +58,12 @@ fn cut(alloc: Global, text: Vec<u8>, lens: &[(usize, usize)]) -> Result<Vec<KvPa
 }
 
 impl PairText {
-    /// No pairs. It takes no memory.
-    pub fn new(alloc: Global) -> PairText
-        ensures { result ≡ [] }
-    {
-        PairText {
-            alloc,
-            text: Vec::new(alloc),
-            lens: Vec::new(alloc),
-        }
-    }
-
     /// The pairs of so many bytes each, which are the whole text.
     pub(crate) fn from_parts(alloc: Global, text: Vec<u8>, lens: Vec<(usize, usize)>) -> PairText
         requires { AreAllOf lens.items text.items }
         ensures { result ≡ pairs_in lens.items text.items }
     {
         PairText { alloc, text, lens }
-    }
-
-    /// How many pairs there are.
-    pub fn len(&self) -> usize
-        ensures { result ≡ length self.now }
-    {
-        self.lens.len()
-    }
-
-    /// Whether there is no pair.
-    pub fn is_empty(&self) -> bool
-        ensures { IsTrue result ↔ (self.now ≡ []) }
-    {
-        self.len() == 0
-    }
-
-    /// Adds a copy of a key and its value. It is refused for want of memory alone, and an `Err` leaves all as it was.
-    pub fn push(&mut self, key: &[u8], value: &[u8]) -> Result<(), AllocError>
-        ensures ok { OnOk result (self.new ≡ self.old ++ (key.now, value.now) ∷ []) }
-        ensures err { OnErr result (self.new ≡ self.old) }
-    {
-        self.text.reserve(key.len() + value.len())?;
-        self.lens.push((key.len(), value.len()))?;
-        self.text.extend_from_slice(key)?;
-        self.text.extend_from_slice(value)?;
-        Ok(())
     }
 
     /// The pairs, as parts of one text that is kept as long as one of them is: as they came, or the last one first where

@@ -4,7 +4,7 @@ ghost use Rattle.std.specs.Prelude.{◌≡◌, ◌↔◌, ◌<◌, ◌+◌, ◌+
 ghost use Rattle.std.specs.Option.{option_map};
 ghost use Rattle.fjall_table.specs.Blocks.{Entry, seen};
 ghost use Rattle.fjall_runs.specs.Heads.{ComesBefore, HasFirst, HasTwo};
-ghost use Rattle.fjall_sorted.specs.Sorted.{IsFirst};
+ghost use Rattle.fjall_memtable.specs.Sorted.{IsFirst};
 
 use fjall_table::TableEntry;
 

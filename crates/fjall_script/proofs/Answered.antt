@@ -10,7 +10,7 @@ use Rattle.std.proofs.lemmas.Fmt.{first_decimal, decimal_nonempty}
 use Rattle.fjall_base.specs.declared.error.Error.{Error}
 use Rattle.fjall_base.specs.declared.error.Error.TheVariants.{Io}
 use Rattle.fjall_base.specs.Errors.{number_of, name_of}
-use Rattle.fjall_blocks.specs.Readers.{Reader}
+use Rattle.fjall_table_reader.specs.Readers.{Reader}
 use Rattle.fjall_journal.specs.declared.op.Op.{Op}
 use Rattle.fjall_journal.specs.declared.op.Op.TheVariants.{Put}
 use Rattle.fjall_history.specs.declared.job.JobId.{JobId}
@@ -20,11 +20,11 @@ use Rattle.fjall_history.specs.Queries as queries
 use Rattle.fjall_history.specs.Queries.{Query}
 use Rattle.fjall_history.specs.declared.reply.Reply.{Reply}
 use Rattle.fjall_history.specs.declared.reply.Reply.TheVariants.{Began, Done, Ids, Value, Pairs, Number, Names, Flag, Opened, Refused}
-use Rattle.fjall_state.specs.declared.call.Call.{Call}
-use Rattle.fjall_state.specs.declared.call.Call.TheVariants.{FlushBegin, FlushFinish, MajorBegin, MergeFinish}
-use Rattle.fjall_state.specs.Places.{resolved, view_at}
-use Rattle.fjall_state.specs.declared.merges.MergeKind.TheVariants.{Major}
-use Rattle.fjall_state.specs.Shapes.{OfFlushBegin, OfFlushFinish, OfMergeBegin, OfMergeFinish, Shape, shape_of}
+use Rattle.fjall_machine.specs.declared.call.Call.{Call}
+use Rattle.fjall_machine.specs.declared.call.Call.TheVariants.{FlushBegin, FlushFinish, MajorBegin, MergeFinish}
+use Rattle.fjall_machine.specs.Places.{resolved, view_at}
+use Rattle.fjall_machine.specs.declared.merge_kind.MergeKind.TheVariants.{Major}
+use Rattle.fjall_machine.specs.Shapes.{CallShape, OfFlushBegin, OfFlushFinish, OfMergeBegin, OfMergeFinish, shape_of}
 use Rattle.fjall_lines.specs.declared.command.Command.{Command}
 use Rattle.fjall_lines.specs.declared.command.Command.TheVariants.{Ask, Crash, Reopen}
 use Rattle.fjall_lines.specs.declared.command.Request.{Request}
@@ -38,7 +38,7 @@ use Rattle.fjall_calls.specs.declared.call.TxCall.TheVariants as tx
 use Rattle.fjall_calls.specs.declared.call.Within.TheVariants as within
 use Rattle.fjall_calls.specs.Serving as served
 use Rattle.fjall_calls.specs.Serving.{AllCome, ComesTo, Itself, OneComes, Others}
-use Rattle.fjall_core.specs.Standing.{Gives, GivesRead, IsOfKind, Owes, OwesAll, OwesBegin, OwesFinish, OwesMerge, OwesMergeBegin, tables_of}
+use Rattle.fjall_core.specs.Standing.{Gives, GivesRead, IsAnswerTo, Owes, OwesAll, OwesBegin, OwesFinish, OwesMerge, OwesMergeBegin, tables_of}
 use Rattle.fjall_script.specs.Requests.{AreCallsBehind, IsCallOf, SoFar, all_calls, asked_with, begun_at, behind, calls_with, counts_of, finish_of, is_same, is_stop, job_of, left_of, named, none_so_far, place_in, numbers_before, requests_of}
 use Rattle.fjall_script.specs.declared.calls.Job.{Job}
 use Rattle.fjall_script.specs.declared.calls.Job.TheVariants as jobs
@@ -104,7 +104,7 @@ ok_is_good : ok_line ≡ bad_line → ⊥
 ok_is_good h = let first = ap first_of h in omega arith
 
 -- a call is refused, or gives its reply
-owed : (shape : Shape) (reply : Reply) (old new : Held) → Owes old shape reply new → ((error : Error) × (reply ≡ Refused error)) ⊎ Gives old shape reply new
+owed : (shape : CallShape) (reply : Reply) (old new : Held) → Owes old shape reply new → ((error : Error) × (reply ≡ Refused error)) ⊎ Gives old shape reply new
 owed shape Done old new owes = inr owes.1
 owed shape (Value found) old new owes = inr owes.1
 owed shape (Pairs pairs) old new owes = inr owes.1
@@ -117,7 +117,7 @@ owed shape (Ids ids) old new owes = inr owes.1
 owed shape (Refused error) old new owes = inl (error, refl)
 
 -- what a read gives is an answer to its query
-read_fits : (tables : List Reader) (view : View) (id : ℕ) (query : Query) (reply : Reply) (old : Held) → GivesRead tables old view id query reply → IsOfKind query reply
+read_fits : (tables : List Reader) (view : View) (id : ℕ) (query : Query) (reply : Reply) (old : Held) → GivesRead tables old view id query reply → IsAnswerTo query reply
 read_fits [] view id (queries.Get key) reply old gives = (_, gives)
 read_fits [] view id (queries.Page range back max) reply old gives = (gives.0, gives.1)
 read_fits (t ∷ tables) view id query reply old gives = gives
@@ -144,26 +144,26 @@ is_core (tx.Core call) = true
 is_core call = false
 
 -- each other call has a reply of its kind
-told_other : (before : List Reply) (call : TxCall) (reply : Reply) (made : List Call) (told : List Reply) → ComesTo before call reply made told → is_core call ≡ false → served.IsReplyTo call reply
+told_other : (before : List Reply) (call : TxCall) (reply : Reply) (made : List Call) (told : List Reply) → ComesTo before call reply made told → is_core call ≡ false → served.IsReplyToCall call reply
 told_other before _ _ _ _ (Itself call reply) other = absurd (true≢false other)
 told_other before _ _ _ _ (Others call reply fit made told each) other = fit
 
-begin_told : (reply : Reply) → served.IsReplyTo (tx.Begin Optimistic) reply → IsReplyTo Begin reply
+begin_told : (reply : Reply) → served.IsReplyToCall (tx.Begin Optimistic) reply → IsReplyTo Begin reply
 begin_told Done fit = tt
 begin_told (Refused error) fit = tt
 begin_told reply fit = absurd fit
 
-get_told : (name number id : ℕ) (key : List ℕ) (reply : Reply) → served.IsReplyTo (tx.Within name (within.Get id key)) reply → IsReplyTo (TxGet number id key) reply
+get_told : (name number id : ℕ) (key : List ℕ) (reply : Reply) → served.IsReplyToCall (tx.Within name (within.Get id key)) reply → IsReplyTo (TxGet number id key) reply
 get_told name number id key (Value found) fit = tt
 get_told name number id key (Refused error) fit = tt
 get_told name number id key reply fit = absurd fit
 
-insert_told : (name number id : ℕ) (key value : List ℕ) (op : Op) (reply : Reply) → served.IsReplyTo (tx.Within name (within.Write id key op)) reply → IsReplyTo (TxInsert number id key value) reply
+insert_told : (name number id : ℕ) (key value : List ℕ) (op : Op) (reply : Reply) → served.IsReplyToCall (tx.Within name (within.Write id key op)) reply → IsReplyTo (TxInsert number id key value) reply
 insert_told name number id key value op Done fit = tt
 insert_told name number id key value op (Refused error) fit = tt
 insert_told name number id key value op reply fit = absurd fit
 
-commit_told : (name number : ℕ) (reply : Reply) → served.IsReplyTo (tx.Commit Optimistic name) reply → IsReplyTo (Commit number) reply
+commit_told : (name number : ℕ) (reply : Reply) → served.IsReplyToCall (tx.Commit Optimistic name) reply → IsReplyTo (Commit number) reply
 commit_told name number (Flag committed) fit = tt
 commit_told name number (Refused error) fit = tt
 commit_told name number reply fit = absurd fit
@@ -181,7 +181,7 @@ module _ (before : List Reply) (call : TxCall) (reply : Reply) (made : List Call
         | inr given ↦ gives one.0 given
       ]
 
-  by_other : (c : TxCall) → call ≡ c → is_core c ≡ false → served.IsReplyTo c reply
+  by_other : (c : TxCall) → call ≡ c → is_core c ≡ false → served.IsReplyToCall c reply
   by_other c is other = told_other before c reply made told (subst (λ (t : TxCall). ComesTo before t reply made told) is comes) other
 
   -- it is a reply to the request, where that makes one call

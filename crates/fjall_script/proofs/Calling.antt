@@ -6,18 +6,10 @@ use Rattle.fjall_calls.specs.declared.call.TxCall.{TxCall}
 use Rattle.fjall_lines.specs.declared.command.Command.{Command}
 use Rattle.fjall_lines.specs.declared.command.Command.TheVariants.{Ask, Crash, Reopen}
 use Rattle.fjall_lines.specs.declared.command.Request.{Request}
-use Rattle.fjall_script.specs.Requests.{AddsCalls, AreCalls, AreCallsBehind, AreOfLines, IsCallOf, LineAdds, Makes, SoFar, all_calls, asked_with, begun_with, behind, calls_with, counts_of, job_of, none_so_far, nowhere, numbered_with, numbers_in, place_by, request_of, requests_of, so_far_in}
+use Rattle.fjall_script.specs.Requests.{AddsCalls, AreCalls, AreCallsBehind, AreOfLines, IsCallOf, LineAdds, RequestMakes, SoFar, all_calls, begun_with, behind, calls_with, counts_of, job_of, none_so_far, nowhere, numbered_with, place_by, request_of, requests_of, so_far_in}
 use Rattle.fjall_script.specs.declared.calls.Job.{Job}
 use Rattle.fjall_script.specs.declared.calls.LineCalls.{LineCalls}
-use Rattle.fjall_script.proofs.Counts.{one_asked}
 use Rattle.fjall_script.proofs.Printing.{next_is}
-
--- of the lines to come
-pub asked_more : (earlier asked : ℕ) (commands : List (Option Command)) (i : ℕ) (found : Option Command) (request : Request) (whole : ℕ) → i < length commands → found ≡ get_or commands i found → found ≡ Some (Ask request) → asked ≡ asked_with earlier request
-    → earlier + numbers_in (drop i commands) ≡ whole → asked + numbers_in (drop (i + 1) commands) ≡ whole
-asked_more earlier asked commands i found request whole lt at is counted all =
-    let next = next_is commands i found lt at ∙ ap (λ (f : Option Command). f ∷ drop (i + 1) commands) is in
-    ap (λ n. n + numbers_in (drop (i + 1) commands)) counted ∙ one_asked earlier request (drop (i + 1) commands) ∙ ap (λ (l : List (Option Command)). earlier + numbers_in l) (sym next) ∙ all
 
 -- the list so far is told by its three parts
 same_so_far : (a b : SoFar) → a.count ≡ b.count → a.numbered ≡ b.numbered → a.begun ≡ b.begun → a ≡ b
@@ -87,7 +79,7 @@ more_made earlier commands i found lines after lt at adds h = steps found adds (
     some : (request : Request) → AddsCalls request lines after → MadeSoFar earlier commands (Some (Ask request) ∷ rest) lines → MadeSoFar earlier commands rest after
     some request adds g =
         let so : so_far_in after ≡ behind (so_far_in lines) request adds.mine = same_so_far (so_far_in after) (behind (so_far_in lines) request adds.mine) (ap length adds.calls ∙ length-append lines.calls.items adds.mine) adds.numbered adds.begun in
-        let makes : Makes earlier (so_far_in lines) request adds.mine = subst (λ (n : ℕ). Makes n (so_far_in lines) request adds.mine) g.same adds.makes in
+        let makes : RequestMakes earlier (so_far_in lines) request adds.mine = subst (λ (n : ℕ). RequestMakes n (so_far_in lines) request adds.mine) g.same adds.makes in
         record {
           made = g.made ++ adds.mine ∷ [];
           calls = adds.calls ∙ ap (λ (l : List TxCall). l ++ adds.mine) g.calls ∙ sym (all_calls-more g.made adds.mine);

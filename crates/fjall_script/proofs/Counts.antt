@@ -7,9 +7,6 @@ use Rattle.fjall_lines.specs.declared.command.Command.TheVariants.{Ask, Crash, R
 use Rattle.fjall_lines.specs.declared.command.Request.{Request}
 use Rattle.fjall_script.specs.Requests.{asked_with, asks_number, is_stop, opens, numbers_before, numbers_in}
 
-one_of : Option Command → ℕ
-one_of found = cond (asks_number found) 1 0
-
 pub counted : (a b : List (Option Command)) → numbers_in (a ++ b) ≡ numbers_in a + numbers_in b
 counted a b = sum_by-append (λ (found : Option Command). cond (asks_number found) 1 0) a b
 

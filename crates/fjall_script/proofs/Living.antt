@@ -10,14 +10,14 @@ use Rattle.std.specs.Prelude.{All}
 use Rattle.fjall_base.specs.Store.{Store, fold, kept}
 use Rattle.fjall_base.specs.Store as store
 use Rattle.fjall_base.specs.Crash.{crashed}
-use Rattle.fjall_base.specs.Disk.{IsImage, Meaning, State, disk_of, state_in}
+use Rattle.fjall_base.specs.Disk.{DiskState, IsImage, Meaning, disk_of, state_in}
 use Rattle.fjall_base.specs.declared.error.Error.{Error}
 use Rattle.fjall_meta.specs.Keyspaces.{no_keyspaces}
-use Rattle.fjall_versions.specs.Replays.{bare}
+use Rattle.fjall_contents.specs.Replays.{bare}
 use Rattle.fjall_recovery.specs.Amid.{HoldsAmid}
 use Rattle.fjall_history.specs.declared.reply.Reply.{Reply}
-use Rattle.fjall_state.specs.declared.call.Call.{Call}
-use Rattle.fjall_state.specs.Machine.{present}
+use Rattle.fjall_machine.specs.declared.call.Call.{Call}
+use Rattle.fjall_machine.specs.Machine.{present}
 use Rattle.fjall_history.proofs.Moving.{sound_opening}
 use Rattle.fjall_core.specs.Holding.{Held}
 use Rattle.fjall_core.specs.Lives.{Closed, CutBehind, Ended, Life, Lives, NoLife, OneMore, Opened, Served, Unclosed, begun, start_of}
@@ -39,7 +39,7 @@ use Rattle.fjall_lines.specs.declared.command.Command.TheVariants.{Ask, Crash, R
 use Rattle.fjall_lines.specs.declared.command.Request.{Request}
 use Rattle.fjall_script.specs.Answers.{bad_line, ok_line, reply_text, reply_to}
 use Rattle.fjall_script.specs.Lived.{AreServed, Asked, GoesThrough, HasLived, IsServed, made_of, replies_of, served_in, told_as, unasked}
-use Rattle.fjall_script.specs.Machine.{Begins, Closes, Crashes, OpenedOn, new_disk, none_kept}
+use Rattle.fjall_script.specs.Machine.{BeginsSession, ClosesCore, Crashes, OpenedOn, new_disk, none_kept}
 use Rattle.fjall_script.specs.Requests.{AreCalls, AreCallsBehind, SoFar, all_calls, asked_with, asks_number, behind, counts_of, is_stop, none_so_far, request_of, requests_of, numbers_before, numbers_in}
 use Rattle.fjall_script.specs.Sessions as sessions
 use Rattle.fjall_script.specs.Sessions.{Restarts, Session, answers_to}
@@ -298,7 +298,7 @@ record LivedSo (commands rest : List (Option Command)) (ran : Bool) (printed : L
 start_holds : HoldsAmid (state_in new_disk) (bare no_keyspaces) []
 start_holds = holds_store_amid (state_in new_disk) (bare no_keyspaces) bare_holds
 
-begins_so : (commands : List (Option Command)) (core : Held) → Begins true core → LivedSo commands commands false [] core none_kept
+begins_so : (commands : List (Option Command)) (core : Held) → BeginsSession true core → LivedSo commands commands false [] core none_kept
 begins_so commands core h =
     let same = h.fresh refl in
     let opened = h.opened.amid refl (bare no_keyspaces) [] (subst (λ (m : Meaning). HoldsAmid (state_in m) (bare no_keyspaces) []) (sym same) start_holds) in
@@ -392,13 +392,13 @@ life_of commands rest printed old beside s synced = record { calls = s.calls; re
 
 -- one life more, of a core that ended so, and another opened on what it left
 again : (commands : List (Option Command)) (stop : Option Command) (rest : List (Option Command)) (printed : List (List ℕ)) (old new : Held) (beside : Kept) (s : LivedSo commands (stop ∷ rest) true printed old beside) → is_stop stop ≡ true
-    → (synced : List store.Command) (end : State) (next : Store) (waits : List store.Command) → Ended s.first old (kept (fold s.base s.opened.front)) s.calls s.replies s.opened.opens s.run synced end next waits
+    → (synced : List store.Command) (end : DiskState) (next : Store) (waits : List store.Command) → Ended s.first old (kept (fold s.base s.opened.front)) s.calls s.replies s.opened.opens s.run synced end next waits
     → (disk : Meaning) → state_in disk ≡ end → OpenedOn true disk new → LivedSo commands rest false (printed ++ ok_line ∷ []) new none_kept
 again commands stop rest printed old new beside s stops synced end next waits ended disk same o =
     let life = life_of commands (stop ∷ rest) printed old beside s synced in
     let lives = s.lives ++ life ∷ [] in
     let one = OneMore s.lives life s.disk s.base s.pending end next waits s.before (Opened s.first old s.calls s.replies synced end next waits s.opened s.run ended) in
-    let before : Lives (state_in new_disk) (bare no_keyspaces) lives (state_in disk) next waits = subst (λ (st : State). Lives (state_in new_disk) (bare no_keyspaces) lives st next waits) (sym same) one in
+    let before : Lives (state_in new_disk) (bare no_keyspaces) lives (state_in disk) next waits = subst (λ (st : DiskState). Lives (state_in new_disk) (bare no_keyspaces) lives st next waits) (sym same) one in
     let opened = o.amid refl next waits (lives_hold (state_in new_disk) (bare no_keyspaces) lives (state_in disk) next waits start_holds before).amid in
     let store = kept (fold next opened.front) in
     let parts : FreshParts (s.front ++ stop ∷ []) (s.lists ++ s.last ∷ []) lives = parts_stop s.front stop s.lists s.lives s.last life new store opened.opens s.parts stops (stops_ask_none stop stops) in
@@ -448,7 +448,7 @@ again commands stop rest printed old new beside s stops synced end next waits en
     ok_said earlier (Some (Ask request)) is = absurd (true≢false (sym is))
 
 -- a reopening, whether the closing was refused or not
-reopened : (commands rest : List (Option Command)) (printed : List (List ℕ)) (old new : Held) (beside : Kept) (s : LivedSo commands (Some Reopen ∷ rest) true printed old beside) (closing : Result Unit Error) (closed : Meaning) → Closes true old closing closed → (disk : Meaning) → disk ≡ closed
+reopened : (commands rest : List (Option Command)) (printed : List (List ℕ)) (old new : Held) (beside : Kept) (s : LivedSo commands (Some Reopen ∷ rest) true printed old beside) (closing : Result Unit Error) (closed : Meaning) → ClosesCore true old closing closed → (disk : Meaning) → disk ≡ closed
     → OpenedOn true disk new → LivedSo commands rest false (printed ++ ok_line ∷ []) new none_kept
 reopened commands rest printed old new beside s (Ok _) closed closes disk same o =
     again commands (Some Reopen) rest printed old new beside s refl s.run.tried (state_in closed) (kept (present s.run.state)) [] (Closed closed closes.owes (closes.safe refl)) disk (ap state_in same) o

@@ -13,7 +13,7 @@ use Rattle.fjall_core.specs.Holding.{Held}
 use Rattle.fjall_transactions.specs.Transactions.{Kept}
 use Rattle.fjall_script.specs.Answers.{ok_line, text_of}
 use Rattle.fjall_script.specs.Outputs.{AppendsFront, IsIo}
-use Rattle.fjall_script.specs.Machine.{Begins, IsClosed, none_kept}
+use Rattle.fjall_script.specs.Machine.{BeginsSession, IsClosed, none_kept}
 use Rattle.fjall_script.specs.Requests.{AreCalls, counts_of, is_stop, numbers_before, numbers_in}
 use Rattle.fjall_script.specs.Sessions.{answers_to, AnsweredFront, EndsBy, failed, FrontFails, half_written, IsAtStop, no_room, NotRestarted, PrintsAll, PrintsUntil, Restarts, RunsFront, RunsLines, Session, begun, run, restarted, no_memory, not_restarted, not_closed, unwritten}
 use Rattle.fjall_script.proofs.Counts.{counted, few, none_asked, stops_ask_none}
@@ -43,7 +43,7 @@ half_grown a b start old new h g =
 before_is : (asked : ℕ) (commands rest : List (Option Command)) → asked + numbers_in rest ≡ numbers_in commands → numbers_before commands rest ≡ asked
 before_is asked commands rest is = omega (arith, is)
 
-pub prints_none : (honest : Bool) (commands : List (Option Command)) (core : Held) (kept : Kept) (out : Option (List ℕ)) → Begins honest core → kept ≡ none_kept → Prints honest commands false core kept commands out out 0
+pub prints_none : (honest : Bool) (commands : List (Option Command)) (core : Held) (kept : Kept) (out : Option (List ℕ)) → BeginsSession honest core → kept ≡ none_kept → Prints honest commands false core kept commands out out 0
 prints_none honest commands core kept out h empty = record {
   printed = [];
   session = subst (λ (k : Kept). Session honest commands false core k [] commands) (sym empty) (begun core h);
@@ -157,16 +157,6 @@ closed honest core (Err error) disk owes took safe = tt
 -- memory ran out
 pub front_refused : (honest : Bool) (earlier : ℕ) (commands : List (Option Command)) (core after : Held) (kept beside : Kept) (out : Option (List ℕ)) (error : Error) → error ≡ OutOfMemory → FrontFails honest earlier commands core kept after beside out out error
 front_refused honest earlier commands core after kept beside out error none = subst (FrontFails honest earlier commands core kept after beside out out) (sym none) (no_room (Keeps-refl out))
-
--- the answers were written, or a beginning of them
-pub front_written : (honest : Bool) (earlier : ℕ) (commands rest : List (Option Command)) (core after : Held) (kept beside : Kept) (text bytes : List ℕ) (asked : ℕ) (old new : Option (List ℕ)) → AnsweredFront honest earlier commands rest core kept after beside text asked
-    → bytes ≡ text → Appends old new bytes → RunsFront honest earlier commands rest core kept after beside old new asked
-front_written honest earlier commands rest core after kept beside text bytes asked old new a same written = record {
-  printed = a.printed;
-  ran = a.ran;
-  appends = subst (λ (t : List ℕ). Appends old new t) (same ∙ a.text_is) written;
-  asked_is = a.asked_is;
-}
 
 pub front_half : (honest : Bool) (earlier : ℕ) (commands rest : List (Option Command)) (core after : Held) (kept beside : Kept) (text bytes : List ℕ) (asked : ℕ) (old new : Option (List ℕ)) (error : Error) → AnsweredFront honest earlier commands rest core kept after beside text asked
     → bytes ≡ text → AppendsFront old new bytes → IsIo error → FrontFails honest earlier commands core kept after beside old new error

@@ -1,23 +1,20 @@
 -- A core that a session begins with.
-use Rattle.std.proofs.Common.{◌≡◌, Bool, true, false, IsTrue, [], Option, None, Result, Ok, Err, refl, subst, sym, inr}
+use Rattle.std.proofs.Common.{Bool, false, IsTrue, [], None, Result, Ok, Err, refl, subst, sym, inr}
 use Rattle.std.specs.Prelude.{IfErr, IfOk}
-use Rattle.fjall_base.specs.Disk.{Meaning, Missing, State, standing, state_in}
+use Rattle.fjall_base.specs.Disk.{DiskState, Meaning, Missing, standing, state_in}
 use Rattle.fjall_base.specs.declared.error.Error.{Error}
-use Rattle.fjall_base.specs.declared.error.Error.TheVariants.{OutOfMemory}
 use Rattle.fjall_meta.specs.Keyspaces.{no_keyspaces}
-use Rattle.fjall_versions.specs.Replays.{bare}
+use Rattle.fjall_contents.specs.Replays.{bare}
 use Rattle.fjall_recovery.specs.Folders.{IsUnfinished}
 use Rattle.fjall_repair.specs.Making.{IsKept}
 use Rattle.fjall_repair.proofs.Standing.{kept_image, missing_stands, unfinished_of}
 use Rattle.fjall_repair.proofs.Begun.{settled_comes_back}
 use Rattle.fjall_core.specs.Holding.{Held}
 use Rattle.fjall_core.specs.Standing.{HoldsStore}
-use Rattle.fjall_script.specs.Machine.{Begins, IsNew, IsNoDisk, NotBegun, OpenedOn, RefusedOn}
-use Rattle.fjall_lines.specs.declared.command.Command.{Command}
-use Rattle.fjall_script.specs.Sessions.{NotRestarted, OpensAgain}
+use Rattle.fjall_script.specs.Machine.{BeginsSession, IsNew, NotBegun, OpenedOn, RefusedOn}
 
 -- nothing stands anywhere
-abbrev bare_state : State
+abbrev bare_state : DiskState
 bare_state name = record { now = Missing; older = [] }
 
 bare_kept : IsKept false bare_state
@@ -38,7 +35,7 @@ bare_holds = (
 new_holds : (disk : Meaning) → IsNew disk → HoldsStore (state_in disk) (bare no_keyspaces)
 new_holds disk new = subst (λ (d : Meaning). HoldsStore (state_in d) (bare no_keyspaces)) (sym new) bare_holds
 
-pub begun : (honest : Bool) (disk : Meaning) (r : Result Held Error) → (IsTrue honest → IsNew disk) → IfOk r (λ core. OpenedOn honest disk core) → IfOk r (λ core. Begins honest core)
+pub begun : (honest : Bool) (disk : Meaning) (r : Result Held Error) → (IsTrue honest → IsNew disk) → IfOk r (λ core. OpenedOn honest disk core) → IfOk r (λ core. BeginsSession honest core)
 begun honest disk (Ok core) fresh opened = record {
   disk = disk;
   fresh = fresh;
@@ -51,13 +48,3 @@ begun honest disk (Err error) fresh opened = tt
 pub not_begun : (honest : Bool) (disk : Meaning) (r : Result Held Error) → (IsTrue honest → IsNew disk) → IfErr r (λ error. RefusedOn honest disk error) → IfErr r (λ error. NotBegun honest error)
 not_begun honest disk (Ok core) fresh h = tt
 not_begun honest disk (Err error) fresh h = inr (disk, fresh, h)
-
--- memory ran out before it
-pub no_disk : (honest : Bool) (error : Error) → error ≡ OutOfMemory → IsNoDisk honest error
-no_disk true error none = rw none tt
-no_disk false error none = rw none tt
-
-pub not_again : (honest : Bool) (stop : Option Command) (old : Held) (disk : Meaning) (r : Result Held Error) → OpensAgain honest stop old disk → IfErr r (λ error. RefusedOn honest disk error)
-    → IfErr r (λ error. NotRestarted honest stop old error)
-not_again honest stop old disk (Ok core) h refused = tt
-not_again honest stop old disk (Err error) h refused = inr (disk, h, refused)

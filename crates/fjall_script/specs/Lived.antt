@@ -5,9 +5,9 @@ use Rattle.fjall_base.specs.Store.{Store, fold, kept}
 use Rattle.fjall_base.specs.Store as store
 use Rattle.fjall_base.specs.Disk.{Meaning, state_in}
 use Rattle.fjall_meta.specs.Keyspaces.{no_keyspaces}
-use Rattle.fjall_versions.specs.Replays.{bare}
+use Rattle.fjall_contents.specs.Replays.{bare}
 use Rattle.fjall_history.specs.declared.reply.Reply.{Reply}
-use Rattle.fjall_state.specs.declared.call.Call.{Call}
+use Rattle.fjall_machine.specs.declared.call.Call.{Call}
 use Rattle.fjall_core.specs.Holding.{Held}
 use Rattle.fjall_core.specs.Crashes.{BlamesEach}
 use Rattle.fjall_core.specs.Lives.{AreLeftOf, Life, Lives, Served, all_left, begun, start_of}

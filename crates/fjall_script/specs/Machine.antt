@@ -8,10 +8,10 @@ use Rattle.fjall_base.specs.declared.error.Error.{Error}
 use Rattle.fjall_base.specs.declared.error.Error.TheVariants.{Io, Locked, OutOfMemory}
 use Rattle.fjall_meta.specs.Keyspaces.{no_keyspaces}
 use Rattle.fjall_table.specs.Blocks.{Entry}
-use Rattle.fjall_versions.specs.Replays.{bare}
+use Rattle.fjall_contents.specs.Replays.{bare}
 use Rattle.fjall_recovery.specs.Refusals.{HasRisen}
 use Rattle.fjall_recovery.specs.Amid.{HoldsAmid}
-use Rattle.fjall_state.specs.Remembered.{AreBeside}
+use Rattle.fjall_machine.specs.Remembered.{AreBeside}
 use Rattle.fjall_core.specs.Holding.{Held}
 use Rattle.fjall_core.specs.Openings.{IsDueTo, KeepsStore, Opens, OpensAmid, OpensAs, OpensOn}
 use Rattle.fjall_core.specs.Standing.{ClosesDisk, ClosesSafely, HoldsStore, OwesClosing, store_with_tables}
@@ -55,7 +55,7 @@ abbrev pub IsNew : Meaning → Type 0
 IsNew disk = disk ≡ new_disk
 
 -- a core that a session begins with: in memory, over a new disk, which holds no keyspace
-pub record Begins (honest : Bool) (core : Held) : Type 0 where
+pub record BeginsSession (honest : Bool) (core : Held) : Type 0 where
   pub disk : Meaning
   pub fresh : IsTrue honest → IsNew disk
   pub opened : OpenedOn honest disk core
@@ -75,7 +75,7 @@ pub record Crashes (honest : Bool) (keep : ℕ) (old new : Held) : Type 0 where
 
 -- The core's disk after a closing, answered or refused. A crash meanwhile leaves a beginning of what was accepted, with all
 -- that a sync made safe before; after an answer the disk holds all of it.
-pub record Closes (honest : Bool) (core : Held) (result : Result Unit Error) (disk : Meaning) : Type 0 where
+pub record ClosesCore (honest : Bool) (core : Held) (result : Result Unit Error) (disk : Meaning) : Type 0 where
   pub owes : OwesClosing core result disk
   pub took : IsTrue honest → ClosesDisk core result disk
   pub safe : IsTrue honest → ClosesSafely core result disk
@@ -84,7 +84,7 @@ pub record Closes (honest : Bool) (core : Held) (result : Result Unit Error) (di
 pub record Reopens (honest : Bool) (old new : Held) : Type 0 where
   pub closing : Result Unit Error
   pub closed : Meaning
-  pub closes : Closes honest old closing closed
+  pub closes : ClosesCore honest old closing closed
   pub disk : Meaning
   pub same : IsTrue honest → disk ≡ closed
   pub opened : OpenedOn honest disk new
@@ -92,4 +92,4 @@ pub record Reopens (honest : Bool) (old new : Held) : Type 0 where
 -- the core was closed
 pub record IsClosed (honest : Bool) (core : Held) : Type 0 where
   pub disk : Meaning
-  pub closes : Closes honest core (Ok tt) disk
+  pub closes : ClosesCore honest core (Ok tt) disk

@@ -12,8 +12,8 @@ use Rattle.fjall_options.specs.Options.{default_options}
 use Rattle.fjall_history.specs.declared.job.JobId.{JobId}
 use Rattle.fjall_history.specs.declared.ticket.Ticket.{Ticket}
 use Rattle.fjall_history.specs.declared.ticket.View.TheVariants.{At, Present}
-use Rattle.fjall_state.specs.declared.call.Call.{Call}
-use Rattle.fjall_state.specs.declared.call.Call.TheVariants as calls
+use Rattle.fjall_machine.specs.declared.call.Call.{Call}
+use Rattle.fjall_machine.specs.declared.call.Call.TheVariants as calls
 use Rattle.fjall_calls.specs.declared.call.Kind.TheVariants.{Optimistic}
 use Rattle.fjall_calls.specs.declared.call.TxCall.{TxCall}
 use Rattle.fjall_calls.specs.declared.call.TxCall.TheVariants as tx
@@ -194,14 +194,14 @@ behind so_far request mine = record {
 }
 
 -- the calls that a request makes behind others, where so many numbers were asked for before the list
-abbrev pub Makes : ℕ → SoFar → Request → List TxCall → Type 0
-Makes earlier so_far request mine =
+abbrev pub RequestMakes : ℕ → SoFar → Request → List TxCall → Type 0
+RequestMakes earlier so_far request mine =
     (call : TxCall) × IsCallOf (place_in so_far.numbered earlier) request call × (mine ≡ calls_with so_far.begun so_far.count (job_of request) call)
 
 -- the calls of requests one after another, those of each together, behind others
 abbrev pub AreCallsBehind : ℕ → SoFar → List Request → List (List TxCall) → Type 0
 AreCallsBehind earlier so_far [] [] = Unit {0}
-AreCallsBehind earlier so_far (request ∷ rest) (mine ∷ made) = Makes earlier so_far request mine × AreCallsBehind earlier (behind so_far request mine) rest made
+AreCallsBehind earlier so_far (request ∷ rest) (mine ∷ made) = RequestMakes earlier so_far request mine × AreCallsBehind earlier (behind so_far request mine) rest made
 AreCallsBehind earlier so_far requests made = ⊥
 
 -- the calls of one list of lines, those of each request together, where so many numbers were asked for before it
@@ -225,7 +225,7 @@ so_far_in lines = record { count = length lines.calls.items; numbered = lines.nu
 -- A request added its calls.
 pub record AddsCalls (request : Request) (old new : LineCalls) : Type 0 where
   pub mine : List TxCall
-  pub makes : Makes old.numbers.earlier (so_far_in old) request mine
+  pub makes : RequestMakes old.numbers.earlier (so_far_in old) request mine
   pub calls : new.calls.items ≡ old.calls.items ++ mine
   pub counts : new.counts.items ≡ old.counts.items ++ length mine ∷ []
   pub numbered : new.numbers.places.items ≡ numbered_with old.numbers.places.items (length old.calls.items) request

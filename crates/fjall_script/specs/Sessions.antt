@@ -18,7 +18,7 @@ use Rattle.fjall_lines.specs.declared.command.Request.TheVariants.{Keyspace, Del
 use Rattle.fjall_script.specs.Answers.{reply_text, reply_to, bad_line, ok_line, text_of}
 use Rattle.fjall_script.specs.Outputs.{AppendsFront, IsIo}
 use Rattle.fjall_script.specs.Requests.{AreCalls, all_calls, asked_with, counts_of, is_stop, numbers_before, numbers_in}
-use Rattle.fjall_script.specs.Machine.{Begins, Closes, Crashes, IsNoDisk, RefusedOn, Reopens, IsClosed, none_kept}
+use Rattle.fjall_script.specs.Machine.{BeginsSession, ClosesCore, Crashes, IsNoDisk, RefusedOn, Reopens, IsClosed, none_kept}
 
 -- The answers to lines by the replies to their calls, in turn, so many to each request, where so many numbers were asked for before: ok
 -- for a crash and a reopening, and a line that is no command has an answer of its own.
@@ -84,9 +84,9 @@ IsAtStop (found ∷ rest) = is_stop found ≡ true
 
 -- what a crash leaves of a disk, one of the images that it may leave: so many unsynced bytes of each file; or the same
 -- disk at a reopening
-abbrev pub Leaves : Option Command → Meaning → Meaning → Type 0
-Leaves (Some (Crash keep)) old new = IsImage (state_in old) (crashed keep (state_in old)) × (state_in new ≡ disk_of (crashed keep (state_in old)))
-Leaves stop old new = new ≡ old
+abbrev pub RestartLeaves : Option Command → Meaning → Meaning → Type 0
+RestartLeaves (Some (Crash keep)) old new = IsImage (state_in old) (crashed keep (state_in old)) × (state_in new ≡ disk_of (crashed keep (state_in old)))
+RestartLeaves stop old new = new ≡ old
 
 -- the line opens the core again, after a crash or not
 abbrev pub Restarts : Bool → Option Command → Held → Held → Type 0
@@ -96,8 +96,8 @@ Restarts honest found old new = ⊥
 
 -- what such a line opens the core on: what the crash leaves, or the disk of the old core, which was closed, with success or not
 abbrev pub OpensAgain : Bool → Option Command → Held → Meaning → Type 0
-OpensAgain honest (Some (Crash keep)) old disk = IsTrue honest → Leaves (Some (Crash keep)) old.disk disk
-OpensAgain honest (Some Reopen) old disk = (closing : Result Unit Error) × (closed : Meaning) × Closes honest old closing closed × (IsTrue honest → disk ≡ closed)
+OpensAgain honest (Some (Crash keep)) old disk = IsTrue honest → RestartLeaves (Some (Crash keep)) old.disk disk
+OpensAgain honest (Some Reopen) old disk = (closing : Result Unit Error) × (closed : Meaning) × ClosesCore honest old closing closed × (IsTrue honest → disk ≡ closed)
 OpensAgain honest found old disk = ⊥
 
 -- the opening of such a line was refused
@@ -108,7 +108,7 @@ NotRestarted honest stop old error = IsNoDisk honest error ⊎ ((disk : Meaning)
 -- beside it, what was printed so far, and the commands to come. The calls up to a crash, a reopening or the end are one run. Each core
 -- that opens begins without transactions.
 pub data Session (honest : Bool) (commands : List (Option Command)) : Bool → Held → Kept → List (List ℕ) → List (Option Command) → Type 0 where
-  begun : (core : Held) → Begins honest core → Session honest commands false core none_kept [] commands
+  begun : (core : Held) → BeginsSession honest core → Session honest commands false core none_kept [] commands
   run : (old new : Held) (before after : Kept) (printed : List (List ℕ)) (lines rest : List (Option Command)) (made : List (List TxCall)) (replies : List Reply)
       → Session honest commands false old before printed (lines ++ rest) → All (λ found. is_stop found ≡ false) lines → IsAtStop rest
       → AreCalls (numbers_before commands (lines ++ rest)) lines made → RunsTx honest old before (all_calls made) replies new after
@@ -119,11 +119,11 @@ pub data Session (honest : Bool) (commands : List (Option Command)) : Bool → H
 
 -- How a session fails, with its core as it stands and these commands to come: memory ran out for a list of calls as a whole or
 -- for an answer, the opening of a crash or a reopening was refused, or the closing at the end.
-pub data Fails (honest : Bool) (core : Held) : Bool → List (Option Command) → Error → Type 0 where
-  no_memory : (ran : Bool) (rest : List (Option Command)) → Fails honest core ran rest OutOfMemory
+pub data SessionFails (honest : Bool) (core : Held) : Bool → List (Option Command) → Error → Type 0 where
+  no_memory : (ran : Bool) (rest : List (Option Command)) → SessionFails honest core ran rest OutOfMemory
   not_restarted : (stop : Option Command) (rest : List (Option Command)) (error : Error) → is_stop stop ≡ true → NotRestarted honest stop core error
-      → Fails honest core true (stop ∷ rest) error
-  not_closed : (error : Error) (disk : Meaning) → Closes honest core (Err error) disk → Fails honest core true [] error
+      → SessionFails honest core true (stop ∷ rest) error
+  not_closed : (error : Error) (disk : Meaning) → ClosesCore honest core (Err error) disk → SessionFails honest core true [] error
 
 -- all commands were answered, what was printed was written, and then the core was closed
 pub record PrintsAll (honest : Bool) (commands : List (Option Command)) (old new : Option (List ℕ)) : Type 0 where
@@ -137,7 +137,7 @@ pub record PrintsAll (honest : Bool) (commands : List (Option Command)) (old new
 -- A session of these commands came so far, and was ended by a refusal: it failed, and all that was printed before was written;
 -- or the output failed, and a beginning of it was.
 pub data EndsBy (honest : Bool) (core : Held) (ran : Bool) (rest : List (Option Command)) (printed : List (List ℕ)) (old new : Option (List ℕ)) : Error → Type 0 where
-  failed : (error : Error) → Fails honest core ran rest error → Appends old new (text_of printed) → EndsBy honest core ran rest printed old new error
+  failed : (error : Error) → SessionFails honest core ran rest error → Appends old new (text_of printed) → EndsBy honest core ran rest printed old new error
   unwritten : (error : Error) → IsIo error → AppendsFront old new (text_of printed) → EndsBy honest core ran rest printed old new error
 
 pub record PrintsUntil (honest : Bool) (commands : List (Option Command)) (error : Error) (old new : Option (List ℕ)) : Type 0 where

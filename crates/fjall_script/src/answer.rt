@@ -5,7 +5,7 @@ ghost use Rattle.fjall_lines.specs.Lines.{hex_word};
 ghost use Rattle.fjall_script.specs.Answers.{done_text, flag_text, is_idle, last_said, number_text, pairs_text, refusal_text, reply_text, reply_to};
 
 use fjall_base::{Error, KvPair, Slice};
-use fjall_core::Reply;
+use fjall_history::Reply;
 use fjall_lines::Request;
 use std::alloc::{AllocError, Global};
 use std::fmt;

@@ -3,7 +3,7 @@
 ghost use Rattle.std.specs.Prelude.{◌≡◌, ◌<◌, ◌+◌, ◌++◌, ◌∷◌, ◌^◌, [], IfOk, IsOkUnless, OnOk, length, map};
 ghost use Rattle.fjall_script.specs.Requests.{AddsCalls, AreOfLines, LineAdds, all_pairs, asked_with, begun_with, calls_with, finish_of, IsBatch, IsCallOf, is_same, item_of, job_of, left_of, named, nowhere, numbered_with, numbers_in, op_of, opens, place_by, request_of};
 ghost use Rattle.fjall_options.specs.Options.{default_options};
-ghost use Rattle.fjall_state.specs.declared.call.Call.TheVariants as calls;
+ghost use Rattle.fjall_machine.specs.declared.call.Call.TheVariants as calls;
 ghost use Rattle.fjall_calls.specs.declared.call.TxCall.TheVariants as tx;
 
 use fjall_base::{Error, Result, Slice, UserValue};

@@ -2,7 +2,7 @@
 
 ghost use Rattle.std.specs.Prelude.{◌≡◌, IsTrue, IfErr, IfOk};
 ghost use Rattle.fjall_script.specs.Machine.{IsNew, IsNoDisk};
-ghost use Rattle.fjall_script.specs.Sessions.{Leaves};
+ghost use Rattle.fjall_script.specs.Sessions.{RestartLeaves};
 
 use fjall_base::{Disk, Result};
 use fjall_folder::FolderDisk;
@@ -25,7 +25,7 @@ pub trait Place {
 
     /// The disk after a crash, or the same disk at a reopening.
     fn restart(&self, disk: Self::Disk, stop: &Option<Command>) -> Result<Self::Disk>
-        ensures ok { IsTrue Self.Disk.honest → IfOk result (λ after. Leaves stop.now (Self.Disk.meaning disk) (Self.Disk.meaning after)) }
+        ensures ok { IsTrue Self.Disk.honest → IfOk result (λ after. RestartLeaves stop.now (Self.Disk.meaning disk) (Self.Disk.meaning after)) }
         ensures err { IfErr result (IsNoDisk Self.Disk.honest) };
 }
 

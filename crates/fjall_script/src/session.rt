@@ -3,7 +3,7 @@
 ghost use Rattle.std.specs.Prelude.{◌≡◌, ◌<◌, ◌+◌, ◌^◌, true, IfErr, IfOk, IsOkUnless, OnOk, drop, length, string_bytes, take};
 ghost use Rattle.std.specs.List.{position};
 ghost use Rattle.fjall_script.specs.Answers.{text_of};
-ghost use Rattle.fjall_script.specs.Machine.{Begins, NotBegun, OpenedOn, RefusedOn};
+ghost use Rattle.fjall_script.specs.Machine.{BeginsSession, NotBegun, OpenedOn, RefusedOn};
 ghost use Rattle.fjall_script.specs.Requests.{is_stop};
 ghost use Rattle.fjall_script.specs.Sessions.{AnsweredFront, answers_to, FrontFails, NotRestarted, PrintsAll, PrintsUntil, Restarts, RunsFront};
 
@@ -132,7 +132,7 @@ fn opened<D: Disk + Drop>(alloc: Global, config: Config, disk: D) -> Result<Core
 
 /// The core that a session begins with, on the disk of a place.
 pub(crate) fn begun<P: Place>(alloc: Global, place: &P) -> Result<Core<P::Disk>>
-    ensures ok { IfOk result (λ core. Begins P.Disk.honest core) }
+    ensures ok { IfOk result (λ core. BeginsSession P.Disk.honest core) }
     ensures err { IfErr result (NotBegun P.Disk.honest) }
 {
     opened(alloc, Config::new(alloc, "")?, place.disk()?)
@@ -167,7 +167,7 @@ pub(crate) fn run_session<P: Place, W: Write>(
     commands: &[Option<Command>],
     output: &mut W,
 ) -> Result<()>
-    requires { Begins P.Disk.honest core }
+    requires { BeginsSession P.Disk.honest core }
     ensures ok { OnOk result (PrintsAll P.Disk.honest commands.now (W.contents output.old) (W.contents output.new)) }
     ensures err { IfErr result (λ error. PrintsUntil P.Disk.honest commands.now error (W.contents output.old) (W.contents output.new)) }
 {

@@ -2,7 +2,7 @@
 
 use crate::list::Wording;
 use fjall_base::{Error, KvPair, Slice};
-use fjall_core::Reply;
+use fjall_history::Reply;
 use fjall_recorder::LineError;
 use std::alloc::{AllocError, Global};
 

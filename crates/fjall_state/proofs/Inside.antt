@@ -2,7 +2,7 @@
 use Rattle.std.specs.FinMap.{from_entries}
 use Rattle.fjall_trees.specs.Views.{forest_of}
 use Rattle.fjall_state.specs.declared.engine_state.EngineState.TheInside.{Inside}
-use Rattle.fjall_state.specs.Remembered.{Remembered, journals_of}
+use Rattle.fjall_machine.specs.Remembered.{Remembered, journals_of}
 
 abbrev pub memory_in : Inside → Remembered
 memory_in a = record {

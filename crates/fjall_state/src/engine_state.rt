@@ -8,22 +8,22 @@ ghost use Rattle.fjall_base.specs.declared.error.Error.TheVariants.{KeyspaceDele
 ghost use Rattle.fjall_catalog.specs.Catalog.{fields, first_of};
 ghost use Rattle.fjall_manager.specs.Journals.{bytes_of};
 ghost use Rattle.fjall_meta.specs.Keyspaces.{id_of, is_name};
-ghost use Rattle.fjall_tree.specs.Records.{view};
+ghost use Rattle.fjall_manifest.specs.Records.{view};
 ghost use Rattle.fjall_trees.specs.Forests.{AreBefore, tree_at};
 ghost use Rattle.fjall_trees.specs.Views.{forest_of};
-ghost use Rattle.fjall_maps.specs.Maps.{store_of};
+ghost use Rattle.fjall_trees.specs.Maps.{store_of};
 ghost use Rattle.fjall_history.specs.Tickets.{closed, closing_refusal, cloning_refusal, collected, is_open as is_open_in, opened, opening_refusal};
-ghost use Rattle.fjall_state.specs.Machine.{first_due, handle_refusals, handles_of, has_name, is_among, is_living, is_read, is_unknown, one_less, persists_by_hand, view_refusals};
-ghost use Rattle.fjall_state.specs.Shapes.{OneMore};
-ghost use Rattle.fjall_state.specs.Remembered.{IsDueOrMemory, IsLawful, Remembered, facts_of, instant_in, is_last, journals_of, let_go, poisoned, released, remembered, retained, with_creation, with_deletion, with_tickets};
+ghost use Rattle.fjall_machine.specs.Machine.{first_due, handle_refusals, handles_of, has_name, is_among, is_living, is_read, is_unknown, one_less, persists_by_hand, view_refusals};
+ghost use Rattle.fjall_machine.specs.Shapes.{OneMore};
+ghost use Rattle.fjall_machine.specs.Remembered.{IsDueOrMemory, IsLawful, Remembered, facts_of, instant_in, is_last, journals_of, let_go, poisoned, released, remembered, retained, with_creation, with_deletion, with_tickets};
 
 use fjall_base::{Error, Result, Slice};
 use fjall_history::{Ticket, Tickets, View};
-use fjall_loading::LastRecords;
 use fjall_manager::{ActiveWatermarks, JournalManager};
+use fjall_manifest::Record;
 use fjall_meta::{LivingKeyspace, MetaKeyspace};
 use fjall_options::KeyspaceCreateOptions;
-use fjall_tree::Record;
+use fjall_recovery::LastRecords;
 use fjall_trees::Trees;
 use std::alloc::Global;
 use std::collections::BTreeMap;
@@ -54,9 +54,9 @@ pub struct EngineState {
 impl Model for EngineState {
     ghost use Rattle.std.specs.Coded.{codes};
     ghost use Rattle.std.specs.FinMap.{from_entries};
-    ghost use Rattle.fjall_loading.specs.Known.{records_code};
+    ghost use Rattle.fjall_recovery.specs.Known.{records_code};
     ghost use Rattle.fjall_trees.specs.Views.{forest_of};
-    ghost use Rattle.fjall_state.specs.Remembered.{IsLawful, Remembered, handles_code, journals_of};
+    ghost use Rattle.fjall_machine.specs.Remembered.{IsLawful, Remembered, handles_code, journals_of};
 
     ghost Value = { Remembered };
 

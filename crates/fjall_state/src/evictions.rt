@@ -10,16 +10,16 @@ ghost use Rattle.fjall_manager.specs.Journals.{Sealed, names_of, staying, waited
 ghost use Rattle.fjall_recovery.specs.Places.{Journaling};
 ghost use Rattle.fjall_commit.specs.Evictions.{ForEvicting, LeavesEviction, StoppedEvicting, evicted};
 ghost use Rattle.fjall_commit.specs.Journaling.{IsWriting};
-ghost use Rattle.fjall_commit.specs.Rotations.{KeepsSyncedKeyspaces, TellsOf};
-ghost use Rattle.fjall_state.specs.Evicting.{going_in};
-ghost use Rattle.fjall_state.specs.Remembered.{flushed_by, with_sealed};
+ghost use Rattle.fjall_commit.specs.Rotations.{KeepsSyncedKeyspaces, ListsSealed};
+ghost use Rattle.fjall_machine.specs.Evicting.{going_in};
+ghost use Rattle.fjall_machine.specs.Remembered.{flushed_by, with_sealed};
 
 use crate::engine_state::EngineState;
 use fjall_base::{Disk, Error, Result};
 use fjall_commit::evict_journals;
-use fjall_loading::LastRecords;
 use fjall_manager::Flushed;
 use fjall_meta::MetaKeyspace;
+use fjall_recovery::LastRecords;
 use std::alloc::Global;
 
 /// Whether a number is beyond the persisted one; where there is none, each is.
@@ -65,8 +65,8 @@ impl EngineState {
         ensures ok { OnOk result (self.new ≡ with_sealed (staying (flushed_by self.old.keyspaces self.old.records) self.old.journals.sealed) self.old) }
         ensures left { OnErr result ((gone left : List Sealed)
             × StoppedBehind (flushed_by self.old.keyspaces self.old.records) self.old.journals.sealed left gone × (self.new ≡ with_sealed left self.old)) }
-        ensures told { (j : Journaling) → TellsOf self.old.journals.sealed j
-            → OnOk result (TellsOf self.new.journals.sealed (evicted (length (going_in self.old)) j)) }
+        ensures told { (j : Journaling) → ListsSealed self.old.journals.sealed j
+            → OnOk result (ListsSealed self.new.journals.sealed (evicted (length (going_in self.old)) j)) }
         ensures served { IsTrue D.honest → ForEvicting (D.meaning disk.old) self.old.journals.sealed (λ writer j. (D.meaning disk.new).misuses ≡ (D.meaning disk.old).misuses) }
         ensures cause { OnlyFaults (D.meaning disk.old) (D.meaning disk.new) result }
         ensures took { IsTrue D.honest → OnOk result (Took (D.meaning disk.old) (D.meaning disk.new)

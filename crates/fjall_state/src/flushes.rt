@@ -7,33 +7,33 @@ ghost use Rattle.fjall_files.specs.Calls.{AllServed};
 ghost use Rattle.fjall_files.specs.Names.{keyspace_folder, table_name};
 ghost use Rattle.fjall_files.specs.Regions.{Within};
 ghost use Rattle.fjall_files.specs.Tidy.{StaysTidy};
-ghost use Rattle.fjall_merge.specs.Flushes.{flush_of as finished_with};
-ghost use Rattle.fjall_merge.specs.FlushPlans.{HaveFiles, IsPlan, IsPlanRefusal, KeepsTables};
+ghost use Rattle.fjall_compaction.specs.Flushes.{flush_of as finished_with};
+ghost use Rattle.fjall_compaction.specs.FlushPlans.{HaveFiles, IsFlushPlan, IsFlushPlanRefusal, KeepsTables};
 ghost use Rattle.fjall_jobs.specs.Flushes.{flush_task};
 ghost use Rattle.fjall_journal.specs.Writer.{IsIo};
-ghost use Rattle.fjall_loading.specs.Known.{last_known};
-ghost use Rattle.fjall_lsm.specs.Jobs.{IsFlushing, flush_finished, flush_of};
-ghost use Rattle.fjall_lsm.specs.Trees.{Flushing};
-ghost use Rattle.fjall_maps.specs.Maps.{store_of};
+ghost use Rattle.fjall_recovery.specs.Known.{last_known};
+ghost use Rattle.fjall_tree.specs.Jobs.{IsFlushing, flush_finished, flush_of};
+ghost use Rattle.fjall_tree.specs.Trees.{Flushing};
+ghost use Rattle.fjall_trees.specs.Maps.{store_of};
 ghost use Rattle.fjall_recovery.specs.Halves.{HasTree};
 ghost use Rattle.fjall_recovery.specs.Places.{LiesInTree};
-ghost use Rattle.fjall_tree.specs.Records.{view};
+ghost use Rattle.fjall_manifest.specs.Records.{view};
 ghost use Rattle.fjall_trees.specs.Forests.{altered_at};
 ghost use Rattle.fjall_trees.specs.Tables.{HasRoomAt, shape_in};
 ghost use Rattle.fjall_trees.specs.Views.{forest_of};
-ghost use Rattle.fjall_state.specs.Finishing.{AreReadersOf, ForFinishing, ForFlush, IsFinishRefusal, IsFinished, keyspace_of};
-ghost use Rattle.fjall_state.specs.Machine.{begins_flush, flush_with, is_flushing, is_living};
-ghost use Rattle.fjall_state.specs.Remembered.{IsLawful, Remembered, flush_gone, flush_out};
+ghost use Rattle.fjall_machine.specs.Finishing.{AreReadersOf, ForFinishing, ForFlush, IsFinishRefusal, IsFlushFinished, keyspace_of};
+ghost use Rattle.fjall_machine.specs.Machine.{begins_flush, flush_with, is_flushing, is_living};
+ghost use Rattle.fjall_machine.specs.Remembered.{IsLawful, Remembered, flush_gone, flush_out};
 
 use crate::engine_state::EngineState;
 use crate::refusals::JOURNAL_LIMIT;
 use fjall_base::{Disk, Error, Result};
-use fjall_blocks::TableReader;
+use fjall_compaction::{FlushPlan, plan_flush, table_readers, write_flush};
 use fjall_history::JobId;
 use fjall_jobs::{FlushJob, FlushMade};
-use fjall_loading::LastRecords;
-use fjall_merge::{FlushPlan, plan_flush, table_readers, write_flush};
-use fjall_tree::Record;
+use fjall_manifest::Record;
+use fjall_recovery::LastRecords;
+use fjall_table_reader::TableReader;
 use fjall_trees::Trees;
 use std::alloc::Global;
 
@@ -110,9 +110,9 @@ struct PlannedFlush {
 
 /// Plans a flush that covers all changes of its keyspace up to this number, of which this is the last record.
 fn plan(alloc: Global, last: &Record, number: u64, made: &FlushMade) -> Result<PlannedFlush>
-    ensures writes { IfOk result (λ p. IsPlan (keyspace_of made.now) (view last.now) (finished_with number made.now) p.writes) }
+    ensures writes { IfOk result (λ p. IsFlushPlan (keyspace_of made.now) (view last.now) (finished_with number made.now) p.writes) }
     ensures readers { IfOk result (λ p. AreReadersOf (keyspace_of made.now) last.now.next_table_id made.now.tables.items p.readers.items) }
-    ensures cause { IfErr result (IsPlanRefusal (view last.now) (finished_with number made.now)) }
+    ensures cause { IfErr result (IsFlushPlanRefusal (view last.now) (finished_with number made.now)) }
 {
     let writes = plan_flush(alloc, made.keyspace_id(), last, number, made)?;
     let readers = table_readers(alloc, &writes.table, last.next_table_id, made.tables())?;
@@ -152,7 +152,7 @@ impl EngineState {
     ) -> Result<()>
         requires living { is_living (store_of self.old.keyspaces self.old.trees) (keyspace_of made.now) ≡ true }
         requires out { IsFlushing (shape_in (keyspace_of made.now) self.old.trees) (flush_task made.now.job) }
-        ensures ok { ForFlush self.old (keyspace_of made.now) (λ k out. OnOk result (IsFinished self.old (keyspace_of made.now) (last_known self.old.records k) out made.now.tables.items self.new)) }
+        ensures ok { ForFlush self.old (keyspace_of made.now) (λ k out. OnOk result (IsFlushFinished self.old (keyspace_of made.now) (last_known self.old.records k) out made.now.tables.items self.new)) }
         ensures lawful { IsLawful self.old }
         ensures unchanged { OnErr result (self.new ≡ self.old) }
         ensures untouched { IfErr result (λ e. (IsIo e → ⊥) → D.meaning disk.new ≡ D.meaning disk.old) }

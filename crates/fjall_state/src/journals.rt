@@ -8,7 +8,7 @@ ghost use Rattle.fjall_journal.specs.Writer.{IsIo, written_out};
 ghost use Rattle.fjall_journal.specs.Rotations.{RotationTook, empty_journal, rotating};
 ghost use Rattle.fjall_commit.specs.Journaling.{IsWriting};
 ghost use Rattle.fjall_commit.specs.Rotations.{ForRotating, KeepsSyncedKeyspaces, LeavesRotation, rotated};
-ghost use Rattle.fjall_state.specs.Remembered.{journal_rotated};
+ghost use Rattle.fjall_machine.specs.Remembered.{journal_rotated};
 
 use crate::engine_state::EngineState;
 use fjall_base::{Disk, Result};

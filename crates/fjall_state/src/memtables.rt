@@ -3,9 +3,9 @@
 ghost use Rattle.std.specs.Prelude.{◌≡◌, IfOk, IsOkUnless, Ok, OnErr, false, length, true};
 ghost use Rattle.fjall_journal.specs.Writer.{counted};
 ghost use Rattle.fjall_trees.specs.Tables.{shape_in};
-ghost use Rattle.fjall_maps.specs.Maps.{store_of};
-ghost use Rattle.fjall_state.specs.Machine.{buffer_size, flush_count, rotates, version_count, wants_rotation};
-ghost use Rattle.fjall_state.specs.Remembered.{IsLawful, rotated};
+ghost use Rattle.fjall_trees.specs.Maps.{store_of};
+ghost use Rattle.fjall_machine.specs.Machine.{buffer_size, flush_count, rotates, version_count, wants_rotation};
+ghost use Rattle.fjall_machine.specs.Remembered.{IsLawful, rotated};
 
 use crate::engine_state::EngineState;
 use fjall_base::{Error, Result};

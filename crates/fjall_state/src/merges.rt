@@ -3,51 +3,43 @@
 ghost use Rattle.std.specs.Prelude.{◌≡◌, ◌⊎◌, ◌<◌, ◌≤◌, ◌+◌, ◌-◌, ◌^◌, ℕ, List, Some, false, true, ⊤, length, IfErr, IfOk, IfSome, IsTrue, OnErr, OnOk, vec_capacity, vec_len};
 ghost use Rattle.std.specs.FinMap.{contains_key, insert};
 ghost use Rattle.fjall_base.specs.Disk.{LeavesOnly, state_in};
-ghost use Rattle.fjall_blocks.specs.Readers.{LooksOn, SomeTableIsWrong};
+ghost use Rattle.fjall_table_reader.specs.Readers.{LooksOn, SomeTableIsWrong};
 ghost use Rattle.fjall_files.specs.Calls.{AllServed};
 ghost use Rattle.fjall_files.specs.Names.{keyspace_folder};
 ghost use Rattle.fjall_files.specs.Regions.{Within};
 ghost use Rattle.fjall_files.specs.Tidy.{StaysTidy};
-ghost use Rattle.fjall_merge.specs.FlushPlans.{HaveFiles};
+ghost use Rattle.fjall_compaction.specs.FlushPlans.{HaveFiles};
 ghost use Rattle.fjall_jobs.specs.Merges.{merge_task};
 ghost use Rattle.fjall_journal.specs.Writer.{IsIo};
-ghost use Rattle.fjall_loading.specs.Known.{last_known};
-ghost use Rattle.fjall_lsm.specs.Jobs.{IsMerging, is_merge_out, merge_finished};
-ghost use Rattle.fjall_lsm.specs.Trees.{Merging};
-ghost use Rattle.fjall_maps.specs.Maps.{store_of};
-ghost use Rattle.fjall_merge.specs.Merges.{merge_of};
-ghost use Rattle.fjall_merge.specs.Plans.{HasNoTableFolder, IsPlan, IsPlanRefusal, KeepsTables};
+ghost use Rattle.fjall_recovery.specs.Known.{last_known};
+ghost use Rattle.fjall_tree.specs.Jobs.{IsMerging, is_merge_out, merge_finished};
+ghost use Rattle.fjall_tree.specs.Trees.{Merging};
+ghost use Rattle.fjall_trees.specs.Maps.{store_of};
+ghost use Rattle.fjall_compaction.specs.Merges.{merge_of};
+ghost use Rattle.fjall_compaction.specs.MergePlans.{HasNoTableFolder, IsMergePlan, IsMergePlanRefusal, MergeKeepsTables};
 ghost use Rattle.fjall_recovery.specs.Halves.{HasTree};
 ghost use Rattle.fjall_recovery.specs.Places.{LiesInTree};
 ghost use Rattle.fjall_table.specs.Blocks.{Entry};
-ghost use Rattle.fjall_table.specs.Files.{IsRefused};
-ghost use Rattle.fjall_tree.specs.Records.{view};
+ghost use Rattle.fjall_table_reader.specs.Files.{IsRefused};
+ghost use Rattle.fjall_manifest.specs.Records.{view};
 ghost use Rattle.fjall_trees.specs.Forests.{altered_at};
 ghost use Rattle.fjall_trees.specs.Tables.{AreReadOn, AreSameTrees, shape_in};
 ghost use Rattle.fjall_trees.specs.Views.{forest_of};
-ghost use Rattle.fjall_state.specs.Machine.{begins_merge, is_living, is_merging, least_of, merge_count, options_in, target_size};
-ghost use Rattle.fjall_state.specs.Merging.{AreReadersOf, AreTaken, ForMerge, ForMerging, IsMergeFinished, IsMergeRefusal, counted_as, keyspace_of};
-ghost use Rattle.fjall_state.specs.Remembered.{IsLawful, merge_gone, merge_out, with_merge_done, with_trees};
+ghost use Rattle.fjall_machine.specs.Machine.{begins_merge, is_living, is_merging, least_of, merge_count, options_in, target_size};
+ghost use Rattle.fjall_machine.specs.Merging.{AreMergeReaders, AreTaken, ForMerge, ForMerging, IsMergeFinished, IsMergeRefusal, counted_as, keyspace_of};
+ghost use Rattle.fjall_machine.specs.Remembered.{IsLawful, merge_gone, merge_out, with_merge_done, with_trees};
 
 use crate::engine_state::EngineState;
 use fjall_base::{Disk, Error, Result};
-use fjall_blocks::TableReader;
+use fjall_compaction::{MergePlan, merged_readers, plan_merge, write_merge};
 use fjall_history::JobId;
 use fjall_jobs::{MergeJob, MergeMade};
-use fjall_loading::LastRecords;
-use fjall_merge::{MergePlan, merged_readers, plan_merge, write_merge};
-use fjall_tree::Record;
+use fjall_machine::MergeKind;
+use fjall_manifest::Record;
+use fjall_recovery::LastRecords;
+use fjall_table_reader::TableReader;
 use fjall_trees::Trees;
 use std::alloc::Global;
-
-/// Which merge of a keyspace begins.
-#[derive(Debug, Clone, Copy, PartialEq, Eq)]
-pub enum MergeKind {
-    /// One that is due: where as many tables stand at level 0 as the keyspace's settings say.
-    Due,
-    /// A major one: where the keyspace has a table.
-    Major,
-}
 
 impl EngineState {
     // How many tables at level 0 a merge of a keyspace wants.
@@ -184,10 +176,10 @@ fn plan(
     staying: usize,
     made: &MergeMade,
 ) -> Result<PlannedMerge>
-    ensures writes { IfOk result (λ p. IsPlan (keyspace_of made.now) (view last.now) (merge_of input made.now) p.writes) }
-    ensures readers { IfOk result (λ p. AreReadersOf (keyspace_of made.now) last.now.next_table_id made.now.tables.items p.readers.items) }
+    ensures writes { IfOk result (λ p. IsMergePlan (keyspace_of made.now) (view last.now) (merge_of input made.now) p.writes) }
+    ensures readers { IfOk result (λ p. AreMergeReaders (keyspace_of made.now) last.now.next_table_id made.now.tables.items p.readers.items) }
     ensures room { IfOk result (λ p. vec_len p.readers + staying ≤ vec_capacity p.readers) }
-    ensures cause { IfErr result (IsPlanRefusal (view last.now) (merge_of input made.now)) }
+    ensures cause { IfErr result (IsMergePlanRefusal (view last.now) (merge_of input made.now)) }
 {
     let writes = plan_merge(alloc, made.keyspace_id(), last, input, made)?;
     let Ok(readers) = merged_readers(
@@ -268,7 +260,7 @@ impl EngineState {
         ensures kinds { IsTrue D.honest → StaysTidy (D.meaning disk.old) (D.meaning disk.new) }
         // Whatever lies on the disk, each table of the keyspace but the new ones stands in sight as it did.
         ensures beside { IsTrue D.honest → ForMerge self.old (keyspace_of made.now) (λ k out.
-            KeepsTables (keyspace_of made.now) (last_known self.old.records k).next_table_id (length made.now.tables.items) (D.meaning disk.old) (D.meaning disk.new)) }
+            MergeKeepsTables (keyspace_of made.now) (last_known self.old.records k).next_table_id (length made.now.tables.items) (D.meaning disk.old) (D.meaning disk.new)) }
         // At Ok the tables' files have their bytes.
         ensures files { IsTrue D.honest → ForMerge self.old (keyspace_of made.now) (λ k out.
             OnOk result (HaveFiles (D.meaning disk.new) (keyspace_of made.now) (last_known self.old.records k).next_table_id made.now.tables.items)) }

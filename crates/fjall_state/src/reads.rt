@@ -4,13 +4,13 @@ ghost use Rattle.std.specs.Prelude.{◌≡◌, [], ℕ, List, None, Some, ⊤, I
 ghost use Rattle.fjall_base.specs.Pairs.{lookup, page, pairs_between};
 ghost use Rattle.fjall_base.specs.declared.error.Error.{Error as Told};
 ghost use Rattle.fjall_table.specs.Blocks.{Entry};
-ghost use Rattle.fjall_blocks.specs.Readers.{LooksOn, SomeTableIsWrong};
+ghost use Rattle.fjall_table_reader.specs.Readers.{LooksOn, SomeTableIsWrong};
 ghost use Rattle.fjall_trees.specs.Tables.{AreReadOn, AreSameTrees, shape_in};
-ghost use Rattle.fjall_maps.specs.Maps.{pairs_in};
-ghost use Rattle.fjall_maps.specs.Tables.{pairs_with};
-ghost use Rattle.fjall_state.specs.Machine.{first_due, view_refusals};
-ghost use Rattle.fjall_state.specs.Reads.{IsReadRefusal};
-ghost use Rattle.fjall_state.specs.Remembered.{facts_of, instant_in, with_trees};
+ghost use Rattle.fjall_trees.specs.Maps.{pairs_in};
+ghost use Rattle.fjall_trees.specs.MapTables.{pairs_with};
+ghost use Rattle.fjall_machine.specs.Machine.{first_due, view_refusals};
+ghost use Rattle.fjall_machine.specs.Reads.{IsReadRefusal};
+ghost use Rattle.fjall_machine.specs.Remembered.{facts_of, instant_in, with_trees};
 
 use crate::engine_state::EngineState;
 use fjall_base::{Disk, KvPair, Result, UserValue};

@@ -1,9 +1,9 @@
 //! What refuses a call before memory or the disk is asked for anything: the first refusal whose cause holds.
 
 ghost use Rattle.std.specs.Prelude.{◌≡◌, ◌==◌, ◌||◌, ◌-◌, ◌^◌, true};
-ghost use Rattle.fjall_state.specs.Machine.{are_used_up, clear_refusals, creation_refusals, deletion_refusals, first_due, handle_refusals, items_refusals, journal_refusals, rotation_refusals, some_deleted, some_unknown};
-ghost use Rattle.fjall_state.specs.Shapes.{OneLess};
-ghost use Rattle.fjall_state.specs.Remembered.{facts_of};
+ghost use Rattle.fjall_machine.specs.Machine.{are_used_up, clear_refusals, creation_refusals, deletion_refusals, first_due, handle_refusals, items_refusals, journal_refusals, rotation_refusals, some_deleted, some_unknown};
+ghost use Rattle.fjall_machine.specs.Shapes.{OneLess};
+ghost use Rattle.fjall_machine.specs.Remembered.{facts_of};
 
 use crate::engine_state::EngineState;
 use fjall_base::Error;

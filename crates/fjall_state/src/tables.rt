@@ -2,10 +2,10 @@
 
 ghost use Rattle.std.specs.Prelude.{◌≡◌, count_by, length};
 ghost use Rattle.fjall_journal.specs.Writer.{counted};
-ghost use Rattle.fjall_lsm.specs.Trees.{is_l0};
-ghost use Rattle.fjall_maps.specs.Maps.{store_of};
+ghost use Rattle.fjall_tree.specs.Trees.{is_l0};
+ghost use Rattle.fjall_trees.specs.Maps.{store_of};
 ghost use Rattle.fjall_trees.specs.Tables.{shape_in};
-ghost use Rattle.fjall_state.specs.Machine.{table_space, tables_space};
+ghost use Rattle.fjall_machine.specs.Machine.{table_space, tables_space};
 
 use crate::engine_state::EngineState;
 

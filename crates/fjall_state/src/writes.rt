@@ -6,10 +6,10 @@ ghost use Rattle.fjall_files.specs.Tidy.{StaysTidy};
 ghost use Rattle.fjall_journal.specs.Changes.{Items, change_text, of_change};
 ghost use Rattle.fjall_journal.specs.Ops.{items_refusal};
 ghost use Rattle.fjall_journal.specs.Writer.{BatchTook, after_command, batch_steps};
-ghost use Rattle.fjall_maps.specs.Maps.{store_of};
+ghost use Rattle.fjall_trees.specs.Maps.{store_of};
 ghost use Rattle.fjall_commit.specs.Journaling.{ForFollowing, ForWriting, IsWriting, KeepsKeyspaces, LeavesRoot, after_mode, is_out, with_batch};
-ghost use Rattle.fjall_state.specs.Machine.{is_living};
-ghost use Rattle.fjall_state.specs.Remembered.{IsLawful, with_change};
+ghost use Rattle.fjall_machine.specs.Machine.{is_living};
+ghost use Rattle.fjall_machine.specs.Remembered.{IsLawful, with_change};
 
 use crate::engine_state::EngineState;
 use fjall_base::{Disk, Error, Result};

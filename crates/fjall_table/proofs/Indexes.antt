@@ -11,7 +11,7 @@ use Rattle.fjall_table.specs.Frame.{framed}
 use Rattle.fjall_base.specs.Fields.{◌>>=◌, number_at, bytes_at}
 use Rattle.fjall_table.specs.Reading.{frame_at}
 use Rattle.fjall_table.specs.Tables.{Handle, handle_text, index_text, Cover, Ascend, IsIndex}
-use Rattle.fjall_table.specs.TableReading.{handle_at, IsHandle, Follows, IsNoIndex}
+use Rattle.fjall_table.specs.TableReading.{handle_at, IsHandle, FollowsBlocks, IsNoIndex}
 use Rattle.fjall_base.proofs.Codecs.{IsBytes, some_is, Found, IsCodec, step, one_text, u16_codec, u64_codec, bytes_codec, length-little, first_of, one_behind, each_more}
 use Rattle.fjall_table.proofs.Frames.{frame8, length_framed}
 use Rattle.fjall_table.proofs.Lists.{Apart, GoesOn, goes_on}
@@ -135,7 +135,7 @@ pub record Part (payload : List ℕ) (hs : List Handle) (last : List ℕ) (at : 
 pub nothing_read : (payload : List ℕ) (end : ℕ) → IsBytes payload → Part payload [] [] 0 end payload
 nothing_read payload end fits = record { last_is = refl; parts = refl; fits = fits; each = tt; keys = tt; cover = refl; within = omega arith; ascend = tt }
 
-pub one_more : (payload rest after last : List ℕ) (hs : List Handle) (at end : ℕ) (h : Handle) → Part payload hs last at end rest → handle_at rest ≡ Some (h, after) → Follows last at end h → Part payload (hs ++ h ∷ []) h.first_key (at + h.len) end after
+pub one_more : (payload rest after last : List ℕ) (hs : List Handle) (at end : ℕ) (h : Handle) → Part payload hs last at end rest → handle_at rest ≡ Some (h, after) → FollowsBlocks last at end h → Part payload (hs ++ h ∷ []) h.first_key (at + h.len) end after
 one_more payload rest after last hs at end h p e f =
     let t = handle_codec.takes rest h after p.fits e in
     record {
@@ -164,7 +164,7 @@ begins bytes payload behind end fits e none some =
     let w = whole_takes bytes payload behind fits e none in
     record { payload = payload; whole = w; some = some; part = nothing_read payload end w.fits }
 
-pub reads_more : (bytes rest after last : List ℕ) (hs : List Handle) (at end : ℕ) (h : Handle) → Reads bytes hs last at end rest → handle_at rest ≡ Some (h, after) → Follows last at end h → Reads bytes (hs ++ h ∷ []) h.first_key (at + h.len) end after
+pub reads_more : (bytes rest after last : List ℕ) (hs : List Handle) (at end : ℕ) (h : Handle) → Reads bytes hs last at end rest → handle_at rest ≡ Some (h, after) → FollowsBlocks last at end h → Reads bytes (hs ++ h ∷ []) h.first_key (at + h.len) end after
 reads_more bytes rest after last hs at end h r e f = record { payload = r.payload; whole = r.whole; some = r.some; part = one_more r.payload rest after last hs at end h r.part e f }
 
 -- ---- a whole index
@@ -233,15 +233,15 @@ key_at [] more h keys = keys.0
 key_at (a ∷ hs) more h keys = key_at hs more h keys.1
 
 pub not_following : (bytes payload rest after last : List ℕ) (hs : List Handle) (at end : ℕ) (h : Handle) → Whole bytes payload → length bytes < 2 ^ 64 → end < 2 ^ 64 → Part payload hs last at end rest → (length rest ≡ 0 → ⊥) → handle_at rest ≡ Some (h, after)
-    → (Follows last at end h → ⊥) → IsNoIndex bytes end
+    → (FollowsBlocks last at end h → ⊥) → IsNoIndex bytes end
 not_following bytes payload rest after last hs at end h w lt el p some e bad all is text =
     let n = next_of bytes payload rest last hs all at end w lt el p some is text in
     let same : h ≡ n.handle = ap (λ (q : Handle × List ℕ). q.0) (some_is (h, after) (n.handle, flat_map handle_text n.more) (sym e ∙ ap handle_at n.text ∙ handle_codec.again n.handle (flat_map handle_text n.more) n.is)) in
     let c = cover_at 0 at end hs n.more n.handle p.cover (subst (λ (v : List Handle). Cover 0 end v) n.parts is.cover) in
     let k = key_at hs n.more n.handle (subst (λ (v : List Handle). AllByRecursion HasKey v) n.parts is.keys) in
     let up = ascend_at hs n.more n.handle (subst Ascend n.parts is.ascend) in
-    let f : Follows last at end n.handle = record { offset = c.0; within = c.1; some = k.0; ascends = subst (λ (v : List ℕ). byte_order v n.handle.first_key ≢ Greater) (sym p.last_is) up } in
-    bad (subst (λ (v : Handle). Follows last at end v) (sym same) f)
+    let f : FollowsBlocks last at end n.handle = record { offset = c.0; within = c.1; some = k.0; ascends = subst (λ (v : List ℕ). byte_order v n.handle.first_key ≢ Greater) (sym p.last_is) up } in
+    bad (subst (λ (v : Handle). FollowsBlocks last at end v) (sym same) f)
 
 -- all handles were read
 record All (bytes payload : List ℕ) (hs : List Handle) : Type 0 where

@@ -5,11 +5,9 @@ pub mod Damages
 pub mod BlockParts
 pub mod TableWriting
 pub mod TableLaws
-pub mod Footers
+mod Footers
 pub mod Indexes
 pub mod TableReading
 pub mod Lookups
 pub mod TableBlocks
 pub mod TableScans
-pub mod TableFiles
-pub mod FileScans

@@ -1,5 +1,5 @@
--- Binary search in an ordered list, and the versions of a key that it finds.
-use Rattle.std.proofs.Common.{if◌then◌else◌, ◌≡◌, ◌≢◌, ℕ, zero, suc, ◌-◌, ◌<◌, ◌≤◌, Bool, true, false, not, ◌&&◌, nat_le, nat_lt, List, [], ◌∷◌, length, get_or, take, drop, map, filter, IsTrue, refl, sym, ap, subst, ◌∙◌, arith, ◌⊎◌, inl, inr}
+-- Binary search in an ordered list, and the tests that find the versions of a key.
+use Rattle.std.proofs.Common.{if◌then◌else◌, ◌≡◌, ◌≢◌, ℕ, zero, suc, ◌-◌, ◌<◌, ◌≤◌, Bool, true, false, not, ◌&&◌, nat_le, nat_lt, List, [], ◌∷◌, length, get_or, map, filter, IsTrue, refl, sym, ap, subst, ◌∙◌, arith, ◌⊎◌, inl, inr}
 use Rattle.std.specs.List.Sorted.{IsPartitionedBy, IsPartitionPoint}
 use Rattle.std.specs.Str.{bytes_eq}
 use Rattle.std.specs.Ordering.{is_lt, is_le, is_gt}
@@ -9,12 +9,10 @@ use Rattle.std.specs.FinMap.{nat_cmp-IsAntisymmetric, slice_cmp-IsAntisymmetric}
 use Rattle.std.specs.BTreeMap.Comparable.{le_lt_trans}
 use Rattle.std.proofs.lemmas.Bool.{cases_Bool, cases_lt, leb-true, le-leb, lt-leb, lt-ltb, le-ltb}
 use Rattle.std.proofs.lemmas.Slice.Eq.{bytes_eq-Decides}
-use Rattle.std.proofs.lemmas.List.{take-map, drop-map}
 use Rattle.std.proofs.lemmas.Cmp.{nat_list_cmp_total, upto, tied_itself}
 use Rattle.fjall_base.specs.Pairs.{byte_order}
-use Rattle.fjall_table.specs.declared.table_entry.TableEntry.{TableEntry}
 use Rattle.fjall_table.specs.Blocks.{Entry, seen, StandsBefore, IsBefore, IsOrdered}
-use Rattle.fjall_table.specs.Tables.{Handle, Ascend, versions_at}
+use Rattle.fjall_table.specs.Tables.{Handle, Ascend}
 use Rattle.fjall_table.specs.TableReading.{is_ahead}
 
 -- ---- a test that holds up to some place, and then no more
@@ -88,20 +86,7 @@ pub falls_seen : {A B : Type 0} (f : A → B) (p : B → Bool) (xs : List A) →
 falls_seen f p [] h = tt
 falls_seen f p (x ∷ xs) h = (λ miss. all_not_seen f p xs (h.0 miss), falls_seen f p xs h.1)
 
--- ---- what stands between two such places
-
-shift : {A : Type 0} (n m : ℕ) (x : A) (xs ys : List A) → take (m - n) (drop n xs) ≡ ys → take (suc m - suc n) (drop (suc n) (x ∷ xs)) ≡ ys
-shift n m x xs ys e = let k : suc m - suc n ≡ m - n = omega arith in ap (λ (k : ℕ). take k (drop n xs)) k ∙ e
-
-starts : {A : Type 0} (n m : ℕ) (x : A) (xs ys : List A) → n ≡ 0 → take (m - n) (drop n xs) ≡ ys → take (suc m - n) (drop n (x ∷ xs)) ≡ x ∷ ys
-starts n m x xs ys z e =
-    let k : suc m - n ≡ suc m = omega arith in
-    let l : m - n ≡ m = omega arith in
-    let f : take m xs ≡ ys = sym (ap (λ (k : ℕ). take k xs) l) ∙ sym (ap (λ (j : ℕ). take (m - n) (drop j xs)) z) ∙ e in
-    ap (λ (j : ℕ). take (suc m - n) (drop j (x ∷ xs))) z ∙ ap (λ (k : ℕ). take k (x ∷ xs)) k ∙ ap (λ (v : List _). x ∷ v) f
-
-is_over : {A : Type 0} (n m : ℕ) (xs : List A) → m ≡ 0 → take (m - n) xs ≡ []
-is_over n m xs z = let k : m - n ≡ 0 = omega arith in ap (λ (k : ℕ). take k xs) k
+-- ---- how many pass a test
 
 pub none_but : {A : Type 0} (p q r : A → Bool) → ((x : A) → r x ≡ (q x && not (p x))) → (xs : List A) → AllNot q xs → filter r xs ≡ []
 none_but p q r is [] h = refl
@@ -116,34 +101,11 @@ counts p x xs pass = rw pass refl
 pub counts_not : {A : Type 0} (p : A → Bool) (x : A) (xs : List A) → p x ≡ false → count p (x ∷ xs) ≡ count p xs
 counts_not p x xs miss = rw miss refl
 
-passes : {A : Type 0} (r : A → Bool) (x : A) (xs : List A) → r x ≡ true → filter r (x ∷ xs) ≡ x ∷ filter r xs
-passes r x xs pass = rw pass refl
-
 pub fails : {A : Type 0} (r : A → Bool) (x : A) (xs : List A) → r x ≡ false → filter r (x ∷ xs) ≡ filter r xs
 fails r x xs miss = rw miss refl
 
 pub none_counted : {A : Type 0} (p : A → Bool) (xs : List A) → AllNot p xs → count p xs ≡ 0
 none_counted p xs h = ap length (none_passes p xs h)
-
-pub between : {A : Type 0} (p q r : A → Bool) → ((x : A) → p x ≡ true → q x ≡ true) → ((x : A) → r x ≡ (q x && not (p x))) → (xs : List A) → Falls p xs → Falls q xs → take (count q xs - count p xs) (drop (count p xs) xs) ≡ filter r xs
-between p q r sub is [] fp fq = refl
-between p q r sub is (x ∷ xs) fp fq =
-    let more = between p q r sub is xs fp.1 fq.1 in
-    elim (cases_Bool (p x)) [
-      | inl pass ↦
-          let also = sub x pass in
-          let miss : r x ≡ false = is x ∙ ap (λ (b : Bool). q x && not b) pass ∙ ap (λ (b : Bool). b && false) also in
-          rw (counts p x xs pass, counts q x xs also, fails r x xs miss) (shift (count p xs) (count q xs) x xs (filter r xs) more)
-      | inr none ↦
-          elim (cases_Bool (q x)) [
-            | inl also ↦
-                let pass : r x ≡ true = is x ∙ ap (λ (b : Bool). q x && not b) none ∙ ap (λ (b : Bool). b && true) also in
-                rw (counts_not p x xs none, counts q x xs also, passes r x xs pass) (starts (count p xs) (count q xs) x xs (filter r xs) (none_counted p xs (fp.0 none)) more)
-            | inr past ↦
-                let miss : r x ≡ false = is x ∙ ap (λ (b : Bool). b && not (p x)) past in
-                rw (counts_not q x xs past, fails r x xs miss) (is_over (count p (x ∷ xs)) (count q xs) (drop (count p (x ∷ xs)) (x ∷ xs)) (none_counted q xs (fq.0 past)) ∙ sym (none_but p q r is xs (fq.0 past)))
-          ]
-    ]
 
 -- ---- keys
 
@@ -273,31 +235,6 @@ wanted_is key instant e =
     test_is (byte_order e.key key) (bytes_eq e.key key) e.number instant
     (λ t. ap (λ (k : List ℕ). byte_order k key) ((bytes_eq-Decides e.key key).0 t) ∙ tied_itself nat_list_cmp_total key)
     (λ o. (bytes_eq-Decides e.key key).1 (same_key e.key key o))
-
-pub wanted_between : (key : List ℕ) (instant : ℕ) (es : List Entry) → IsOrdered es → take (length (filter (up_to key) es) - length (filter (ahead_of key instant) es)) (drop (length (filter (ahead_of key instant) es)) es) ≡ versions_at key instant es
-wanted_between key instant es up = between (ahead_of key instant) (up_to key) (wanted key instant) (λ e t. ahead_up_to (byte_order e.key key) e.number instant t) (wanted_is key instant) es (falls_ahead key instant es up) (falls_entries key es up)
-
--- fewer pass a test that says more
-pub fewer : {A : Type 0} (p q : A → Bool) → ((x : A) → p x ≡ true → q x ≡ true) → (xs : List A) → length (filter p xs) ≤ length (filter q xs)
-fewer p q sub [] = omega arith
-fewer p q sub (x ∷ xs) =
-    let l = fewer p q sub xs in
-    elim (cases_Bool (p x)) [
-      | inl t ↦ rw (counts p x xs t, counts q x xs (sub x t)) (omega arith)
-      | inr f ↦ elim (cases_Bool (q x)) [ inl t ↦ rw (counts_not p x xs f, counts q x xs t) (omega arith) | inr g ↦ rw (counts_not p x xs f, counts_not q x xs g) l ]
-    ]
-
-pub ahead_fewer : (key : List ℕ) (instant : ℕ) (es : List Entry) → length (filter (ahead_of key instant) es) ≤ length (filter (up_to key) es)
-ahead_fewer key instant es = fewer (ahead_of key instant) (up_to key) (λ e t. ahead_up_to (byte_order e.key key) e.number instant t) es
-
--- a part of a block, as two searches give it
-pub part_found : (key : List ℕ) (instant : ℕ) (vs : List TableEntry) (start end : ℕ) → IsOrdered (map seen vs) → start ≡ length (filter (ahead_of key instant) (map seen vs)) → end ≡ length (filter (up_to key) (map seen vs)) → map seen (take (end - start) (drop start vs)) ≡ versions_at key instant (map seen vs)
-part_found key instant vs start end up s e =
-    sym (take-map seen (end - start) (drop start vs))
-    ∙ ap (take (end - start)) (sym (drop-map seen start vs))
-    ∙ ap (λ (n : ℕ). take (end - n) (drop n (map seen vs))) s
-    ∙ ap (λ (m : ℕ). take (m - length (filter (ahead_of key instant) (map seen vs))) (drop (length (filter (ahead_of key instant) (map seen vs))) (map seen vs))) e
-    ∙ wanted_between key instant (map seen vs) up
 
 -- blocks that begin below a key begin with one at most it
 pub all_up_to : (key : List ℕ) (hs : List Handle) → length (filter (λ h. is_lt (byte_order h.first_key key)) hs) ≤ length (filter (λ h. is_le (byte_order h.first_key key)) hs)

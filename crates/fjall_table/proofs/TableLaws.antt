@@ -12,7 +12,7 @@ use Rattle.fjall_base.specs.Check.{check}
 use Rattle.fjall_base.specs.Fields.{number_at}
 use Rattle.fjall_table.specs.Blocks.{Entry, IsEntry, payload_of, block_text, StandsBefore, IsBefore, IsOrdered, IsBlock}
 use Rattle.fjall_table.specs.Tables.{Handle, first_key, entries_of, handles_of, data_text, index_text, footer_text, end_text, table_text, AreFull, AreBlocks, IsTable, Cover, Ascend, IsIndex, HasIndex}
-use Rattle.fjall_table.specs.Writing.{block_at, IsWritten}
+use Rattle.fjall_table.specs.Writing.{block_at, IsBlockWritten}
 use Rattle.fjall_base.proofs.Codecs.{some_is, one_text, u64_codec, length-little}
 use Rattle.fjall_base.proofs.Checks.{check_len}
 use Rattle.fjall_table.proofs.Frames.{length_framed}
@@ -26,22 +26,22 @@ blocks_stand_apart vs ws x y iv iw sv sw e =
     let same = some_is (vs, x) (ws, y) (sym (block_again vs x (iv, sv)) ∙ ap block_at e ∙ block_again ws y (iw, sw)) in
     (ap (λ (p : List Entry × List ℕ). p.0) same, ap (λ (p : List Entry × List ℕ). p.1) same)
 
-pub blocks_apart : Apart block_text IsWritten
+pub blocks_apart : Apart block_text IsBlockWritten
 blocks_apart = record { one = λ vs ws x y iv iw e. blocks_stand_apart vs ws x y iv.0 iw.0 iv.1 iw.1 e; some = block_some }
 
-pub written_each : (blocks : List (List Entry)) → AllByRecursion IsBlock blocks → length (data_text blocks) < 2 ^ 64 → AllByRecursion IsWritten blocks
+pub written_each : (blocks : List (List Entry)) → AllByRecursion IsBlock blocks → length (data_text blocks) < 2 ^ 64 → AllByRecursion IsBlockWritten blocks
 written_each [] each small = tt
 written_each (b ∷ blocks) each small =
     let l = length-append (block_text b) (data_text blocks) in
     let f = length_framed 8 (payload_of b) in
     ((each.0, omega arith), written_each blocks each.1 (omega arith))
 
-nothing_there : NoItem block_text IsWritten []
+nothing_there : NoItem block_text IsBlockWritten []
 nothing_there block more is e = let l = ap length e in let m = length-append (block_text block) more in let s = block_some block in omega arith
 
 -- blocks with one text are the same
-pub same_blocks : (bs cs : List (List Entry)) → AllByRecursion IsWritten bs → AllByRecursion IsWritten cs → data_text bs ≡ data_text cs → bs ≡ cs
-same_blocks bs cs eb ec e = (same_lists block_text IsWritten blocks_apart bs cs [] [] eb ec nothing_there nothing_there (ap (λ (t : List ℕ). t ++ []) e)).0
+pub same_blocks : (bs cs : List (List Entry)) → AllByRecursion IsBlockWritten bs → AllByRecursion IsBlockWritten cs → data_text bs ≡ data_text cs → bs ≡ cs
+same_blocks bs cs eb ec e = (same_lists block_text IsBlockWritten blocks_apart bs cs [] [] eb ec nothing_there nothing_there (ap (λ (t : List ℕ). t ++ []) e)).0
 
 -- ---- the end of a table
 

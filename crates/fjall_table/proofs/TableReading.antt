@@ -11,7 +11,7 @@ use Rattle.fjall_table.specs.declared.footer.Footer.{Footer}
 use Rattle.fjall_base.specs.Check.{check}
 use Rattle.fjall_table.specs.Frame.{framed}
 use Rattle.fjall_table.specs.Reading.{DamagedWhere, frame_at}
-use Rattle.fjall_table.specs.Blocks.{Entry, seen, entry_text, IsEntry, payload_of, block_text, IsBlock, IsNoBlock}
+use Rattle.fjall_table.specs.Blocks.{Entry, seen, entry_text, IsEntry, payload_of, block_text, IsBlock}
 use Rattle.fjall_table.specs.Tables.{Handle, first_key, index_text, footer_text, end_text, IsIndex, HasIndex}
 use Rattle.fjall_table.specs.TableReading.{handle_of, footer_at, IsNoFooter, IsNoIndex, IsNoBlockFrom}
 use Rattle.fjall_base.proofs.Codecs.{just, some_is, one_text}
@@ -42,9 +42,6 @@ small bytes payload lt e = let l = ap length e in let m = length_framed 8 payloa
 -- one text is of one block
 pub one_block : (bytes : List ℕ) (vs ws : List Entry) → length bytes < 2 ^ 64 → IsBlock vs → IsBlock ws → bytes ≡ block_text vs → bytes ≡ block_text ws → vs ≡ ws
 one_block bytes vs ws lt iv iw ev ew = one_list entry_text IsEntry entries_apart vs ws iv.each iw.each (one_payload (payload_of vs) (payload_of ws) (small bytes (payload_of vs) lt ev) (small bytes (payload_of ws) lt ew) (sym ev ∙ ew))
-
-pub no_block : (key bytes : List ℕ) → length bytes < 2 ^ 64 → IsNoBlock bytes → IsNoBlockFrom key bytes
-no_block key bytes lt none vs b = none vs b.is (small bytes (payload_of vs) lt b.text) b.text
 
 pub other_key : (key bytes : List ℕ) (vs : List Entry) → length bytes < 2 ^ 64 → IsBlock vs → bytes ≡ block_text vs → (first_key vs ≡ key → ⊥) → IsNoBlockFrom key bytes
 other_key key bytes vs lt is text bad ws b = bad (ap first_key (one_block bytes vs ws lt is b.is text b.text) ∙ b.key_is)

@@ -9,7 +9,7 @@ use Rattle.fjall_table.specs.Reading.{frame_at}
 use Rattle.fjall_table.specs.Blocks.{Entry, entry_text, entry_at, IsEntry, payload_of, block_text, IsOrdered, IsBlock}
 use Rattle.fjall_base.specs.Lists.{last_of}
 use Rattle.fjall_table.specs.Tables.{Handle, first_key, entries_of, handle_text, handles_of, data_text, index_text, footer_text, AreFull, IsTable}
-use Rattle.fjall_table.specs.Writing.{items_in, entries_in, block_at, blocks_in, IsOpen, IsWritten, AreClosed, HaveReached, Follows, IsLast, IsSoFar}
+use Rattle.fjall_table.specs.Writing.{items_in, entries_in, block_at, blocks_in, IsOpen, IsBlockWritten, AreClosed, HaveReached, FollowsEntries, IsLast, IsSoFar}
 use Rattle.fjall_base.proofs.Codecs.{some_is, each_more}
 use Rattle.fjall_table.proofs.Frames.{frame8, length_framed}
 use Rattle.fjall_base.proofs.Lists.{last_behind}
@@ -107,7 +107,7 @@ emptied payload none = rw none (as_read [] 0 [] nothing_open, open_reads [] 0 []
 
 -- ---- the closed blocks
 
-pub block_again : (vs : List Entry) (rest : List ℕ) → IsWritten vs → block_at (block_text vs ++ rest) ≡ Some (vs, rest)
+pub block_again : (vs : List Entry) (rest : List ℕ) → IsBlockWritten vs → block_at (block_text vs ++ rest) ≡ Some (vs, rest)
 block_again vs rest is = rw (frame8.again (payload_of vs) rest is.1, entries_again vs is.0.each) refl
 
 no_block : block_at [] ≡ None
@@ -117,8 +117,8 @@ no_block = refl
 pub block_some : (vs : List Entry) → 0 < length (block_text vs)
 block_some vs = let l = length_framed 8 (payload_of vs) in omega arith
 
-blocks_again : (blocks : List (List Entry)) → AllByRecursion IsWritten blocks → blocks_in (data_text blocks) ≡ blocks
-blocks_again blocks each = items_again block_at block_text IsWritten block_again no_block (length (data_text blocks)) blocks (no_more_than_bytes block_text block_some blocks) each
+blocks_again : (blocks : List (List Entry)) → AllByRecursion IsBlockWritten blocks → blocks_in (data_text blocks) ≡ blocks
+blocks_again blocks each = items_again block_at block_text IsBlockWritten block_again no_block (length (data_text blocks)) blocks (no_more_than_bytes block_text block_some blocks) each
 
 pub closed_reads : (bytes index : List ℕ) (count : ℕ) (blocks : List (List Entry)) → AreClosed bytes index count blocks → blocks_in bytes ≡ blocks
 closed_reads bytes index count blocks are = ap blocks_in are.text ∙ blocks_again blocks are.each
@@ -188,7 +188,7 @@ one_closed bytes index payload key now index_now count number offset len blocks 
       ∙ ap (λ (t : List ℕ). flat_map handle_text (handles_of 0 blocks) ++ handle_text (record { offset = length (data_text blocks); len = length (block_text block); first_key = t })) first
       ∙ sym (index_behind blocks block);
   number = let n = are.number in let o = is.number in let e = ap length (entries_behind blocks block) in let l = length-append (entries_of blocks) block in omega arith;
-  each = each_more IsWritten blocks block are.each (record { some = some; each = is.each; ordered = up; closed = is.closed }, let p = ap length is.text in let l = ap length added in let m = length-append bytes (framed 8 payload) in let f = length_framed 8 payload in omega arith);
+  each = each_more IsBlockWritten blocks block are.each (record { some = some; each = is.each; ordered = up; closed = is.closed }, let p = ap length is.text in let l = ap length added in let m = length-append bytes (framed 8 payload) in let f = length_framed 8 payload in omega arith);
 }
   where
     framed_len : len ≡ length (block_text block)
@@ -218,7 +218,7 @@ two_closed bytes index count blocks are = let n = are.number in let t = ap lengt
 
 -- ---- the whole table
 
-each_block : (blocks : List (List Entry)) → AllByRecursion IsWritten blocks → AllByRecursion IsBlock blocks
+each_block : (blocks : List (List Entry)) → AllByRecursion IsBlockWritten blocks → AllByRecursion IsBlock blocks
 each_block [] each = tt
 each_block (b ∷ blocks) each = (each.0.0, each_block blocks each.1)
 
@@ -250,7 +250,7 @@ so_far_moved key number closed now vs ws is same full = record {
   full = full;
 }
 
-pub so_far_grown : (key next : List ℕ) (number : Option ℕ) (closed : List (List Entry)) (vs : List Entry) (v : Entry) → IsSoFar key number closed vs → Follows (entries_of closed ++ vs) v → next ≡ v.key → IsSoFar next (Some v.number) closed (vs ++ v ∷ [])
+pub so_far_grown : (key next : List ℕ) (number : Option ℕ) (closed : List (List Entry)) (vs : List Entry) (v : Entry) → IsSoFar key number closed vs → FollowsEntries (entries_of closed ++ vs) v → next ≡ v.key → IsSoFar next (Some v.number) closed (vs ++ v ∷ [])
 so_far_grown key next number closed vs v is behind e = record {
   last = subst (λ (o : Option Entry). IsLast next (Some v.number) o) (sym (ap last_of more ∙ last_behind (entries_of closed ++ vs) v)) (e, refl);
   ordered = subst IsOrdered (sym more) (ordered_more (entries_of closed ++ vs) v is.ordered behind);
@@ -280,10 +280,6 @@ pub none_written : (key : List ℕ) (number : Option ℕ) (es : List Entry) → 
 none_written key None es none is = no_last key es is
 none_written key (Some n) es none is = absurd cc
 
-pub some_block : (key : List ℕ) (n : ℕ) (blocks : List (List Entry)) → IsLast key (Some n) (last_of (entries_of blocks)) → 0 < length blocks
-some_block key n [] is = absurd is
-some_block key n (b ∷ blocks) is = omega arith
-
 -- ---- full blocks
 
 pub all_are_full : (blocks : List (List Entry)) → HaveReached blocks → AreFull blocks
@@ -295,13 +291,6 @@ pub full_but_last : (blocks : List (List Entry)) (block : List Entry) → HaveRe
 full_but_last [] block full = tt
 full_but_last (b ∷ []) block full = (full.0, tt)
 full_but_last (b ∷ d ∷ blocks) block full = (full.0, full_but_last (d ∷ blocks) block full.1)
-
-pub all_reached : (blocks : List (List Entry)) (block : List Entry) → HaveReached blocks → 4096 ≤ length (payload_of block) → HaveReached (blocks ++ block ∷ [])
-all_reached blocks block full is = each_more (λ (b : List Entry). 4096 ≤ length (payload_of b)) blocks block full is
-
-pub full_has_entries : (block : List Entry) → 4096 ≤ length (payload_of block) → 0 < length block
-full_has_entries [] full = absurd (omega arith)
-full_has_entries (e ∷ es) full = omega arith
 
 pub closed_last : {E : Type 0} (result : Result (Unit {0}) E) (old now : List (List Entry)) (block : List Entry) → OnOk result (now ≡ old ++ block ∷ []) → OnOk result (HaveReached old → AreFull now)
 closed_last (Ok done) old now block e = λ full. subst AreFull (sym e) (full_but_last old block full)

@@ -5,4 +5,3 @@ pub mod Tables
 pub mod Writing
 pub mod TableReading
 pub mod Owned
-pub mod Files

@@ -48,7 +48,7 @@ pub record IsHandle (h : Handle) : Type 0 where
   pub key : length h.first_key < 2 ^ 16
 
 -- A block may stand behind others that end at an offset, the last of which has this first key, and end within some bytes.
-pub record Follows (last_key : List ℕ) (at : ℕ) (end : ℕ) (h : Handle) : Type 0 where
+pub record FollowsBlocks (last_key : List ℕ) (at : ℕ) (end : ℕ) (h : Handle) : Type 0 where
   pub offset : h.offset ≡ at
   pub within : at + h.len ≤ end
   pub some : 0 < length h.first_key

@@ -8,8 +8,8 @@ use Rattle.fjall_table.specs.Blocks.{Entry, entry_at, payload_of, IsEntry, IsBef
 use Rattle.fjall_table.specs.Tables.{entries_of, data_text, handle_text, handles_of}
 
 -- an entry stands behind all others
-abbrev pub Follows : List Entry → Entry → Type 0
-Follows entries entry = IfSome (last_of entries) (λ last. IsBefore last entry)
+abbrev pub FollowsEntries : List Entry → Entry → Type 0
+FollowsEntries entries entry = IfSome (last_of entries) (λ last. IsBefore last entry)
 
 -- ---- inside a writer: the entries that stand in its bytes, and what holds of them
 
@@ -44,15 +44,15 @@ pub record IsOpen (payload : List ℕ) (count : ℕ) (entries : List Entry) : Ty
   pub closed : (front more : List Entry) → 0 < length more → entries ≡ front ++ more → length (payload_of front) < 4096
 
 -- a block whose payload's length has room in the frame
-abbrev pub IsWritten : List Entry → Type 0
-IsWritten block = IsBlock block × (length (payload_of block) < 2 ^ 64)
+abbrev pub IsBlockWritten : List Entry → Type 0
+IsBlockWritten block = IsBlock block × (length (payload_of block) < 2 ^ 64)
 
 -- The bytes, the payload of the index and the count are those of these blocks.
 pub record AreClosed (bytes index : List ℕ) (count : ℕ) (blocks : List (List Entry)) : Type 0 where
   pub text : bytes ≡ data_text blocks
   pub index_is : index ≡ flat_map handle_text (handles_of 0 blocks)
   pub number : count ≡ length (entries_of blocks)
-  pub each : AllByRecursion IsWritten blocks
+  pub each : AllByRecursion IsBlockWritten blocks
 
 -- each block has the size at which it is closed
 abbrev pub HaveReached : List (List Entry) → Type 0

@@ -3,7 +3,7 @@
 ghost use Rattle.std.specs.Prelude.{◌≡◌, IfOk, IfErr};
 ghost use Rattle.fjall_base.specs.declared.error.Error.TheVariants.{Storage};
 ghost use Rattle.fjall_base.specs.declared.error.StorageError.TheVariants.{TableDamaged};
-ghost use Rattle.fjall_base.specs.Fields.{Shows};
+ghost use Rattle.fjall_base.specs.Fields.{ShowsRead};
 ghost use Rattle.fjall_table.specs.Tables.{footer_text};
 ghost use Rattle.fjall_table.specs.TableReading.{IsNoFooter, footer_at};
 
@@ -31,7 +31,7 @@ pub struct Footer {
 /// The footer at the front, and the bytes behind it.
 #[tactic(auto, unfolding(crate::specs::TableReading::footer_at))]
 fn footer_of(bytes: &[u8]) -> Option<(Footer, &[u8])>
-    ensures { Shows (λ x. (x.0, x.1.now)) result (footer_at bytes.now) }
+    ensures { ShowsRead (λ x. (x.0, x.1.now)) result (footer_at bytes.now) }
 {
     let Some((magic, rest)) = bytes_of(bytes, 4) else {
         return None;

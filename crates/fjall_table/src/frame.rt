@@ -2,7 +2,7 @@
 
 ghost use Rattle.std.specs.Prelude.{◌≡◌, ◌⊎◌, ◌+◌, ◌++◌, OnOk, OnErr, IsOkUnless};
 ghost use Rattle.fjall_table.specs.Frame.{framed};
-ghost use Rattle.fjall_base.specs.Fields.{Shows, number_at};
+ghost use Rattle.fjall_base.specs.Fields.{ShowsRead, number_at};
 ghost use Rattle.fjall_table.specs.Reading.{frame_at};
 
 use crate::check::is_check;
@@ -11,7 +11,7 @@ use fjall_base::{Error, Result, bytes_of, checksum, u32_of, u64_of};
 /// A length of that many bytes, four or eight.
 fn len_of(bytes: &[u8], width: usize) -> Option<(usize, &[u8])>
     requires { (width ≡ 4) ⊎ (width ≡ 8) }
-    ensures { Shows (λ x. (x.0, x.1.now)) result (number_at width bytes.now) }
+    ensures { ShowsRead (λ x. (x.0, x.1.now)) result (number_at width bytes.now) }
 {
     if width == 4 {
         let Some((len, rest)) = u32_of(bytes) else {
@@ -30,7 +30,7 @@ fn len_of(bytes: &[u8], width: usize) -> Option<(usize, &[u8])>
 #[tactic(auto, unfolding(crate::specs::Reading::frame_at))]
 pub fn frame_of(bytes: &[u8], width: usize) -> Option<(&[u8], &[u8])>
     requires { (width ≡ 4) ⊎ (width ≡ 8) }
-    ensures { Shows (λ x. (x.0.now, x.1.now)) result (frame_at width bytes.now) }
+    ensures { ShowsRead (λ x. (x.0.now, x.1.now)) result (frame_at width bytes.now) }
 {
     let Some((len, rest)) = len_of(bytes, width) else {
         return None;

@@ -2,20 +2,18 @@
 
 ghost use Rattle.std.specs.Prelude.{◌≡◌, ◌-◌, ◌≤◌, ◌↔◌, map, IsTrue, IfOk, IfErr};
 ghost use Rattle.fjall_base.specs.declared.error.StorageError.TheVariants.{TableDamaged};
-ghost use Rattle.fjall_base.specs.Fields.{Shows};
+ghost use Rattle.fjall_base.specs.Fields.{ShowsRead};
 ghost use Rattle.fjall_table.specs.Reading.{DamagedWhere};
 ghost use Rattle.fjall_table.specs.Blocks.{seen};
 ghost use Rattle.fjall_table.specs.Tables.{index_text, IsIndex};
-ghost use Rattle.fjall_table.specs.TableReading.{handle_of, blocks_below, blocks_up_to, handle_at, Follows, IsBlockFrom, IsNoBlockFrom, IsNoIndex};
+ghost use Rattle.fjall_table.specs.TableReading.{handle_of, handle_at, FollowsBlocks, IsBlockFrom, IsNoBlockFrom, IsNoIndex};
 
 use crate::block::read_block;
 use crate::frame::frame_of;
-use crate::span::span_of;
 use crate::table_entry::TableEntry;
 use fjall_base::{Error, Result, StorageError, bytes_of, u16_of, u64_of};
 use std::alloc::Global;
 use std::cmp::Ordering;
-use std::ops::Range;
 
 const DAMAGED: Error = Error::Storage(StorageError::TableDamaged);
 
@@ -34,7 +32,7 @@ impl<'a> BlockHandle<'a> {
     /// The handle at the front of the bytes, and the bytes behind it.
     #[tactic(auto, unfolding(crate::specs::TableReading::handle_at))]
     fn decode(bytes: &'a [u8]) -> Option<(BlockHandle<'a>, &'a [u8])>
-        ensures { Shows (λ x. (handle_of x.0, x.1.now)) result (handle_at bytes.now) }
+        ensures { ShowsRead (λ x. (handle_of x.0, x.1.now)) result (handle_at bytes.now) }
     {
         let Some((offset, rest)) = u64_of(bytes) else {
             return None;
@@ -72,7 +70,7 @@ impl<'a> BlockHandle<'a> {
     // Whether it stands at an offset, ends within some bytes, and has a key that isn't below the last one.
     fn follows(&self, last_key: &[u8], at: u64, end: u64) -> bool
         requires { at ≤ end }
-        ensures { IsTrue result ↔ Follows last_key.now at end (handle_of self.now) }
+        ensures { IsTrue result ↔ FollowsBlocks last_key.now at end (handle_of self.now) }
     {
         self.offset == at
             && self.len <= end - at
@@ -134,14 +132,5 @@ impl<'a> Index<'a> {
         ensures { result.now ≡ self.now.handles.items }
     {
         &self.handles
-    }
-
-    /// The numbers of the blocks that may hold a key: from the last one that begins with a key below it, if there is
-    /// one, to the last one that begins with a key at most it.
-    pub fn span(&self, key: &[u8]) -> Range<usize>
-        ensures start { result.start ≡ blocks_below key.now (map handle_of self.now.handles.items) - 1 }
-        ensures end { result.end ≡ blocks_up_to key.now (map handle_of self.now.handles.items) }
-    {
-        span_of(&self.handles, key)
     }
 }

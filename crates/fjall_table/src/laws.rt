@@ -1,10 +1,8 @@
-//! What holds of the definitions.
+//! What holds of tables.
 
 ghost use Rattle.std.specs.Prelude.{◌≡◌, ℕ, ◌<◌, ◌^◌, List, ◌++◌, length};
 ghost use Rattle.fjall_table.specs.Blocks.{Entry, payload_of, block_text, IsBlock};
-ghost use Rattle.fjall_table.specs.Tables.{Handle, entries_of, handles_of, AreBlocks, IsTable, HasIndex};
-ghost use Rattle.fjall_table.specs.declared.table_info.TableInfo.{TableInfo};
-ghost use Rattle.fjall_table.specs.Files.{IsIndexed, IsTableOf};
+ghost use Rattle.fjall_table.specs.Tables.{entries_of, handles_of, AreBlocks, IsTable, HasIndex};
 
 /// A table's bytes hold one list of entries.
 pub fn one_list_of_entries()
@@ -26,19 +24,4 @@ pub fn blocks_stand_apart()
 pub fn tables_have_an_index()
     ensures { (bytes : List ℕ) (es : List Entry) → IsTable bytes es
         → (blocks : List (List Entry)) × AreBlocks blocks × (entries_of blocks ≡ es) × HasIndex bytes (handles_of 0 blocks) (length es) }
-{}
-
-/// A file that is a record's table has an index as an opening wants it.
-pub fn files_have_an_index()
-    ensures { (info : TableInfo) (bytes : List ℕ) (es : List Entry) → IsTableOf info bytes es → (handles : List Handle) × IsIndexed info bytes handles }
-{}
-
-/// A file has one index.
-pub fn one_index_of_a_file()
-    ensures { (info : TableInfo) (bytes : List ℕ) (hs gs : List Handle) → IsIndexed info bytes hs → IsIndexed info bytes gs → hs ≡ gs }
-{}
-
-/// A file that is a record's table holds one list of entries.
-pub fn one_list_of_a_file()
-    ensures { (info : TableInfo) (bytes : List ℕ) (es fs : List Entry) → IsTableOf info bytes es → IsTableOf info bytes fs → es ≡ fs }
 {}

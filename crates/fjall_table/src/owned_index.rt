@@ -60,14 +60,16 @@ fn copy_handles(alloc: Global, handles: &[BlockHandle<'_>]) -> Result<Vec<OwnedH
 /// The handles of all blocks, in the order of the file.
 #[derive(Drop)]
 pub struct OwnedIndex {
-    pub(crate) handles: Vec<OwnedHandle>,
-    pub(crate) data_len: u64,
+    /// One of each block.
+    pub handles: Vec<OwnedHandle>,
+    /// Where the last block ends, in bytes from the start of the file.
+    pub data_len: u64,
     ghost covers: { ∥ IsIndex (map owned_handle handles.items) data_len ∥₁ },
 }
 
 impl OwnedIndex {
     /// A copy of an index.
-    pub(crate) fn copy(alloc: Global, index: &Index<'_>) -> Result<OwnedIndex>
+    pub fn copy(alloc: Global, index: &Index<'_>) -> Result<OwnedIndex>
         ensures index { IfOk result (λ i. map owned_handle i.handles.items ≡ map handle_of index.now.handles.items) }
         ensures over { IfOk result (λ i. i.data_len ≡ index.now.data_len) }
         ensures only { IsOkUnless result Error.OutOfMemory }

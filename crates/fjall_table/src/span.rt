@@ -2,28 +2,20 @@
 
 ghost use Rattle.std.specs.Prelude.{◌≡◌, ◌-◌, map};
 ghost use Rattle.fjall_table.specs.Tables.{Handle, Ascend};
-ghost use Rattle.fjall_table.specs.TableReading.{handle_of, blocks_below, blocks_up_to};
+ghost use Rattle.fjall_table.specs.TableReading.{blocks_below, blocks_up_to};
 ghost use Rattle.fjall_table.specs.Owned.{owned_handle};
 
-use crate::index::BlockHandle;
 use crate::keys::{is_at_most, is_below};
 use crate::owned_index::OwnedHandle;
 use std::ops::Range;
 
 /// A handle of a block, which knows the key of the block's first entry.
-pub(crate) trait Keyed {
+pub trait Keyed {
     ghost handle: { Self → Handle };
 
+    /// That key.
     fn key(&self) -> &[u8]
         ensures { result.now ≡ (handle self.now).first_key };
-}
-
-impl<'a> Keyed for BlockHandle<'a> {
-    ghost handle = { handle_of };
-
-    fn key(&self) -> &[u8] {
-        self.first_key
-    }
 }
 
 impl Keyed for OwnedHandle {
@@ -59,7 +51,7 @@ fn count_up_to<H: Keyed>(handles: &[H], key: &[u8], below: usize) -> usize
 
 /// The numbers of the blocks that may hold a key: from the last one that begins with a key below it, if there is one, to
 /// the last one that begins with a key at most it.
-pub(crate) fn span_of<H: Keyed>(handles: &[H], key: &[u8]) -> Range<usize>
+pub fn span_of<H: Keyed>(handles: &[H], key: &[u8]) -> Range<usize>
     requires { Ascend (map H.handle handles.now) }
     ensures start { result.start ≡ blocks_below key.now (map H.handle handles.now) - 1 }
     ensures end { result.end ≡ blocks_up_to key.now (map H.handle handles.now) }

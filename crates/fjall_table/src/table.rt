@@ -1,16 +1,15 @@
-//! A table: entries in blocks, looked up by the index over them.
+//! A table: entries in blocks, and the index over them.
 
-ghost use Rattle.std.specs.Prelude.{◌≡◌, ◌<◌, ◌≤◌, ◌++◌, ◌↔◌, IsTrue, length, take, map, slice_get, List, IfOk, IfErr, IfSome, IsOkUnless};
+ghost use Rattle.std.specs.Prelude.{OnOk, ◌≡◌, ◌<◌, ◌≤◌, ◌++◌, ◌↔◌, IsTrue, length, take, map, slice_get, IfOk, IfErr, IfSome, IsOkUnless};
 ghost use Rattle.fjall_base.specs.declared.error.StorageError.TheVariants.{TableDamaged};
 ghost use Rattle.fjall_table.specs.Reading.{DamagedWhere};
-ghost use Rattle.fjall_table.specs.Blocks.{Entry, seen, IsOrdered};
-ghost use Rattle.fjall_table.specs.Tables.{end_text, IsTable, HasIndex, versions_at};
+ghost use Rattle.fjall_table.specs.Blocks.{seen, IsOrdered};
+ghost use Rattle.fjall_table.specs.Tables.{end_text, IsTable, HasIndex};
 ghost use Rattle.fjall_table.specs.TableReading.{handle_of, HasNoIndex, IsBlockOf, IsNoBlockOf, IsNoTable};
 
 use crate::block::BLOCK_BYTES;
 use crate::footer::{FOOTER_LEN, Footer};
 use crate::index::Index;
-use crate::lookup::{find_versions, put_versions};
 use crate::table_entry::TableEntry;
 use crate::table_info::TableInfo;
 use fjall_base::{Error, Result, StorageError};
@@ -33,12 +32,24 @@ fn goes_on(versions: &[TableEntry<'_>], block: &[TableEntry<'_>]) -> bool
     }
 }
 
+/// Adds copies of versions.
+fn put_versions<'a>(out: &mut Vec<TableEntry<'a>>, versions: &[TableEntry<'a>]) -> Result<()>
+    ensures ok { OnOk result (out.new.items ≡ out.old.items ++ versions.now) }
+    ensures only { IsOkUnless result Error.OutOfMemory }
+{
+    for version in versions {
+        out.push(*version)?;
+    }
+    Ok(())
+}
+
 /// A table over the bytes of its file. Its index is read; its blocks are read when they are asked for.
 #[derive(Drop)]
 pub struct Table<'a> {
     pub(crate) alloc: Global,
     pub(crate) bytes: &'a [u8],
-    pub(crate) index: Index<'a>,
+    /// Its index, as it was read.
+    pub index: Index<'a>,
     pub(crate) entry_count: u64,
     ghost within: { index.data_len ≤ length bytes.now },
     ghost ends: { bytes.now ≡ take index.data_len bytes.now ++ end_text index.data_len (map handle_of index.handles.items) entry_count },
@@ -95,22 +106,6 @@ impl<'a> Table<'a> {
         let (_, rest) = self.bytes.split_at(handle.offset as usize);
         let (framed, _) = rest.split_at(handle.len as usize);
         handle.read(self.alloc, framed)
-    }
-
-    /// The versions of a key that are numbered below an instant, the newest first. Only the blocks that may hold the key
-    /// are read, and one of these that is damaged is `Storage(TableDamaged)`.
-    pub fn versions_at(&self, key: &[u8], instant: u64) -> Result<Vec<TableEntry<'a>>>
-        ensures found { (es : List Entry) → IsTable self.now.bytes.now es → IfOk result (λ vs. map seen vs.items ≡ versions_at key.now instant es) }
-        ensures only { (es : List Entry) → IsTable self.now.bytes.now es → IsOkUnless result Error.OutOfMemory }
-        ensures damaged { IfErr result (DamagedWhere TableDamaged (IsNoTable self.now.bytes.now)) }
-    {
-        let mut found = Vec::new(self.alloc);
-        let span = self.index.span(key);
-        for at in span.start..span.end {
-            let block = self.block(at)?;
-            put_versions(&mut found, find_versions(&block, key, instant))?;
-        }
-        Ok(found)
     }
 
     /// All entries, in order. A file that isn't a table is `Storage(TableDamaged)`: besides damaged blocks, one with a

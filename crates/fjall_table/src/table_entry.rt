@@ -2,7 +2,7 @@
 
 ghost use Rattle.std.specs.Prelude.{◌≡◌, ◌<◌, ◌++◌, ◌↔◌, ◌^◌, length, Ok, Err, OnOk, OnErr, IsTrue, IsOkUnless, MatchOption};
 ghost use Rattle.std.specs.Option.{option_map};
-ghost use Rattle.fjall_base.specs.Fields.{Shows};
+ghost use Rattle.fjall_base.specs.Fields.{ShowsRead};
 ghost use Rattle.fjall_base.specs.Limits.{item_refusal};
 ghost use Rattle.fjall_table.specs.Blocks.{seen, entry_header, entry_text, IsEntry, IsBefore, refusal, value_of, entry_at};
 
@@ -49,7 +49,7 @@ fn put_entry(out: &mut Vec<u8>, key: &[u8], kind: u8, number: u64, value: &[u8])
 }
 
 fn value_named(kind: u8, value: &[u8]) -> Option<Option<&[u8]>>
-    ensures { Shows (λ x. option_map (λ v. v.now) x) result (value_of kind value.now) }
+    ensures { ShowsRead (λ x. option_map (λ v. v.now) x) result (value_of kind value.now) }
 {
     match kind {
         0 => Some(Some(value)),
@@ -62,7 +62,7 @@ impl<'a> TableEntry<'a> {
     /// The version at the front of the bytes, and the bytes behind it.
     #[tactic(auto, unfolding(crate::specs::Blocks::entry_at))]
     pub(crate) fn decode(bytes: &'a [u8]) -> Option<(TableEntry<'a>, &'a [u8])>
-        ensures { Shows (λ x. (seen x.0, x.1.now)) result (entry_at bytes.now) }
+        ensures { ShowsRead (λ x. (seen x.0, x.1.now)) result (entry_at bytes.now) }
     {
         let Some((key_len, rest)) = u16_of(bytes) else {
             return None;

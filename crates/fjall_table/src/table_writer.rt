@@ -3,7 +3,7 @@
 ghost use Rattle.std.specs.Prelude.{◌≡◌, ◌⊎◌, ◌<◌, ◌++◌, ◌↔◌, [], ◌∷◌, length, IfOk, IfSome, IfNone, OnOk, OnErr, Err, IsTrue, IsOkUnless, MatchOption};
 ghost use Rattle.fjall_table.specs.Blocks.{seen, payload_of, IsOrdered, refusal};
 ghost use Rattle.fjall_table.specs.Tables.{entries_of, AreFull, IsTable};
-ghost use Rattle.fjall_table.specs.Writing.{Follows, HaveReached};
+ghost use Rattle.fjall_table.specs.Writing.{FollowsEntries, HaveReached};
 
 use crate::closed_blocks::ClosedBlocks;
 use crate::open_block::OpenBlock;
@@ -91,7 +91,7 @@ impl TableWriter {
     }
 
     fn is_followed_by(&self, version: &TableEntry<'_>) -> bool
-        ensures { IsTrue result ↔ Follows self.now (seen version.now) }
+        ensures { IsTrue result ↔ FollowsEntries self.now (seen version.now) }
     {
         match self.last_number {
             Some(number) => {
@@ -107,7 +107,7 @@ impl TableWriter {
     }
 
     fn add(&mut self, version: &TableEntry<'_>) -> Result<()>
-        requires { Follows self.old (seen version.now) }
+        requires { FollowsEntries self.old (seen version.now) }
         ensures ok { OnOk result (self.new ≡ self.old ++ seen version.now ∷ []) }
         ensures err { OnErr result (self.new ≡ self.old) }
         ensures refused { MatchOption (refusal (seen version.now)) (IsOkUnless result Error.OutOfMemory)
@@ -129,8 +129,8 @@ impl TableWriter {
         ensures ok { OnOk result (self.new ≡ self.old ++ seen version.now ∷ []) }
         ensures err { OnErr result (self.new ≡ self.old) }
         ensures fields { IfSome (refusal (seen version.now)) (λ e. result ≡ Err e) }
-        ensures order { IfNone (refusal (seen version.now)) ((Follows self.old (seen version.now) → ⊥) → result ≡ Err Error.KeyOrder) }
-        ensures only { IfNone (refusal (seen version.now)) (Follows self.old (seen version.now) → IsOkUnless result Error.OutOfMemory) }
+        ensures order { IfNone (refusal (seen version.now)) ((FollowsEntries self.old (seen version.now) → ⊥) → result ≡ Err Error.KeyOrder) }
+        ensures only { IfNone (refusal (seen version.now)) (FollowsEntries self.old (seen version.now) → IsOkUnless result Error.OutOfMemory) }
     {
         version.check()?;
         if !self.is_followed_by(version) {

@@ -9,7 +9,7 @@ use Rattle.fjall_journal.specs.declared.op.Op.TheVariants.{Put, Remove}
 use Rattle.fjall_lines.specs.declared.command.Command.{Command}
 use Rattle.fjall_lines.specs.declared.command.Command.TheVariants.{Ask}
 use Rattle.fjall_lines.specs.declared.command.Request.TheVariants.{Batch}
-use Rattle.fjall_lines.specs.Lines.{Reads, IsWrite, Write, spelling}
+use Rattle.fjall_lines.specs.Lines.{ReadsLine, IsWrite, Write, spelling}
 use Rattle.fjall_writes.specs.Ingestions.{Ascending, with_item}
 use Rattle.fjall_tool.specs.Pairs.{AddsPair, Pair, IsPair, SpellsPair, only_pair, pair_line, writes_of}
 
@@ -24,16 +24,16 @@ spelling_is : (pair : Pair) → spelling (batch_of pair) ≡ batch_line (pair_li
 spelling_is pair = ap (λ (id : List ℕ). codes "batch" ++ 32 ∷ (id ++ 32 ∷ pair_line pair)) (decimal_digit 0 (omega arith))
 
 -- whatever pair a line spells, its batch is read
-batch_read : (line : List ℕ) (found : Option Command) → Reads (batch_line line) found
+batch_read : (line : List ℕ) (found : Option Command) → ReadsLine (batch_line line) found
     → (pair : Pair) → IsPair pair → line ≡ pair_line pair → found ≡ Some (batch_of pair)
 batch_read line found r pair is same =
     r.all_found (batch_of pair) ((λ none. absurd (cc none)), All-cons IsWrite (0, pair.0, pair.1) [] (omega arith, is.0, is.1) (All-nil IsWrite)) (ap batch_line same ∙ sym (spelling_is pair))
 
-pub none_found : (line batch : List ℕ) (found : Option Command) → batch ≡ batch_line line → Reads batch found → writes_of found ≡ None → SpellsPair line None
+pub none_found : (line batch : List ℕ) (found : Option Command) → batch ≡ batch_line line → ReadsLine batch found → writes_of found ≡ None → SpellsPair line None
 none_found line batch found is r none = record {
   spelled = tt;
   all_found = λ pair are same.
-      let read = batch_read line found (subst (λ (b : List ℕ). Reads b found) is r) pair are same in
+      let read = batch_read line found (subst (λ (b : List ℕ). ReadsLine b found) is r) pair are same in
       absurd (let no : None ≡ Some ((0, pair.0, pair.1) ∷ []) = sym none ∙ ap writes_of read in cc no);
 }
 
@@ -65,7 +65,7 @@ spelled_by line (write ∷ next ∷ more) same =
       | inr other ↦ rw other tt
     ]
 
-only_found : (line : List ℕ) (found : Option Command) (writes : List Write) → Reads (batch_line line) found → found ≡ Some (Ask (Batch writes)) → SpellsPair line (only_pair writes)
+only_found : (line : List ℕ) (found : Option Command) (writes : List Write) → ReadsLine (batch_line line) found → found ≡ Some (Ask (Batch writes)) → SpellsPair line (only_pair writes)
 only_found line found writes r batch = record {
   spelled = spelled_by line writes (subst (λ (c : Option Command). IfSome c (λ command. batch_line line ≡ spelling command)) batch r.spelled);
   all_found = λ pair are same.
@@ -74,9 +74,9 @@ only_found line found writes r batch = record {
       ap only_pair all;
 }
 
-pub pair_found : {E : Type 0} (line batch : List ℕ) (found : Option Command) (writes : List Write) (r : Result (Option Pair) E) → batch ≡ batch_line line → Reads batch found → found ≡ Some (Ask (Batch writes))
+pub pair_found : {E : Type 0} (line batch : List ℕ) (found : Option Command) (writes : List Write) (r : Result (Option Pair) E) → batch ≡ batch_line line → ReadsLine batch found → found ≡ Some (Ask (Batch writes))
     → IfOk r (λ one. one ≡ only_pair writes) → IfOk r (λ one. SpellsPair line one)
-pair_found line batch found writes (Ok one) is reads all same = subst (SpellsPair line) (sym same) (only_found line found writes (subst (λ (b : List ℕ). Reads b found) is reads) all)
+pair_found line batch found writes (Ok one) is reads all same = subst (SpellsPair line) (sym same) (only_found line found writes (subst (λ (b : List ℕ). ReadsLine b found) is reads) all)
 pair_found line batch found writes (Err error) is reads all same = tt
 
 -- a bulk write that has one item more, that of the pair that was found

@@ -13,17 +13,16 @@ use Rattle.fjall_tx.specs.declared.oracle.Committed.{Committed}
 use Rattle.fjall_tx.specs.declared.outcome.CommitOutcome.{CommitOutcome}
 use Rattle.fjall_tx.specs.declared.outcome.CommitOutcome.TheVariants as outcomes
 use Rattle.fjall_tx.specs.Oracles.{commit_of, pruned}
-use Rattle.fjall_own.specs.Owns.{items_of}
+use Rattle.fjall_tx.specs.Owns.{items_of}
 use Rattle.fjall_history.specs.declared.reply.Reply.{Reply}
-use Rattle.fjall_history.specs.declared.reply.Reply.TheVariants.{Done, Refused}
+use Rattle.fjall_history.specs.declared.reply.Reply.TheVariants.{Done}
 use Rattle.fjall_history.specs.Tickets.{IsDueOrMemory}
-use Rattle.fjall_history.proofs.Tracking.{closing_due}
-use Rattle.fjall_core.specs.Shapes.{ByMode, Close, OfChange, OfTickets, Persistence, Shape}
-use Rattle.fjall_core.specs.Remembered.{Remembered}
+use Rattle.fjall_machine.specs.Shapes.{ByMode, CallShape, Close, OfChange, OfTickets, Persistence}
+use Rattle.fjall_machine.specs.Remembered.{Remembered}
 use Rattle.fjall_core.specs.Holding.{Held}
 use Rattle.fjall_core.specs.Standing.{Owes, OwesFailure, OwesRefusal, held_due, reply_of}
 use Rattle.fjall_transactions.specs.Commits.{AsksFor, Comes, Commits, Ends, Fails, Lets}
-use Rattle.fjall_transactions.specs.Transactions.{AreOf, Kept, MeetsSome, Tx, committed}
+use Rattle.fjall_transactions.specs.Transactions.{AreCommitsOf, Kept, MeetsSome, Tx, committed}
 
 -- what a look at the items found is what is due
 pub look_found : (core : Held) (items seen : List BatchItem) (mode : Option PersistMode) (found first : Option Error) → seen ≡ items → ((how : Persistence) → found ≡ held_due core (OfChange (Items seen) how))
@@ -31,11 +30,8 @@ pub look_found : (core : Held) (items seen : List BatchItem) (mode : Option Pers
 look_found core items seen mode found first same due is = ap (λ l. held_due core (OfChange (Items l) (ByMode mode))) (sym same) ∙ sym (due (ByMode mode)) ∙ is
 
 -- so what is due is told, and where nothing is, want of memory
-pub due_told : (Does : Held → Shape → Reply → Held → Type 0) (core : Held) (change : Shape) (error : Error) → held_due core change ≡ Some error → AsksFor Does core change (Err error) core
+pub due_told : (Does : Held → CallShape → Reply → Held → Type 0) (core : Held) (change : CallShape) (error : Error) → held_due core change ≡ Some error → AsksFor Does core change (Err error) core
 due_told Does core change error due = inr (subst (λ first. IsDueOrMemory first error) (sym due) refl, refl)
-
-pub memory_told : (Does : Held → Shape → Reply → Held → Type 0) (core : Held) (change : Shape) (error : Error) → held_due core change ≡ None → error ≡ OutOfMemory → AsksFor Does core change (Err error) core
-memory_told Does core change error free is = inr (subst (λ first. IsDueOrMemory first error) (sym free) is, refl)
 
 -- a transaction that stands last is taken back
 pub taken_back : (old mid new : List Committed) (next number : ℕ) (writes : Places) → number ≡ next → All (λ (c : Committed). c.number < next) old
@@ -52,9 +48,9 @@ abbrev pub outcome_of : Result Unit Error → CommitOutcome Error
 outcome_of (Ok _) = outcomes.Ok
 outcome_of (Err error) = outcomes.Aborted error
 
-pub comes_of : (Does : Held → Shape → Reply → Held → Type 0) (old new : Kept) (core left : Held) (instant : ℕ) (tx : Tx) (items : List BatchItem) (result : Result Unit Error) (outcome : CommitOutcome Error)
+pub comes_of : (Does : Held → CallShape → Reply → Held → Type 0) (old new : Kept) (core left : Held) (instant : ℕ) (tx : Tx) (items : List BatchItem) (result : Result Unit Error) (outcome : CommitOutcome Error)
     → items ≡ items_of tx.own → (tx.own ≡ empty → ⊥) → (MeetsSome instant tx.marks old.commits → ⊥) → outcome ≡ outcome_of result → AsksFor Does core (OfChange (Items items) (ByMode tx.mode)) result left
-    → (AreOf core old.commits → OnOk result (new ≡ record old { commits = committed core.memory.next tx.marks items old.commits })) → (AreOf core old.commits → OnErr result (new ≡ old)) → Comes Does old.commits core instant tx outcome new.commits left
+    → (AreCommitsOf core old.commits → OnOk result (new ≡ record old { commits = committed core.memory.next tx.marks items old.commits })) → (AreCommitsOf core old.commits → OnErr result (new ≡ old)) → Comes Does old.commits core instant tx outcome new.commits left
 comes_of Does old new core left instant tx items (Ok u) outcome is some apart told does ok err =
     Commits some apart told (λ are. ap (λ (k : Kept). k.commits) (ok are) ∙ ap (λ l. committed core.memory.next tx.marks l old.commits) is) (subst (λ l. Does core (OfChange (Items l) (ByMode tx.mode)) Done left) is does)
 comes_of Does old new core left instant tx items (Err error) outcome is some apart told does ok err =
@@ -86,27 +82,9 @@ change_tickets old new (item ∷ items) how (Ok u) owes = ap (λ (m : Remembered
 change_tickets old new items how (Err error) (inl owes) = refused_tickets old new items how error (held_due old (OfChange (Items items) how)) owes
 change_tickets old new items how (Err error) (inr (is, same)) = ap (λ (h : Held). h.memory.tickets) same
 
-never_fails : (old new : Held) (id : ℕ) (error : Error) → OwesFailure old (OfTickets (Close id)) error new → ⊥
-never_fails old new id (Io kind) (inl (changes, fault)) = changes
-never_fails old new id (Io kind) (inr (inl (reads, looks, rose))) = reads
-never_fails old new id (Io kind) (inr (inr fails)) = fails
-never_fails old new id OutOfMemory (takes, same) = takes
-never_fails old new id (Storage told) (is, inl (reads, looks)) = reads
-never_fails old new id (Storage told) (is, inr none) = none
-never_fails old new id ValueTooLong (long, same) = long
-never_fails old new id Poisoned (late, same) = late
-never_fails old new id NumbersUsedUp (used_up, same) = used_up
-never_fails old new id TooManyItems (none_left, same) = none_left
-never_fails old new id error none = none
-
--- the closing of an open ticket is refused by nothing
-pub closing_done : (old new : Held) (id instant : ℕ) (error : Error) → get old.memory.tickets.instants id ≡ Some instant → Owes old (OfTickets (Close id)) (Refused error) new → ⊥
-closing_done old new id instant error there owes =
-    never_fails old new id error (subst (λ first. OwesRefusal first old (OfTickets (Close id)) error new) (closing_due id old.memory.tickets (Some instant) there) owes)
-
 -- ---- the whole of it
 
-pub ends_of : (Does : Held → Shape → Reply → Held → Type 0) (old mid new : Kept) (core amid left : Held) (tx : Tx) (instant : ℕ) (outcome : CommitOutcome Error) (result : Result Unit Error) (u : Unit)
+pub ends_of : (Does : Held → CallShape → Reply → Held → Type 0) (old mid new : Kept) (core amid left : Held) (tx : Tx) (instant : ℕ) (outcome : CommitOutcome Error) (result : Result Unit Error) (u : Unit)
     → get core.memory.tickets.instants tx.ticket.id ≡ Some instant → Comes Does old.commits core instant tx outcome mid.commits amid → mid ≡ record old { commits = mid.commits } → result ≡ Ok u
     → Does amid (OfTickets (Close tx.ticket.id)) (reply_of result) left → OnOk result (new ≡ record mid { commits = pruned mid.commits left.memory.tickets.watermark }) → Ends Does old core tx outcome new left
 ends_of Does old mid new core amid left tx instant outcome (Ok v) u there comes same is closes ok =

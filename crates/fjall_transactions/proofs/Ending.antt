@@ -15,18 +15,18 @@ use Rattle.fjall_tx.specs.declared.outcome.CommitOutcome.{CommitOutcome}
 use Rattle.fjall_tx.specs.declared.outcome.CommitOutcome.TheVariants as outcomes
 use Rattle.fjall_tx.specs.Oracles.{Conflicts, commit_of, pruned, with_commit}
 use Rattle.fjall_tx.proofs.Commits.{pruned_twice, with_last_commit}
-use Rattle.fjall_own.specs.Owns.{items_of}
+use Rattle.fjall_tx.specs.Owns.{items_of}
 use Rattle.fjall_history.specs.declared.reply.Reply.{Reply}
 use Rattle.fjall_history.specs.declared.reply.Reply.TheVariants.{Done, Refused}
 use Rattle.fjall_history.specs.Histories.{Accepted, Commit, History, commands_of, commits, grown, number, plain}
 use Rattle.fjall_history.specs.Tickets.{IsDueOrMemory, Tickets}
 use Rattle.fjall_history.proofs.Moving.{never_lower, sound_move}
 use Rattle.fjall_history.proofs.Views.{commands_append}
-use Rattle.fjall_serial.specs.Checked.{IsChecked, MayCommit}
-use Rattle.fjall_serial.proofs.Growing.{checked_commit, still_pruned}
-use Rattle.fjall_core.specs.Shapes.{ByMode, Close, OfChange, OfTickets, Persistence, Shape}
-use Rattle.fjall_core.specs.Machine.{MayFail, Refuses, State, StepOf, accepted, due, times}
-use Rattle.fjall_core.proofs.Moving.{shape_moves}
+use Rattle.fjall_history.specs.Checked.{IsChecked, MayCommit}
+use Rattle.fjall_history.proofs.Growing.{checked_commit, still_pruned}
+use Rattle.fjall_machine.specs.Shapes.{ByMode, CallShape, Close, OfChange, OfTickets, Persistence}
+use Rattle.fjall_machine.specs.Machine.{MayFail, Refuses, State, StepOf, accepted, due, times}
+use Rattle.fjall_machine.proofs.Moving.{shape_moves}
 use Rattle.fjall_core.proofs.OwedSteps.{owes_step}
 use Rattle.fjall_core.proofs.ServedCalls.{RunsOut, either_owes, either_serves}
 use Rattle.fjall_core.specs.Holding.{Held}
@@ -188,15 +188,15 @@ closed_kept core old new t (Ok u) is none stands = subst (λ (k : Kept). StandFo
 closed_kept core old new t (Err error) none is stands = subst (λ (k : Kept). StandFor core k t) (sym is) stands
 
 -- What the core does of a call makes it a step from each state that it stood for, of which more may be known, as of the step.
-abbrev Goes : (Held → Shape → Reply → Held → Type 0) → (Held → State → Type 0) → (Held → State → Shape → Reply → Held → State → Type 0) → Type 0
-Goes Does At More = (core new : Held) (shape : Shape) (reply : Reply) → (RestsOnTables core shape reply → ⊥) → Does core shape reply new → (s : State) → StandsFor core s → At core s
+abbrev Goes : (Held → CallShape → Reply → Held → Type 0) → (Held → State → Type 0) → (Held → State → CallShape → Reply → Held → State → Type 0) → Type 0
+Goes Does At More = (core new : Held) (shape : CallShape) (reply : Reply) → (RestsOnTables core shape reply → ⊥) → Does core shape reply new → (s : State) → StandsFor core s → At core s
     → (t : State) × StandsFor new t × At new t × StepOf s shape reply t × More core s shape reply new t
 
 -- a refusal that the core wasn't asked for is one that it would have answered so
-abbrev MayRefuse : (Held → Shape → Reply → Held → Type 0) → Type 0
-MayRefuse Does = (core : Held) (shape : Shape) (error : Error) → RunsOut core shape → IsDueOrMemory (held_due core shape) error → Does core shape (Refused error) core
+abbrev MayRefuse : (Held → CallShape → Reply → Held → Type 0) → Type 0
+MayRefuse Does = (core : Held) (shape : CallShape) (error : Error) → RunsOut core shape → IsDueOrMemory (held_due core shape) error → Does core shape (Refused error) core
 
-module _ (Does : Held → Shape → Reply → Held → Type 0) (At : Held → State → Type 0) (More : Held → State → Shape → Reply → Held → State → Type 0) (goes : Goes Does At More) (may : MayRefuse Does) where
+module _ (Does : Held → CallShape → Reply → Held → Type 0) (At : Held → State → Type 0) (More : Held → State → CallShape → Reply → Held → State → Type 0) (goes : Goes Does At More) (may : MayRefuse Does) where
   -- what a commit comes to, behind which its ticket is closed
   abbrev Ended : (core left : Held) (new : Kept) (t : Told) (tx : Tx) (outcome : CommitOutcome Error) → Type 0
   Ended core left new t tx outcome = (after : Told) × StandFor left new after × At left after.state × CommitStep t tx outcome after × Through Does More core t.state tx outcome left after.state

@@ -12,9 +12,9 @@ use Rattle.fjall_journal.specs.Ops.{BatchItem, item_in, write_of}
 use Rattle.fjall_tx.specs.Marks.{Marks, with_write}
 use Rattle.fjall_tx.specs.Places.{place}
 use Rattle.fjall_tx.proofs.Growing.{writes_add_up}
-use Rattle.fjall_own.specs.Owns.{Own, item_of, items_of, key_order}
-use Rattle.fjall_own.proofs.Keys.{key_tied, key_total}
-use Rattle.fjall_serial.specs.Checked.{IsWithin}
+use Rattle.fjall_tx.specs.Owns.{Own, item_of, items_of, key_order}
+use Rattle.fjall_tx.proofs.Keys.{key_tied, key_total}
+use Rattle.fjall_history.specs.Checked.{WritesWithin}
 use Rattle.fjall_transactions.specs.Transactions.{with_items}
 
 -- what is marked stays marked as more is
@@ -45,7 +45,7 @@ mark_next items item marks i within at =
     ∙ mark_last (take i items) item marks
 
 -- the command of the items writes nothing else
-pub items_within : (items : List BatchItem) (marks : Marks) → IsWithin (write_of items) (with_items marks items).writes
+pub items_within : (items : List BatchItem) (marks : Marks) → WritesWithin (write_of items) (with_items marks items).writes
 items_within items marks = all_marked items marks
 
 -- reads stay as they are

@@ -9,16 +9,16 @@ use Rattle.fjall_base.specs.declared.error.Error.TheVariants.{SnapshotClosed}
 use Rattle.fjall_journal.specs.Changes.{Items}
 use Rattle.fjall_journal.specs.Ops.{BatchItem}
 use Rattle.fjall_journal.specs.declared.op.Op.{Op}
-use Rattle.fjall_versions.proofs.Kept.{kept_along}
+use Rattle.fjall_contents.proofs.Kept.{kept_along}
 use Rattle.fjall_tx.specs.declared.outcome.CommitOutcome.{CommitOutcome}
 use Rattle.fjall_tx.specs.declared.outcome.CommitOutcome.TheVariants as outcomes
-use Rattle.fjall_own.specs.Owns.{Own, item_of, items_of, key_order}
+use Rattle.fjall_tx.specs.Owns.{Own, item_of, items_of, key_order}
 use Rattle.fjall_history.specs.declared.reply.Reply.{Reply}
 use Rattle.fjall_history.specs.declared.reply.Reply.TheVariants.{Done, Refused}
 use Rattle.fjall_history.proofs.Tracking.{closing_due}
 use Rattle.fjall_history.proofs.Views.{fold_append}
-use Rattle.fjall_core.specs.Shapes.{ByMode, Close, OfChange, OfTickets, Shape}
-use Rattle.fjall_core.specs.Machine.{Refuses, State, due}
+use Rattle.fjall_machine.specs.Shapes.{ByMode, CallShape, Close, OfChange, OfTickets}
+use Rattle.fjall_machine.specs.Machine.{Refuses, State, due}
 use Rattle.fjall_core.specs.Holding.{Held}
 use Rattle.fjall_core.specs.Durables.{Durable, Passes}
 use Rattle.fjall_core.specs.Crashes.{CallPasses}
@@ -34,7 +34,7 @@ Tells outcome reply = ((outcome ≡ outcomes.Ok) × (reply ≡ Done)) ⊎ ((erro
 
 -- The calls of the core that a commit was, with what more is known of each: none where its ticket isn't open; the closing of its ticket;
 -- or its own writes first.
-pub data Through (Does : Held → Shape → Reply → Held → Type 0) (More : Held → State → Shape → Reply → Held → State → Type 0) (old : Held) (s : State) (tx : Tx) (outcome : CommitOutcome Error) (new : Held) (t : State) : Type 0 where
+pub data Through (Does : Held → CallShape → Reply → Held → Type 0) (More : Held → State → CallShape → Reply → Held → State → Type 0) (old : Held) (s : State) (tx : Tx) (outcome : CommitOutcome Error) (new : Held) (t : State) : Type 0 where
   IsStill : (none : get old.memory.tickets.instants tx.ticket.id ≡ None) (told : outcome ≡ outcomes.Aborted SnapshotClosed) (same : new ≡ old) (state : t ≡ s) → Through Does More old s tx outcome new t
   IsClosing : (alone : ((tx.own ≡ empty) × (outcome ≡ outcomes.Ok)) ⊎ (outcome ≡ outcomes.Conflicted)) (more : More old s (OfTickets (Close tx.ticket.id)) Done new t) → Through Does More old s tx outcome new t
   IsBoth : (mid : Held) (m : State) (reply : Reply) (told : Tells outcome reply) (more : More old s (change_of tx) reply mid m) (closes : Does mid (OfTickets (Close tx.ticket.id)) Done new)
@@ -46,7 +46,7 @@ none_behind : {X : Type 0} (xs ys : List X) → xs ++ ys ≡ [] → ys ≡ []
 none_behind [] ys e = e
 none_behind (x ∷ xs) ys e = cc
 
-passes_then : (s : State) (d m e : Durable) (shape : Shape) (reply : Reply) → CallPasses s d shape reply m → Passes m [] e → e.meaning ≡ m.meaning → CallPasses s d shape reply e
+passes_then : (s : State) (d m e : Durable) (shape : CallShape) (reply : Reply) → CallPasses s d shape reply m → Passes m [] e → e.meaning ≡ m.meaning → CallPasses s d shape reply e
 passes_then s d m e shape reply first second same =
     let here : CallPasses s d shape reply (record m { meaning = e.meaning }) = subst (λ (meaning : Meaning). CallPasses s d shape reply (record m { meaning = meaning })) (sym same) first in (
       record {
@@ -62,7 +62,7 @@ passes_then s d m e shape reply first second same =
     )
 
 -- the closing of a ticket behind another call
-leads_then : (old mid new : Held) (s m t : State) (shape : Shape) (reply : Reply) (id : ℕ) → LeadsOn old s shape reply mid m → Serves mid (OfTickets (Close id)) Done new → LeadsOn mid m (OfTickets (Close id)) Done new t
+leads_then : (old mid new : Held) (s m t : State) (shape : CallShape) (reply : Reply) (id : ℕ) → LeadsOn old s shape reply mid m → Serves mid (OfTickets (Close id)) Done new → LeadsOn mid m (OfTickets (Close id)) Done new t
     → LeadsOn old s shape reply new t
 leads_then old mid new s m t shape reply id led closes then d stood =
     let (n, on, first) = led d stood in

@@ -1,6 +1,9 @@
+mod Reading
 pub mod Items
 pub mod Standing
-pub mod Leading
+mod Leading
 pub mod Ending
-pub mod Asking
+mod Asking
 mod Writers
+mod Laying
+mod Updating

@@ -17,16 +17,16 @@ use Rattle.fjall_history.specs.Moves.{AreSound, HasGrown, Moves, NoMove, OneMove
 use Rattle.fjall_history.proofs.Moving.{history_grows, never_lower, sound_move}
 use Rattle.fjall_history.proofs.Values.{of_value}
 use Rattle.fjall_history.proofs.Views.{commands_append}
-use Rattle.fjall_serial.specs.Checked.{IsChecked}
-use Rattle.fjall_serial.proofs.Growing.{checked_many, checked_opening, commits_many, numbered}
-use Rattle.fjall_core.specs.Shapes.{Shape}
-use Rattle.fjall_core.specs.Machine.{State, StepOf, times}
-use Rattle.fjall_core.proofs.Moving.{shape_moves}
+use Rattle.fjall_history.specs.Checked.{IsChecked}
+use Rattle.fjall_history.proofs.Growing.{checked_many, checked_opening, commits_many, numbered}
+use Rattle.fjall_machine.specs.Shapes.{CallShape}
+use Rattle.fjall_machine.specs.Machine.{State, StepOf, times}
+use Rattle.fjall_machine.proofs.Moving.{shape_moves}
 use Rattle.fjall_core.specs.Holding.{Held}
 use Rattle.fjall_core.specs.Standing.{Owes, ReadsOn, RestsOnTables, Serves, ServesWhere, StandsFor}
 use Rattle.fjall_core.proofs.OwedSteps.{owes_step}
 use Rattle.fjall_transactions.specs.Standing.{GoesOn, StandFor, Told, gone_on, history_of}
-use Rattle.fjall_transactions.specs.Transactions.{AreOf, Kept}
+use Rattle.fjall_transactions.specs.Transactions.{AreCommitsOf, Kept}
 
 -- ---- what a history has more
 
@@ -66,32 +66,32 @@ moved_stands core new kept t s stands moves (more, e) is = record {
   keeps = stands.keeps ∙ ap (λ l. pruned l stands.upto) (sym (commits_many (history_of t) (commands_of more)) ∙ sym (ap commits (told_more t s more e)));
 }
 
-pub shape_stands : (core new : Held) (kept : Kept) (t : Told) (s : State) (shape : Shape) (reply : Reply) → StandFor core kept t → StepOf t.state shape reply s → StandsFor new s → StandFor new kept (gone_on t s)
+pub shape_stands : (core new : Held) (kept : Kept) (t : Told) (s : State) (shape : CallShape) (reply : Reply) → StandFor core kept t → StepOf t.state shape reply s → StandsFor new s → StandFor new kept (gone_on t s)
 shape_stands core new kept t s shape reply stands step is =
     let moves = shape_moves t.state s shape reply step in
     moved_stands core new kept t s stands moves (history_grows (times t.state) (times s) (OneMove (times t.state) (times s) (times s) moves (NoMove (times s)))) is
 
 -- and a crash leaves what it may
-pub served_goes_on : (core new : Held) (kept : Kept) (t : Told) (shape : Shape) (reply : Reply) → StandFor core kept t → ReadsOn core t.state → Serves core shape reply new → GoesOn core t shape reply new kept
+pub served_goes_on : (core new : Held) (kept : Kept) (t : Told) (shape : CallShape) (reply : Reply) → StandFor core kept t → ReadsOn core t.state → Serves core shape reply new → GoesOn core t shape reply new kept
 served_goes_on core new kept t shape reply stands reads serves =
     let (s, is, on, step, led) = serves.goes_on t.state stands.machine reads in
     (s, shape_stands core new kept t s shape reply stands step is, on, step, led)
 
-pub served_stands : (core new : Held) (kept : Kept) (t : Told) (shape : Shape) (reply : Reply) → StandFor core kept t → ReadsOn core t.state → Serves core shape reply new
+pub served_stands : (core new : Held) (kept : Kept) (t : Told) (shape : CallShape) (reply : Reply) → StandFor core kept t → ReadsOn core t.state → Serves core shape reply new
     → (s : State) × StandFor new kept (gone_on t s) × ReadsOn new s × StepOf t.state shape reply s
 served_stands core new kept t shape reply stands reads serves =
     let (s, stay, on, step, led) = served_goes_on core new kept t shape reply stands reads serves in
     (s, stay, on, step)
 
 -- over any disk, where nothing rests on what tables hold
-pub owed_stands : (core new : Held) (kept : Kept) (t : Told) (shape : Shape) (reply : Reply) → StandFor core kept t → (RestsOnTables core shape reply → ⊥) → Owes core shape reply new
+pub owed_stands : (core new : Held) (kept : Kept) (t : Told) (shape : CallShape) (reply : Reply) → StandFor core kept t → (RestsOnTables core shape reply → ⊥) → Owes core shape reply new
     → (s : State) × StandFor new kept (gone_on t s) × StepOf t.state shape reply s
 owed_stands core new kept t shape reply stands bare owes =
     let (s, is, step) = owes_step core new shape reply t.state bare owes stands.machine in
     (s, shape_stands core new kept t s shape reply stands step is, step)
 
 -- the same of a call that is served from some states, of which this is one
-pub served_stands_where : (core new : Held) (kept : Kept) (t : Told) (Meets : State → Type 0) (shape : Shape) (reply : Reply) → StandFor core kept t → ReadsOn core t.state → Meets t.state → ServesWhere Meets core shape reply new
+pub served_stands_where : (core new : Held) (kept : Kept) (t : Told) (Meets : State → Type 0) (shape : CallShape) (reply : Reply) → StandFor core kept t → ReadsOn core t.state → Meets t.state → ServesWhere Meets core shape reply new
     → (s : State) × StandFor new kept (gone_on t s) × ReadsOn new s × StepOf t.state shape reply s
 served_stands_where core new kept t Meets shape reply stands reads meets serves =
     let (s, is, on, step, led) = serves.goes_on t.state stands.machine reads meets in
@@ -112,7 +112,7 @@ any_writer core kept t writer stands = record {
 }
 
 -- so a call goes on, whoever is kept so behind it
-pub writer_goes_on : (core new : Held) (old : Kept) (t : Told) (shape : Shape) (reply : Reply) (writer : Option Ticket) → GoesOn core t shape reply new old → GoesOn core t shape reply new (record old { writer = writer })
+pub writer_goes_on : (core new : Held) (old : Kept) (t : Told) (shape : CallShape) (reply : Reply) (writer : Option Ticket) → GoesOn core t shape reply new old → GoesOn core t shape reply new (record old { writer = writer })
 writer_goes_on core new old t shape reply writer (s, stay, on, step, led) = (s, any_writer new old (gone_on t s) writer stay, on, step, led)
 
 -- ---- an opening
@@ -139,9 +139,9 @@ pub same_number : (core : Held) (kept : Kept) (t : Told) → StandFor core kept 
 same_number core kept t stands =
     ap (λ n. t.state.history.base + n) (sym (length-map t.accepted command_of) ∙ ap length stands.same ∙ length-map t.state.history.accepted command_of) ∙ stands.machine.remembered.number
 
-pub kept_of_core : (core : Held) (kept : Kept) (t : Told) → StandFor core kept t → AreOf core kept.commits
+pub kept_of_core : (core : Held) (kept : Kept) (t : Told) → StandFor core kept t → AreCommitsOf core kept.commits
 kept_of_core core kept t stands =
-    subst (λ l. AreOf core l) (sym stands.keeps)
+    subst (λ l. AreCommitsOf core l) (sym stands.keeps)
     (all_pruned (λ c. c.number < core.memory.next) (commits (history_of t)) stands.upto
     (All-weaker (λ (c : Committed). (t.state.history.base ≤ c.number) × (c.number < number (history_of t))) (λ (c : Committed). c.number < core.memory.next) (λ c within. subst (λ n. c.number < n) (same_number core kept t stands) within.1) (commits (history_of t)) (numbered (history_of t))))
 

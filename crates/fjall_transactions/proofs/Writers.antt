@@ -14,9 +14,9 @@ use Rattle.fjall_history.specs.declared.reply.Reply.TheVariants.{Done, Opened, R
 use Rattle.fjall_history.specs.declared.ticket.Ticket.{Ticket}
 use Rattle.fjall_history.proofs.Moving.{given_up, was_open_before}
 use Rattle.fjall_core.specs.Holding.{Held}
-use Rattle.fjall_core.specs.Shapes.{Close, OfTickets, Open, Shape}
-use Rattle.fjall_core.specs.Machine.{State, StepOf, times}
-use Rattle.fjall_core.proofs.Moving.{shape_moves}
+use Rattle.fjall_machine.specs.Shapes.{CallShape, Close, OfTickets, Open}
+use Rattle.fjall_machine.specs.Machine.{State, StepOf, times}
+use Rattle.fjall_machine.proofs.Moving.{shape_moves}
 use Rattle.fjall_transactions.specs.Commits.{change_of, is_writing}
 use Rattle.fjall_transactions.specs.Standing.{CommitStep, IsCommitted, IsGone, IsIdle, IsMet, IsRefused, StandFor, Told}
 use Rattle.fjall_transactions.specs.Transactions.{Kept, Tx}
@@ -37,7 +37,7 @@ writer_on old new moves writer ticket is = record {
   kept = λ there. is.kept (open_before old new moves ticket.id is.given there);
 }
 
-pub writers_on : (old new : State) (shape : Shape) (reply : Reply) (writer : Option Ticket) (began : List Ticket) → StepOf old shape reply new → AreWriters old.tickets writer began → AreWriters new.tickets writer began
+pub writers_on : (old new : State) (shape : CallShape) (reply : Reply) (writer : Option Ticket) (began : List Ticket) → StepOf old shape reply new → AreWriters old.tickets writer began → AreWriters new.tickets writer began
 writers_on old new shape reply writer began step are =
     All-weaker (λ (ticket : Ticket). IsWriter old.tickets writer ticket) (λ (ticket : Ticket). IsWriter new.tickets writer ticket) (writer_on (times old) (times new) (shape_moves old new shape reply step) writer) began are
 

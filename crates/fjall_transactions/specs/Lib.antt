@@ -1,4 +1,12 @@
+pub mod Alike
+pub mod Leaving
+pub mod Shown
+pub mod ReadsGoing
 pub mod Transactions
 pub mod Commits
 pub mod Standing
 pub mod Writers
+pub mod Laid
+pub mod Seeing
+pub mod OwnReadsGoing
+pub mod Updating

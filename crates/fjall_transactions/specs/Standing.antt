@@ -9,14 +9,14 @@ use Rattle.fjall_tx.specs.Marks.{Marks}
 use Rattle.fjall_tx.specs.Oracles.{pruned}
 use Rattle.fjall_tx.specs.declared.outcome.CommitOutcome.{CommitOutcome}
 use Rattle.fjall_tx.specs.declared.outcome.CommitOutcome.TheVariants as outcomes
-use Rattle.fjall_own.specs.Owns.{items_of}
+use Rattle.fjall_tx.specs.Owns.{items_of}
 use Rattle.fjall_history.specs.declared.reply.Reply.{Reply}
 use Rattle.fjall_history.specs.declared.reply.Reply.TheVariants.{Done, Refused}
 use Rattle.fjall_history.specs.Histories.{Accepted, History, commands_of, commits, plain}
 use Rattle.fjall_history.specs.Moves.{AreSound}
-use Rattle.fjall_serial.specs.Checked.{IsChecked}
-use Rattle.fjall_core.specs.Shapes.{Close, OfTickets, Shape}
-use Rattle.fjall_core.specs.Machine.{State, StepOf, times}
+use Rattle.fjall_history.specs.Checked.{IsChecked}
+use Rattle.fjall_machine.specs.Shapes.{CallShape, Close, OfTickets}
+use Rattle.fjall_machine.specs.Machine.{State, StepOf, times}
 use Rattle.fjall_core.specs.Holding.{Held}
 use Rattle.fjall_core.specs.Durables.{Durable}
 use Rattle.fjall_core.specs.Crashes.{CallPasses}
@@ -51,7 +51,7 @@ gone_on t s = record { state = s; accepted = t.accepted ++ map plain (commands_o
 
 -- Behind a call of the core, both stand for one next state: its disk has that state's tables, the call is a step to it, and a crash leaves
 -- what it may, whatever base and pending the core stood on.
-abbrev pub GoesOn : Held → Told → Shape → Reply → Held → Kept → Type 0
+abbrev pub GoesOn : Held → Told → CallShape → Reply → Held → Kept → Type 0
 GoesOn old t shape reply new kept = (s : State) × StandFor new kept (gone_on t s) × ReadsOn new s × StepOf t.state shape reply s × LeadsOn old t.state shape reply new s
 
 -- the command of these items, with the transaction that commits it where that marks

@@ -15,7 +15,7 @@ use Rattle.fjall_journal.specs.declared.persist_mode.PersistMode.TheVariants.{Bu
 use Rattle.fjall_tx.specs.Marks.{Mark, Marks, with_read, with_write}
 use Rattle.fjall_tx.specs.declared.oracle.Committed.{Committed}
 use Rattle.fjall_tx.specs.Oracles.{Conflicts, commit_of}
-use Rattle.fjall_own.specs.Owns.{Own, key_of, with_writes}
+use Rattle.fjall_tx.specs.Owns.{Own, key_of, with_writes}
 use Rattle.fjall_history.specs.declared.ticket.Ticket.{Ticket}
 use Rattle.fjall_core.specs.Holding.{Held}
 
@@ -85,8 +85,8 @@ pub record Kept : Type 0 where
   pub writer : Option Ticket
 
 -- These transactions committed in this core: under numbers below its next one.
-abbrev pub AreOf : Held → List Committed → Type 0
-AreOf core commits = All (λ c. c.number < core.memory.next) commits
+abbrev pub AreCommitsOf : Held → List Committed → Type 0
+AreCommitsOf core commits = All (λ c. c.number < core.memory.next) commits
 
 -- the reads of a transaction that began at this instant meet one that committed since; the single writer's meet none
 abbrev pub MeetsSome : ℕ → Option Marks → List Committed → Type 0

@@ -14,17 +14,17 @@ ghost use Rattle.fjall_history.specs.declared.reply.Reply.{Reply};
 ghost use Rattle.fjall_history.specs.declared.reply.Reply.TheVariants.{Opened};
 ghost use Rattle.fjall_history.specs.declared.ticket.Ticket.{Ticket};
 ghost use Rattle.fjall_journal.specs.Ops.{bytes_in};
-ghost use Rattle.fjall_serial.specs.Serial.{IsSerial, ReadsChangeByTransactions};
-ghost use Rattle.fjall_core.specs.Machine.{State, Step, StepOf, times};
-ghost use Rattle.fjall_core.specs.Shapes.{OfTickets, Open, Shape, shape_of};
-ghost use Rattle.fjall_core.specs.Call.{Call};
+ghost use Rattle.fjall_history.specs.Serial.{IsSerial, ReadsChangeByTransactions};
+ghost use Rattle.fjall_machine.specs.Machine.{State, Step, StepOf, times};
+ghost use Rattle.fjall_machine.specs.Shapes.{CallShape, OfTickets, Open, shape_of};
+ghost use Rattle.fjall_machine.specs.declared.call.Call.{Call};
 ghost use Rattle.fjall_tx.specs.Marks.{Mark};
 ghost use Rattle.fjall_tx.specs.Oracles.{Conflicts};
 ghost use Rattle.fjall_tx.specs.declared.outcome.CommitOutcome.{CommitOutcome as Outcome};
 ghost use Rattle.fjall_transactions.specs.Commits.{Ends, is_writing};
 ghost use Rattle.fjall_transactions.specs.Standing.{CommitGoesOn, CommitStep, GoesOn, StandFor, Told, gone_on, history_of};
 ghost use Rattle.fjall_transactions.specs.Writers.{AreWriters};
-ghost use Rattle.fjall_transactions.specs.Transactions.{AreOf, Kept, Tx, having_touched, op_of, replace_refusal, replacing, with_own};
+ghost use Rattle.fjall_transactions.specs.Transactions.{AreCommitsOf, Kept, Tx, having_touched, op_of, replace_refusal, replacing, with_own};
 
 /// What a key becomes is written exactly where it differs from what the key has had, and is refused there alone.
 pub fn what_stays_is_not_written()
@@ -53,7 +53,7 @@ pub fn a_call_of_the_core_stands()
 
 /// Those that are kept committed in this core.
 pub fn the_kept_are_the_cores()
-    ensures { (core : Held) (kept : Kept) (t : Told) → StandFor core kept t → AreOf core kept.commits }
+    ensures { (core : Held) (kept : Kept) (t : Told) → StandFor core kept t → AreCommitsOf core kept.commits }
 {}
 
 /// For an instant at which an open ticket reads, those that are kept tell of a conflict exactly what all do that ever committed.
@@ -75,7 +75,7 @@ pub fn a_commit_stands()
 /// that is kept: so it is where none began, and so each call leaves it, and one that begins while none is open.
 pub fn one_single_writer_is_open()
     ensures none_began { (tickets : Tickets) (writer : Option Ticket) → AreWriters tickets writer [] }
-    ensures calls { (old new : State) (shape : Shape) (reply : Reply) (writer : Option Ticket) (began : List Ticket) → StepOf old shape reply new
+    ensures calls { (old new : State) (shape : CallShape) (reply : Reply) (writer : Option Ticket) (began : List Ticket) → StepOf old shape reply new
         → AreWriters old.tickets writer began → AreWriters new.tickets writer began }
     ensures commits { (old new : Told) (tx : Tx) (outcome : Outcome Error) (writer : Option Ticket) (began : List Ticket) → CommitStep old tx outcome new
         → AreWriters old.state.tickets writer began → AreWriters new.state.tickets writer began }

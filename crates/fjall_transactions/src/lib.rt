@@ -1,17 +1,25 @@
-//! Transactions over a core: own writes that nobody else sees until they commit, the single writer, and optimistic ones that
-//! conflict exactly where marks meet.
+//! Readers of a core and transactions over it: the single writer's and optimistic ones, each read within its own view with its own
+//! writes applied, where each read marks what its answer rests on.
 #![tactic(auto)]
 
+mod laid;
 mod laws;
+mod reader;
+mod reader_laws;
 mod transaction;
+mod transaction_reader;
 mod transactions;
+mod updates;
 
-pub use fjall_own::OwnWrites;
-pub use fjall_tx::{CommitOutcome, Conflict};
+pub use fjall_tx::{CommitOutcome, Conflict, OwnWrites};
 pub use laws::{
     a_call_of_the_core_stands, a_commit_stands, an_opening_stands, conflicts_are_exact,
     one_single_writer_is_open, the_kept_are_the_cores, transactions_are_serial,
     what_stays_is_not_written,
 };
+pub use reader::Reader;
+pub use reader_laws::readers_show_the_state;
 pub use transaction::Transaction;
+pub use transaction_reader::TransactionReader;
 pub use transactions::Transactions;
+pub use updates::Made;

@@ -10,8 +10,7 @@ ghost use Rattle.fjall_transactions.specs.Transactions.{HasNoReads, Tx, having_r
 
 use fjall_base::{KeyBounds, Result, UserKey, UserValue};
 use fjall_core::{BatchItem, Op, PersistMode, Ticket};
-use fjall_own::OwnWrites;
-use fjall_tx::ConflictManager;
+use fjall_tx::{ConflictManager, OwnWrites};
 use std::marker::Model;
 
 /// A transaction that is open: it reads at the instant at which it began, with its own writes, which nobody else sees until it
@@ -27,7 +26,7 @@ pub struct Transaction {
 impl Model for Transaction {
     ghost use Rattle.std.specs.Coded.{codes};
     ghost use Rattle.fjall_tx.specs.Places.{places_code};
-    ghost use Rattle.fjall_own.specs.Owns.{own_code};
+    ghost use Rattle.fjall_tx.specs.Owns.{own_code};
     ghost use Rattle.fjall_transactions.specs.Transactions.{Tx};
 
     ghost Value = { Tx };

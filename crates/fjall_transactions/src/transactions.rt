@@ -5,19 +5,18 @@ ghost use Rattle.std.specs.FinMap.{empty};
 ghost use Rattle.fjall_base.specs.declared.error.Error.TheVariants.{OutOfMemory, TransactionOpen};
 ghost use Rattle.fjall_journal.specs.Changes.{Items};
 ghost use Rattle.fjall_history.specs.declared.ticket.Ticket.{Ticket as Named};
-ghost use Rattle.fjall_core.specs.Shapes.{ByMode, Close, OfChange, OfTickets, Open};
+ghost use Rattle.fjall_machine.specs.Shapes.{ByMode, Close, OfChange, OfTickets, Open};
 ghost use Rattle.fjall_core.specs.Standing.{Owes, ReadsOn, Serves, held_due, reply_of};
 ghost use Rattle.fjall_tx.specs.Oracles.{pruned};
-ghost use Rattle.fjall_transactions.specs.Transactions.{AreOf, MeetsSome, begun, committed, no_marks, with_items};
-ghost use Rattle.fjall_core.specs.Machine.{State, StepOf};
+ghost use Rattle.fjall_transactions.specs.Transactions.{AreCommitsOf, MeetsSome, begun, committed, no_marks, with_items};
+ghost use Rattle.fjall_machine.specs.Machine.{State, StepOf};
 ghost use Rattle.fjall_transactions.specs.Standing.{CommitGoesOn, CommitStep, GoesOn, StandFor, Told, gone_on};
 ghost use Rattle.fjall_transactions.specs.Commits.{AsksFor, Comes, Ends, begun_reply, is_writing};
 
 use crate::transaction::Transaction;
 use fjall_base::{Disk, Error, Refused, Result};
 use fjall_core::{BatchItem, Core, PersistMode, Ticket};
-use fjall_own::OwnWrites;
-use fjall_tx::{CommitOutcome, ConflictManager, Oracle};
+use fjall_tx::{CommitOutcome, ConflictManager, Oracle, OwnWrites};
 use std::alloc::Global;
 use std::marker::Model;
 
@@ -164,8 +163,8 @@ impl Transactions {
         requires free { held_due core.old (OfChange (Items items.items) (ByMode mode)) ≡ None }
         ensures serves { IsTrue D.honest → AsksFor Serves core.old (OfChange (Items items.items) (ByMode mode)) result core.new }
         ensures owes { AsksFor Owes core.old (OfChange (Items items.items) (ByMode mode)) result core.new }
-        ensures ok { AreOf core.old self.old.commits → OnOk result (self.new ≡ record self.old { commits = committed core.old.memory.next (Some marks) items.items self.old.commits }) }
-        ensures err { AreOf core.old self.old.commits → OnErr result (self.new ≡ self.old) }
+        ensures ok { AreCommitsOf core.old self.old.commits → OnOk result (self.new ≡ record self.old { commits = committed core.old.memory.next (Some marks) items.items self.old.commits }) }
+        ensures err { AreCommitsOf core.old self.old.commits → OnErr result (self.new ≡ self.old) }
         ensures writer { self.new ≡ record self.old { commits = self.new.commits } }
     {
         let marks = mark_items(marks, &items)?;
@@ -191,8 +190,8 @@ impl Transactions {
         requires some { (length items.items == 0) ≡ false }
         ensures serves { IsTrue D.honest → AsksFor Serves core.old (OfChange (Items items.items) (ByMode mode)) result core.new }
         ensures owes { AsksFor Owes core.old (OfChange (Items items.items) (ByMode mode)) result core.new }
-        ensures ok { AreOf core.old self.old.commits → OnOk result (self.new ≡ record self.old { commits = committed core.old.memory.next marks items.items self.old.commits }) }
-        ensures err { AreOf core.old self.old.commits → OnErr result (self.new ≡ self.old) }
+        ensures ok { AreCommitsOf core.old self.old.commits → OnOk result (self.new ≡ record self.old { commits = committed core.old.memory.next marks items.items self.old.commits }) }
+        ensures err { AreCommitsOf core.old self.old.commits → OnErr result (self.new ≡ self.old) }
         ensures writer { self.new ≡ record self.old { commits = self.new.commits } }
     {
         if let Some(error) = core.batch_refusal(&items) {

@@ -1,1 +1,7 @@
-pub mod Records
+pub mod Trees
+pub mod Out
+pub mod Shapes
+pub mod Ingestions
+pub mod Jobs
+pub mod Pages
+pub mod Puts

@@ -1,16 +1,20 @@
-//! Records of a keyspace's `current`, as bytes and back: which tables the keyspace has, and up to where they hold its changes.
+//! The tree of one keyspace: tables on a disk, and the parts in memory that are newer than all of them.
 #![tactic(auto)]
 
-mod consistency;
-mod current;
-mod decoding;
-mod encoding;
+mod counts;
+mod ingestion;
+mod input;
+mod jobs;
 mod laws;
-mod record;
+mod memory;
+mod out;
+mod pages;
+mod search;
+mod tree;
 
-pub use current::{Current, read_current};
 pub use laws::{
-    cut_reads, no_records_with_a_contradiction, one_list_of_records, records_grow,
-    texts_are_records,
+    a_flushed_tree_keeps_views, a_merge_reads_what_is_sorted, a_merged_tree_keeps_views,
+    a_rotated_tree_holds_the_same, a_written_tree_has_one_version_more,
+    an_emptied_tree_has_one_clear_more, jobs_stay_out,
 };
-pub use record::Record;
+pub use tree::Tree;

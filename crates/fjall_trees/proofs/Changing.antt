@@ -5,11 +5,11 @@ use Rattle.std.proofs.lemmas.List.Elements.{All-head, All-map, All-tail, All-wea
 use Rattle.fjall_base.proofs.Codecs.{some_is}
 use Rattle.fjall_journal.specs.Ops.{BatchItem}
 use Rattle.fjall_table.specs.Blocks.{Entry}
-use Rattle.fjall_lsm.specs.Puts.{has_stamp, put, put_all}
-use Rattle.fjall_lsm.specs.Trees.{Shape, written}
+use Rattle.fjall_tree.specs.Puts.{has_stamp, put, put_all}
+use Rattle.fjall_tree.specs.Trees.{Shape, written}
 use Rattle.fjall_trees.specs.Forests.{Forest, IsForest, Planted, altered_at, tree_at}
 use Rattle.fjall_trees.specs.Tables.{entries_with}
-use Rattle.fjall_trees.specs.Writes.{entries_of, pushed}
+use Rattle.fjall_trees.specs.Writes.{pushed, versions_of_items}
 use Rattle.fjall_trees.proofs.Places.{each_by}
 use Rattle.fjall_trees.proofs.Same.{only_tree}
 
@@ -51,7 +51,7 @@ module _ (R : Shape → List (List Entry) → Type 0) (trees : Forest) (entries 
   pub pushed_keeps : ((v : Entry) (shape : Shape) (es : List (List Entry)) → R shape es → R (written v shape) es) → (n : ℕ) (items : List BatchItem) → All (λ k. R k.shape (entries k.id)) (pushed n items trees)
   unfolding pushed
   pushed_keeps keeps n items =
-      each_keeps (λ id. put_all (entries_of id n items)) (λ id shape es here. put_all_keeps (λ s. R s es) (λ v s is. keeps v s es is) (entries_of id n items) shape here)
+      each_keeps (λ id. put_all (versions_of_items id n items)) (λ id shape es here. put_all_keeps (λ s. R s es) (λ v s is. keeps v s es is) (versions_of_items id n items) shape here)
 
   pub one_keeps : (change : Shape → Shape) → ((shape : Shape) (es : List (List Entry)) → R shape es → R (change shape) es) → (id : ℕ) → All (λ k. R k.shape (entries k.id)) (altered_at id change trees)
   one_keeps change keeps id = each_keeps (λ k shape. cond (k == id) (change shape) shape) (λ k. by (k == id))

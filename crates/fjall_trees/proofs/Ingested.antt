@@ -2,14 +2,14 @@
 use Rattle.std.proofs.Common.{◌≡◌, ℕ, ◌≤◌, ◌^◌, List, ◌++◌, All, Some}
 use Rattle.fjall_base.specs.Disk.{Meaning}
 use Rattle.fjall_table.specs.Blocks.{Entry}
-use Rattle.fjall_blocks.specs.Readers.{AreRead, Reader}
+use Rattle.fjall_table_reader.specs.Readers.{AreRead, Reader}
 use Rattle.fjall_views.specs.Jobs.{OnceEach}
-use Rattle.fjall_sorted.specs.Sorted.{flat}
-use Rattle.fjall_lsm.specs.MadeTable.{MadeTable}
-use Rattle.fjall_lsm.specs.Tasks.{IsFlushed}
-use Rattle.fjall_lsm.specs.Ingestions.{ingested, memory_task}
-use Rattle.fjall_lsm.specs.Trees.{ReadsAll, Shape}
-use Rattle.fjall_lsm.proofs.Ingested.{ingested_read}
+use Rattle.fjall_memtable.specs.Sorted.{flat}
+use Rattle.fjall_jobs.specs.declared.made_table.MadeTable.{MadeTable}
+use Rattle.fjall_jobs.specs.Tasks.{IsFlushed}
+use Rattle.fjall_tree.specs.Ingestions.{ingested, memory_task}
+use Rattle.fjall_tree.specs.Trees.{ReadsAll, Shape}
+use Rattle.fjall_tree.proofs.Ingested.{ingested_read}
 use Rattle.fjall_trees.specs.Forests.{Forest, IsForest, IsTree, altered_at, tree_at}
 use Rattle.fjall_trees.specs.Tables.{AreReadOn, entries_with}
 use Rattle.fjall_trees.proofs.Changing.{altered_keeps, tree_under}

@@ -1,19 +1,31 @@
 pub mod Changing
-pub mod Counting
-pub mod Ingested
-pub mod Marking
+mod Counting
+mod Ingested
+mod Marking
 pub mod Others
 pub mod Outstanding
 pub mod Places
 pub mod Pushing
 pub mod Reading
-pub mod Rooms
+mod Rooms
 pub mod Same
-pub mod Sealed
-pub mod Searches
--- lemmas of crates below, passed on to those above
-pub use Rattle.fjall_lsm.proofs.Changes
-pub use Rattle.fjall_lsm.proofs.Flushed
-pub use Rattle.fjall_lsm.proofs.Ingested as LsmIngested
-pub use Rattle.fjall_lsm.proofs.Outstanding as LsmOutstanding
-pub use Rattle.fjall_lsm.proofs.Merged
+mod Sealed
+mod Searches
+mod Above
+pub mod Alike
+pub mod Bare
+pub mod Changed
+pub mod Commands
+pub mod Dropped
+pub mod Emptied
+pub mod Finished
+pub mod IngestedMaps
+mod Items
+pub mod Older
+mod Parts
+pub mod Planted
+pub mod Pushed
+pub mod Puts
+pub mod MapReading
+pub mod Rotated
+pub mod Stores

@@ -2,10 +2,10 @@
 use Rattle.std.proofs.Common.{◌≡◌, ℕ, zero, suc, ◌<◌, List, [], ◌∷◌, ◌++◌, drop, length, set, slice_get, Some, refl, sym, ap, subst, ◌∙◌, arith}
 use Rattle.std.proofs.lemmas.List.{length-set}
 use Rattle.fjall_base.proofs.Codecs.{some_is}
-use Rattle.fjall_parts.specs.declared.mark.Mark.{Mark}
-use Rattle.fjall_lsm.specs.declared.tree.Tree.{Tree}
-use Rattle.fjall_lsm.specs.Shapes.{IsMark, KeepsMarks, shape_at, shape_of}
-use Rattle.fjall_lsm.specs.Trees.{Shape}
+use Rattle.fjall_memtable.specs.declared.mark.Mark.{Mark}
+use Rattle.fjall_tree.specs.declared.tree.Tree.{Tree}
+use Rattle.fjall_tree.specs.Shapes.{IsMark, KeepsMarks, shape_at, shape_of}
+use Rattle.fjall_tree.specs.Trees.{Shape}
 use Rattle.fjall_trees.specs.declared.trees.KeyspaceTree.{KeyspaceTree}
 use Rattle.fjall_trees.specs.Forests.{Forest, Planted}
 use Rattle.fjall_trees.specs.Lists.{AreMarks, forest_at, forest_from, forest_in, planted}

@@ -2,7 +2,7 @@
 use Rattle.std.proofs.Common.{◌≡◌, ◌≢◌, ℕ, ◌==◌, Bool, true, false, cond, not, [], ◌∷◌, Option, Some, None, refl, sym, ap, ◌∙◌}
 use Rattle.std.specs.Option.{option_map}
 use Rattle.std.proofs.lemmas.Bool.{cond-false, cond-true, eq-eqb, eqb-true, false_from_ne_true}
-use Rattle.fjall_lsm.specs.Trees.{Shape}
+use Rattle.fjall_tree.specs.Trees.{Shape}
 use Rattle.fjall_trees.specs.Forests.{Forest, altered_at, tree_at, without}
 use Rattle.fjall_trees.proofs.Places.{tree_each}
 

@@ -2,23 +2,23 @@
 use Rattle.std.proofs.Common.{◌≡◌, ◌≢◌, ℕ, ◌≤◌, ◌^◌, ◌==◌, Bool, true, false, cond, List, [], ◌∷◌, ◌++◌, take, length, unwrap_or, Option, Some, None, refl, sym, ap, subst, ◌∙◌, All, arith}
 use Rattle.std.specs.Option.{option_map}
 use Rattle.fjall_journal.specs.Ops.{BatchItem}
-use Rattle.fjall_sorted.specs.Sorted.{flat}
+use Rattle.fjall_memtable.specs.Sorted.{flat}
 use Rattle.fjall_table.specs.Blocks.{Entry}
-use Rattle.fjall_blocks.specs.Readers.{Reader}
-use Rattle.fjall_lsm.specs.MadeTable.{MadeTable}
-use Rattle.fjall_lsm.specs.Tasks.{IsFlushed, Task}
-use Rattle.fjall_parts.specs.Parts.{Memory}
-use Rattle.fjall_lsm.specs.Ingestions.{ingested, memory_task}
-use Rattle.fjall_lsm.specs.Jobs.{IsFlushing, IsMerging, flush_begun, flush_dropped, flush_finished, merge_begun, merge_dropped, merge_finished}
-use Rattle.fjall_lsm.specs.Puts.{bare_tree, put_all}
-use Rattle.fjall_lsm.specs.Trees.{Flushing, IsSameShape, Merging, Shape, emptied, floor_of, sealed_off}
-use Rattle.fjall_lsm.proofs.Flushed.{flushed_merging}
-use Rattle.fjall_lsm.proofs.Ingested.{merge_ingested}
-use Rattle.fjall_lsm.proofs.Merged.{merged_flushing}
-use Rattle.fjall_lsm.proofs.Staying.{flush_emptied, flush_rotated, flush_written, merge_emptied, merge_rotated, merge_written}
+use Rattle.fjall_table_reader.specs.Readers.{Reader}
+use Rattle.fjall_jobs.specs.declared.made_table.MadeTable.{MadeTable}
+use Rattle.fjall_jobs.specs.Tasks.{IsFlushed, Task}
+use Rattle.fjall_memtable.specs.Parts.{Memory}
+use Rattle.fjall_tree.specs.Ingestions.{ingested, memory_task}
+use Rattle.fjall_tree.specs.Jobs.{IsFlushing, IsMerging, flush_begun, flush_dropped, flush_finished, merge_begun, merge_dropped, merge_finished}
+use Rattle.fjall_tree.specs.Puts.{bare_tree, put_all}
+use Rattle.fjall_tree.specs.Trees.{Flushing, IsSameShape, Merging, Shape, emptied, floor_of, sealed_off}
+use Rattle.fjall_tree.proofs.Flushed.{flushed_merging}
+use Rattle.fjall_tree.proofs.Ingested.{merge_ingested}
+use Rattle.fjall_tree.proofs.Merged.{merged_flushing}
+use Rattle.fjall_tree.proofs.Staying.{flush_emptied, flush_rotated, flush_written, merge_emptied, merge_rotated, merge_written}
 use Rattle.fjall_trees.specs.Forests.{Forest, IsForest, IsTree, altered_at, tree_at, without}
 use Rattle.fjall_trees.specs.Tables.{AreSameTrees, shape_in}
-use Rattle.fjall_trees.specs.Writes.{entries_of, pushed, with_tree}
+use Rattle.fjall_trees.specs.Writes.{pushed, versions_of_items, with_tree}
 use Rattle.fjall_trees.proofs.Changing.{put_all_keeps}
 use Rattle.fjall_trees.proofs.Others.{altered_here, altered_other, kept_others}
 use Rattle.fjall_trees.proofs.Places.{each_by, tree_each, tree_has}
@@ -68,10 +68,10 @@ in_altered P change id other trees keeps is = in_each P (λ k shape. cond (k == 
     by true shape here = keeps shape here
     by false shape here = here
 
-in_pushed : (P : Shape → Type 0) (n : ℕ) (items : List BatchItem) (id : ℕ) (trees : Forest) → ((shape : Shape) → P shape → P (put_all (entries_of id n items) shape)) → P (shape_in id trees)
+in_pushed : (P : Shape → Type 0) (n : ℕ) (items : List BatchItem) (id : ℕ) (trees : Forest) → ((shape : Shape) → P shape → P (put_all (versions_of_items id n items) shape)) → P (shape_in id trees)
     → P (shape_in id (pushed n items trees))
 unfolding pushed
-in_pushed P n items id trees keeps is = in_each P (λ k. put_all (entries_of k n items)) id trees keeps is
+in_pushed P n items id trees keeps is = in_each P (λ k. put_all (versions_of_items k n items)) id trees keeps is
 
 pub other_shape : (id other : ℕ) (change : Shape → Shape) (trees : Forest) → other ≢ id → shape_in other (altered_at id change trees) ≡ shape_in other trees
 other_shape id other change trees differ = ap (λ o. unwrap_or o (bare_tree 0)) (altered_other id other change trees differ)
@@ -83,7 +83,7 @@ shape_left id other trees differ = ap (λ o. unwrap_or o (bare_tree 0)) (kept_ot
 
 pub flushing_pushed : (id : ℕ) (trees : Forest) (task : Task) → IsFlushing (shape_in id trees) task → (n : ℕ) (items : List BatchItem) → IsFlushing (shape_in id (pushed n items trees)) task
 flushing_pushed id trees task is n items =
-    in_pushed (λ s. IsFlushing s task) n items id trees (λ shape here. put_all_keeps (λ s. IsFlushing s task) (λ v s is. flush_written s v task is) (entries_of id n items) shape here) is
+    in_pushed (λ s. IsFlushing s task) n items id trees (λ shape here. put_all_keeps (λ s. IsFlushing s task) (λ v s is. flush_written s v task is) (versions_of_items id n items) shape here) is
 
 pub flushing_emptied : (id : ℕ) (trees : Forest) (task : Task) → IsFlushing (shape_in id trees) task → (other n : ℕ) → IsFlushing (shape_in id (altered_at other (emptied n) trees)) task
 flushing_emptied id trees task is other n = in_altered (λ s. IsFlushing s task) (emptied n) id other trees (λ shape. flush_emptied shape n task) is
@@ -120,7 +120,7 @@ pub merging_pushed : (id : ℕ) (trees : Forest) (entries : List (List Entry)) (
     → IsMerging (shape_in id (pushed n items trees)) entries task
 merging_pushed id trees entries task is n items =
     in_pushed (λ s. IsMerging s entries task) n items id trees
-    (λ shape here. put_all_keeps (λ s. IsMerging s entries task) (λ v s is. merge_written s entries v task is) (entries_of id n items) shape here) is
+    (λ shape here. put_all_keeps (λ s. IsMerging s entries task) (λ v s is. merge_written s entries v task is) (versions_of_items id n items) shape here) is
 
 pub merging_emptied : (id : ℕ) (trees : Forest) (entries : List (List Entry)) (task : Task) → IsMerging (shape_in id trees) entries task → (other n : ℕ)
     → IsMerging (shape_in id (altered_at other (emptied n) trees)) entries task

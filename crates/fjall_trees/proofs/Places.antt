@@ -1,6 +1,5 @@
 -- Trees at their places, and one of them changed.
-use Rattle.std.proofs.Common.{◌≡◌, ℕ, zero, suc, ◌<◌, ◌==◌, Bool, true, false, cond, List, [], ◌∷◌, ◌++◌, length, map, filter, not, set, get_or, slice_get, All, AllPairs}
-use Rattle.std.proofs.Common.{Option, Some, None, OnOk, OnErr, Result, Ok, Err, refl, sym, ap, subst, ◌∙◌, arith}
+use Rattle.std.proofs.Common.{◌≡◌, ℕ, zero, suc, ◌<◌, ◌==◌, Bool, true, false, cond, List, [], ◌∷◌, ◌++◌, length, map, filter, not, set, get_or, slice_get, All, AllPairs, Option, Some, None, OnOk, OnErr, Result, Ok, Err, refl, sym, ap, subst, ◌∙◌, arith}
 use Rattle.std.specs.Option.{IsSomeAnd, option_map}
 use Rattle.std.proofs.lemmas.Bool.{cond-false, cond-true, eq-eqb, eqb-true, false_from_ne_true}
 use Rattle.std.proofs.lemmas.List.{map-set}
@@ -9,13 +8,13 @@ use Rattle.std.proofs.lemmas.List.Kept.{AllPairs-cons}
 use Rattle.std.proofs.lemmas.Option.{get_or_from_slice_get, slice_get-map, slice_get_within}
 use Rattle.std.proofs.Math.Seq.{map-set_same}
 use Rattle.fjall_base.proofs.Codecs.{some_is}
-use Rattle.fjall_parts.specs.Held.{held_of}
-use Rattle.fjall_parts.specs.Parts.{Ascends, IsHeld}
-use Rattle.fjall_parts.specs.Shares.{shared}
-use Rattle.fjall_parts.proofs.Apart.{all_held}
-use Rattle.fjall_lsm.specs.declared.tree.Tree.{Tree}
-use Rattle.fjall_lsm.specs.Shapes.{shape_of}
-use Rattle.fjall_lsm.specs.Trees.{Shape}
+use Rattle.fjall_memtable.specs.Held.{held_of}
+use Rattle.fjall_memtable.specs.Parts.{Ascends, IsHeld}
+use Rattle.fjall_memtable.specs.Shares.{shared}
+use Rattle.fjall_memtable.proofs.Apart.{all_held}
+use Rattle.fjall_tree.specs.declared.tree.Tree.{Tree}
+use Rattle.fjall_tree.specs.Shapes.{shape_of}
+use Rattle.fjall_tree.specs.Trees.{Shape}
 use Rattle.fjall_trees.specs.declared.trees.KeyspaceTree.{KeyspaceTree}
 use Rattle.fjall_trees.specs.Forests.{Forest, IsForest, IsTree, Planted, altered_at, tree_at, without}
 use Rattle.fjall_trees.specs.declared.trees.Trees.{Trees}

@@ -10,12 +10,12 @@ use Rattle.fjall_journal.specs.Ops.{BatchItem, bytes_in, items_refusal, some_key
 use Rattle.fjall_journal.specs.declared.op.Op.{Op}
 use Rattle.fjall_journal.specs.declared.op.Op.TheVariants.{Put, Remove, RemoveWeak}
 use Rattle.fjall_table.specs.Blocks.{Entry, value_bytes}
-use Rattle.fjall_parts.specs.Parts.{IsHeld}
-use Rattle.fjall_parts.proofs.Apart.{held_behind}
-use Rattle.fjall_lsm.specs.Puts.{has_stamp, put, put_all}
-use Rattle.fjall_lsm.specs.Trees.{Shape, written}
+use Rattle.fjall_memtable.specs.Parts.{IsHeld}
+use Rattle.fjall_memtable.proofs.Apart.{held_behind}
+use Rattle.fjall_tree.specs.Puts.{has_stamp, put, put_all}
+use Rattle.fjall_tree.specs.Trees.{Shape, written}
 use Rattle.fjall_trees.specs.Forests.{AreBefore, Forest, IsForest, Planted, altered_at}
-use Rattle.fjall_trees.specs.Writes.{entries_of, entry_of, pushed}
+use Rattle.fjall_trees.specs.Writes.{pushed, version_of_item, versions_of_items}
 
 -- ---- one item more
 
@@ -31,24 +31,24 @@ turned a b = elim (cases_Bool (a == b)) [
 ]
 
 one_more : (number : ℕ) (item : BatchItem) (kept : List BatchItem) (shape : Shape) (b : Bool)
-    → put_all (map (entry_of number) (cond b (item ∷ kept) kept)) shape ≡ cond b (put (entry_of number item) (put_all (map (entry_of number) kept) shape)) (put_all (map (entry_of number) kept) shape)
+    → put_all (map (version_of_item number) (cond b (item ∷ kept) kept)) shape ≡ cond b (put (version_of_item number item) (put_all (map (version_of_item number) kept) shape)) (put_all (map (version_of_item number) kept) shape)
 one_more number item kept shape true = refl
 one_more number item kept shape false = refl
 
 item_more : (number : ℕ) (item : BatchItem) (items : List BatchItem) (k : Planted)
-    → put_all (entries_of k.id number (item ∷ items)) k.shape ≡ cond (k.id == item.0) (put (entry_of number item) (put_all (entries_of k.id number items) k.shape)) (put_all (entries_of k.id number items) k.shape)
+    → put_all (versions_of_items k.id number (item ∷ items)) k.shape ≡ cond (k.id == item.0) (put (version_of_item number item) (put_all (versions_of_items k.id number items) k.shape)) (put_all (versions_of_items k.id number items) k.shape)
 item_more number item items k =
     one_more number item (filter (λ i. i.0 == k.id) items) k.shape (item.0 == k.id)
-    ∙ ap (λ (b : Bool). cond b (put (entry_of number item) (put_all (entries_of k.id number items) k.shape)) (put_all (entries_of k.id number items) k.shape)) (turned item.0 k.id)
+    ∙ ap (λ (b : Bool). cond b (put (version_of_item number item) (put_all (versions_of_items k.id number items) k.shape)) (put_all (versions_of_items k.id number items) k.shape)) (turned item.0 k.id)
 
 pub pushed_more : (number : ℕ) (item : BatchItem) (items : List BatchItem) (trees : Forest)
-    → pushed number (item ∷ items) trees ≡ altered_at item.0 (put (entry_of number item)) (pushed number items trees)
+    → pushed number (item ∷ items) trees ≡ altered_at item.0 (put (version_of_item number item)) (pushed number items trees)
 unfolding pushed
 pushed_more number item items [] = refl
 pushed_more number item items (k ∷ trees) = λ i. (let p : Planted = record { id = k.id; shape = item_more number item items k i } in p) ∷ pushed_more number item items trees i
 
-pub pushed_one : (number : ℕ) (item : BatchItem) (trees : Forest) → pushed number (item ∷ []) trees ≡ altered_at item.0 (put (entry_of number item)) trees
-pushed_one number item trees = pushed_more number item [] trees ∙ ap (altered_at item.0 (put (entry_of number item))) (pushed_none number trees)
+pub pushed_one : (number : ℕ) (item : BatchItem) (trees : Forest) → pushed number (item ∷ []) trees ≡ altered_at item.0 (put (version_of_item number item)) trees
+pushed_one number item trees = pushed_more number item [] trees ∙ ap (altered_at item.0 (put (version_of_item number item))) (pushed_none number trees)
 
 -- ---- where numbers begin
 
@@ -76,9 +76,9 @@ pub pushed_begun : (number bound : ℕ) (items : List BatchItem) (trees : Forest
 unfolding pushed
 pushed_begun number bound items [] all = All-nil (λ (k : Planted). k.shape.memory.active.from ≤ bound)
 pushed_begun number bound items (k ∷ trees) all =
-    let same = put_all_from (entries_of k.id number items) k.shape in
+    let same = put_all_from (versions_of_items k.id number items) k.shape in
     let here = All-head (λ (k : Planted). k.shape.memory.active.from ≤ bound) k trees all in
-    All-cons (λ (k : Planted). k.shape.memory.active.from ≤ bound) (record { id = k.id; shape = put_all (entries_of k.id number items) k.shape }) (pushed number items trees)
+    All-cons (λ (k : Planted). k.shape.memory.active.from ≤ bound) (record { id = k.id; shape = put_all (versions_of_items k.id number items) k.shape }) (pushed number items trees)
     (subst (λ (n : ℕ). n ≤ bound) (sym same) here) (pushed_begun number bound items trees (All-tail (λ (k : Planted). k.shape.memory.active.from ≤ bound) k trees all))
 
 -- ---- items that a batch may have
@@ -140,11 +140,11 @@ pub pushing_item : (number : ℕ) (items rest before : List BatchItem) (item : B
 pushing_item number items rest before item old now p is = (p.done, p.all ∙ ap (λ (xs : List BatchItem). xs ++ p.done) is ∙ append_assoc before (item ∷ []) p.done)
 
 pub pushing_more : (number : ℕ) (items rest before : List BatchItem) (item : BatchItem) (old now new : Forest) → Pushing number items rest old now → rest ≡ before ++ item ∷ []
-    → new ≡ altered_at item.0 (put (entry_of number item)) now → Pushing number items before old new
+    → new ≡ altered_at item.0 (put (version_of_item number item)) now → Pushing number items before old new
 pushing_more number items rest before item old now new p is made = record {
   done = item ∷ p.done;
   all = p.all ∙ ap (λ (xs : List BatchItem). xs ++ p.done) is ∙ append_assoc before (item ∷ []) p.done;
-  made = made ∙ ap (altered_at item.0 (put (entry_of number item))) p.made ∙ sym (pushed_more number item p.done old);
+  made = made ∙ ap (altered_at item.0 (put (version_of_item number item))) p.made ∙ sym (pushed_more number item p.done old);
 }
 
 pub pushing_all : (number : ℕ) (items rest : List BatchItem) (old now : Forest) → Pushing number items rest old now → length rest ≡ 0 → now ≡ pushed number items old

@@ -6,20 +6,20 @@ use Rattle.fjall_base.specs.Disk as disk
 use Rattle.fjall_base.specs.Disk.{Meaning}
 use Rattle.fjall_journal.specs.Ops.{BatchItem}
 use Rattle.fjall_table.specs.Blocks.{Entry}
-use Rattle.fjall_table.specs.Files.{entry_at}
-use Rattle.fjall_blocks.specs.Readers.{AreRead, IsTableBut, LooksOn, Reader}
-use Rattle.fjall_blocks.proofs.Several.{all_read_on}
-use Rattle.fjall_lsm.specs.MadeTable.{MadeTable}
-use Rattle.fjall_lsm.specs.Merges.{IsMerged}
-use Rattle.fjall_lsm.specs.Tasks.{IsFlushed, Task}
-use Rattle.fjall_lsm.specs.declared.tree.Tree.{Tree}
-use Rattle.fjall_lsm.specs.Jobs.{IsFlushing, IsMerging, flush_begun, flush_dropped, flush_finished, merge_begun, merge_dropped, merge_finished}
-use Rattle.fjall_lsm.specs.Puts.{bare_tree}
-use Rattle.fjall_lsm.specs.Shapes.{shape_of}
-use Rattle.fjall_lsm.specs.Trees.{ReadsAll, Shape, emptied, sealed_off}
-use Rattle.fjall_lsm.proofs.Changes.{emptied_read, sealed_read, written_read}
-use Rattle.fjall_lsm.proofs.Flushed.{flushed_read}
-use Rattle.fjall_lsm.proofs.Merged.{merged_read}
+use Rattle.fjall_table_reader.specs.Files.{entry_at}
+use Rattle.fjall_table_reader.specs.Readers.{AreRead, IsTableBut, LooksOn, Reader}
+use Rattle.fjall_table_reader.proofs.Several.{all_read_on}
+use Rattle.fjall_jobs.specs.declared.made_table.MadeTable.{MadeTable}
+use Rattle.fjall_jobs.specs.Merges.{IsMerged}
+use Rattle.fjall_jobs.specs.Tasks.{IsFlushed, Task}
+use Rattle.fjall_tree.specs.declared.tree.Tree.{Tree}
+use Rattle.fjall_tree.specs.Jobs.{IsFlushing, IsMerging, flush_begun, flush_dropped, flush_finished, merge_begun, merge_dropped, merge_finished}
+use Rattle.fjall_tree.specs.Puts.{bare_tree}
+use Rattle.fjall_tree.specs.Shapes.{shape_of}
+use Rattle.fjall_tree.specs.Trees.{ReadsAll, Shape, emptied, sealed_off}
+use Rattle.fjall_tree.proofs.Changes.{emptied_read, sealed_read, written_read}
+use Rattle.fjall_tree.proofs.Flushed.{flushed_read}
+use Rattle.fjall_tree.proofs.Merged.{merged_read}
 use Rattle.fjall_trees.specs.declared.trees.KeyspaceTree.{KeyspaceTree}
 use Rattle.fjall_trees.specs.Forests.{Forest, IsForest, IsTree, Planted, altered_at, without}
 use Rattle.fjall_trees.specs.Lists.{forest_in, planted}
@@ -70,7 +70,7 @@ files_read old new (t ∷ tables) (es ∷ entries) same r =
       record {
         blocks = r.0.blocks;
         all = r.0.all;
-        reads = record { table = subst (λ (e : disk.Entry). IsTableBut e t.info r.0.blocks) (sym file) reads.table; index = reads.index; kept = reads.kept };
+        reads = record { table = subst (λ (e : disk.DiskEntry). IsTableBut e t.info r.0.blocks) (sym file) reads.table; index = reads.index; kept = reads.kept };
       },
       files_read old new tables entries (All-tail (λ (u : Reader). entry_at new u.name ≡ entry_at old u.name) t tables same) r.1,
     )

@@ -5,11 +5,11 @@ use Rattle.std.specs.Result.{IfOk}
 use Rattle.std.proofs.lemmas.Bool.{eq-eqb, eqb-true, true≢false}
 use Rattle.std.proofs.lemmas.List.Elements.{All-cons, All-nil}
 use Rattle.fjall_base.proofs.Codecs.{some_is}
-use Rattle.fjall_lsm.specs.declared.tree.Tree.{Tree}
-use Rattle.fjall_lsm.specs.Puts.{bare_tree}
-use Rattle.fjall_lsm.specs.Shapes.{shape_of}
-use Rattle.fjall_lsm.specs.Trees.{IsSameShape, Shape}
-use Rattle.fjall_lsm.proofs.Outstanding.{same_shape}
+use Rattle.fjall_tree.specs.declared.tree.Tree.{Tree}
+use Rattle.fjall_tree.specs.Puts.{bare_tree}
+use Rattle.fjall_tree.specs.Shapes.{shape_of}
+use Rattle.fjall_tree.specs.Trees.{IsSameShape, Shape}
+use Rattle.fjall_tree.proofs.Outstanding.{same_shape}
 use Rattle.fjall_trees.specs.declared.trees.KeyspaceTree.{KeyspaceTree}
 use Rattle.fjall_trees.specs.Forests.{Forest, IsForest, Planted, altered_at, tree_at}
 use Rattle.fjall_trees.specs.Lists.{forest_in}

@@ -1,17 +1,17 @@
 -- All active memtables sealed, one tree after another.
-use Rattle.std.proofs.Common.{◌≡◌, ℕ, zero, suc, ◌+◌, ◌≤◌, Bool, true, false, cond, not, List, [], ◌∷◌, ◌++◌, length, set, slice_get, add-one, Some, refl, sym, ap, ◌∙◌}
+use Rattle.std.proofs.Common.{◌≡◌, ℕ, zero, suc, ◌+◌, Bool, true, false, cond, not, List, [], ◌∷◌, set, slice_get, add-one, Some, refl, sym, ap, ◌∙◌}
 use Rattle.std.specs.Option.{option_map}
-use Rattle.std.proofs.lemmas.List.{append-nil, drop_all, map-set, take_all}
+use Rattle.std.proofs.lemmas.List.{map-set}
 use Rattle.std.proofs.lemmas.Option.{slice_get-map}
 use Rattle.fjall_base.proofs.Codecs.{some_is}
-use Rattle.fjall_parts.specs.Parts.{holds_nothing}
-use Rattle.fjall_lsm.specs.declared.tree.Tree.{Tree}
-use Rattle.fjall_lsm.specs.Shapes.{shape_of}
-use Rattle.fjall_lsm.specs.Trees.{Shape, sealed_off}
+use Rattle.fjall_memtable.specs.Parts.{holds_nothing}
+use Rattle.fjall_tree.specs.declared.tree.Tree.{Tree}
+use Rattle.fjall_tree.specs.Shapes.{shape_of}
+use Rattle.fjall_tree.specs.Trees.{Shape, sealed_off}
 use Rattle.fjall_trees.specs.declared.trees.KeyspaceTree.{KeyspaceTree}
 use Rattle.fjall_trees.specs.Forests.{Forest, Planted}
 use Rattle.fjall_trees.specs.Lists.{forest_in, planted}
-use Rattle.fjall_trees.specs.Sealing.{all_sealed, first_sealed, sealed_once}
+use Rattle.fjall_trees.specs.Sealing.{first_sealed, sealed_once}
 
 -- a tree after its rotation
 pub rotated_once : (is_sealed : Bool) (old new : Shape) → is_sealed ≡ not (holds_nothing old.memory.active) → (is_sealed ≡ true → new ≡ sealed_off old)
@@ -27,11 +27,6 @@ rotated_once false old new is made same = by (holds_nothing old.memory.active) i
     by : (b : Bool) → false ≡ not b → new ≡ cond b old (sealed_off old)
     by true e = same refl
     by false e = cc
-
--- none of them yet
-pub none_sealed : (trees : Forest) → trees ≡ first_sealed 0 trees
-none_sealed [] = refl
-none_sealed (k ∷ trees) = refl
 
 -- one more
 one_sealed : (trees : Forest) (n : ℕ) (k : Planted) → slice_get (first_sealed n trees) n ≡ Some k
@@ -49,7 +44,3 @@ sealed_more trees ks n k new so_far here made =
     ∙ (λ i. set (so_far i) n (record { id = k.id; shape = made i }))
     ∙ one_sealed trees n (planted k) (ap (λ (f : Forest). slice_get f n) (sym so_far) ∙ slice_get-map planted ks n ∙ ap (option_map planted) here)
     ∙ ap (λ m. first_sealed m trees) (sym (add-one n))
-
--- all of them
-pub sealed_whole : (trees : Forest) (n : ℕ) → length trees ≤ n → first_sealed n trees ≡ all_sealed trees
-sealed_whole trees n over = (λ i. all_sealed (take_all n trees over i) ++ drop_all n trees over i) ∙ append-nil (all_sealed trees)

@@ -12,7 +12,7 @@ use Rattle.std.proofs.lemmas.Cmp.{ranked}
 use Rattle.std.proofs.lemmas.List.{length-map}
 use Rattle.std.proofs.Math.ListN.{get_or-map}
 use Rattle.std.proofs.lemmas.List.Sorted.{searchable_from_sorted}
-use Rattle.fjall_lsm.specs.Shapes.{shape_of}
+use Rattle.fjall_tree.specs.Shapes.{shape_of}
 use Rattle.fjall_trees.specs.declared.trees.KeyspaceTree.{KeyspaceTree}
 use Rattle.fjall_trees.specs.Forests.{IsForest, tree_at}
 use Rattle.fjall_trees.specs.Lists.{forest_in, planted}

@@ -1,8 +1,8 @@
 -- The trees of keyspaces.
 use Rattle.std.specs.Prelude.{ℕ, ◌<◌, ◌≤◌, ◌==◌, not, List, [], ◌∷◌, Option, Some, None, if◌then◌else◌, filter, map, All, AllPairs}
 use Rattle.std.proofs.Props.{props}
-use Rattle.fjall_parts.specs.Parts.{AreApart, IsHeld, apart_prop, held_prop, parts_of}
-use Rattle.fjall_lsm.specs.Trees.{IsShape, Shape, shape_prop}
+use Rattle.fjall_memtable.specs.Parts.{AreApart, IsHeld, apart_prop, held_prop, parts_of}
+use Rattle.fjall_tree.specs.Trees.{IsShape, Shape, shape_prop}
 
 -- the tree of one keyspace, under the keyspace's id
 pub record Planted : Type 0 where

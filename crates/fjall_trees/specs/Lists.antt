@@ -1,7 +1,7 @@
 -- The trees as they stand one behind another, now and at marks.
 use Rattle.std.specs.Prelude.{ℕ, List, [], ◌∷◌, ◌++◌, drop, map, take}
-use Rattle.fjall_parts.specs.declared.mark.Mark.{Mark}
-use Rattle.fjall_lsm.specs.Shapes.{IsMark, shape_at, shape_of}
+use Rattle.fjall_memtable.specs.declared.mark.Mark.{Mark}
+use Rattle.fjall_tree.specs.Shapes.{IsMark, shape_at, shape_of}
 use Rattle.fjall_trees.specs.declared.trees.KeyspaceTree.{KeyspaceTree}
 use Rattle.fjall_trees.specs.Forests.{Forest, Planted}
 

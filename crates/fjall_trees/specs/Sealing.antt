@@ -1,7 +1,7 @@
 -- All active memtables sealed at once.
 use Rattle.std.specs.Prelude.{ℕ, ◌++◌, if◌then◌else◌, drop, map, take}
-use Rattle.fjall_parts.specs.Parts.{holds_nothing}
-use Rattle.fjall_lsm.specs.Trees.{Shape, sealed_off}
+use Rattle.fjall_memtable.specs.Parts.{holds_nothing}
+use Rattle.fjall_tree.specs.Trees.{Shape, sealed_off}
 use Rattle.fjall_trees.specs.Forests.{Forest}
 
 -- the tree with its active memtable sealed, where that holds something

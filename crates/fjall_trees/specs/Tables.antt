@@ -2,9 +2,9 @@
 use Rattle.std.specs.Prelude.{◌≡◌, ℕ, ◌==◌, List, [], ◌∷◌, if◌then◌else◌, All, unwrap_or}
 use Rattle.fjall_base.specs.Disk.{Meaning}
 use Rattle.fjall_table.specs.Blocks.{Entry}
-use Rattle.fjall_lsm.specs.Jobs.{HasRoom}
-use Rattle.fjall_lsm.specs.Puts.{bare_tree}
-use Rattle.fjall_lsm.specs.Trees.{IsSameShape, ReadsAll, Shape}
+use Rattle.fjall_tree.specs.Jobs.{HasRoomForTables}
+use Rattle.fjall_tree.specs.Puts.{bare_tree}
+use Rattle.fjall_tree.specs.Trees.{IsSameShape, ReadsAll, Shape}
 use Rattle.fjall_trees.specs.declared.trees.Trees.{Trees}
 use Rattle.fjall_trees.specs.Forests.{Forest, tree_at}
 
@@ -29,4 +29,4 @@ AreSameTrees (j ∷ old) (k ∷ new) = (k.id ≡ j.id) × IsSameShape j.shape k.
 
 -- The tree of a keyspace has room for so many tables and so many clears more.
 abbrev pub HasRoomAt : ℕ → Trees → (table_count clear_count : ℕ) → Type 0
-HasRoomAt id trees table_count clear_count = All (λ k. k.id ≡ id → HasRoom k.tree table_count clear_count) trees.trees.items
+HasRoomAt id trees table_count clear_count = All (λ k. k.id ≡ id → HasRoomForTables k.tree table_count clear_count) trees.trees.items

@@ -14,12 +14,12 @@ abbrev pub forest_before : Marks → Trees → Forest
 forest_before marks trees = forest_from marks.from marks.marks.items trees.trees.items
 
 -- They once held that.
-abbrev pub AreMarksOf : Trees → Marks → Type 0
-AreMarksOf trees marks = AreMarks (drop marks.from trees.trees.items) marks.marks.items
+abbrev pub AreMarksOfTrees : Trees → Marks → Type 0
+AreMarksOfTrees trees marks = AreMarks (drop marks.from trees.trees.items) marks.marks.items
 
 -- The same, and there is a mark for each of them.
 abbrev pub AreMarksOfAll : Trees → Marks → Type 0
-AreMarksOfAll trees marks = (marks.from ≡ 0) × (length marks.marks.items ≡ length trees.trees.items) × AreMarksOf trees marks
+AreMarksOfAll trees marks = (marks.from ≡ 0) × (length marks.marks.items ≡ length trees.trees.items) × AreMarksOfTrees trees marks
 
 -- The marks of all of the ones are marks of the others, and stand for the same there.
 abbrev pub KeepAllMarks : Trees → Trees → Type 0

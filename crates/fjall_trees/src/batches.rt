@@ -3,7 +3,7 @@
 ghost use Rattle.std.specs.Prelude.{◌≡◌, ◌∷◌, ◌<◌, ◌^◌, [], IfOk, OnOk, OnErr};
 ghost use Rattle.std.specs.Option.{option_map};
 ghost use Rattle.fjall_journal.specs.Ops.{value_in};
-ghost use Rattle.fjall_lsm.specs.Trees.{emptied};
+ghost use Rattle.fjall_tree.specs.Trees.{emptied};
 ghost use Rattle.fjall_trees.specs.Forests.{AreBefore, altered_at};
 ghost use Rattle.fjall_trees.specs.Writes.{MayPush, pushed};
 
@@ -23,7 +23,7 @@ fn value_of(op: &Op) -> Option<&[u8]>
 }
 
 impl Trees {
-    ghost use Rattle.fjall_trees.specs.Views.{AreMarksOf, AreMarksOfAll, KeepAllMarks, forest_before, forest_of};
+    ghost use Rattle.fjall_trees.specs.Views.{AreMarksOfAll, AreMarksOfTrees, KeepAllMarks, forest_before, forest_of};
 
     /// Makes the versions of a batch of that number, above all that is in memory: of two items of one key the later one
     /// counts, and one of a keyspace without a tree is passed over. It answers marks of the trees as they were. It is
@@ -31,7 +31,7 @@ impl Trees {
     pub fn push_items(&mut self, items: &[BatchItem], number: u64) -> Result<Marks, AllocError>
         requires { MayPush number items.now (forest_of self.old) }
         ensures ok { OnOk result (forest_of self.new ≡ pushed number items.now (forest_of self.old)) }
-        ensures marks { IfOk result (λ marks. AreMarksOf self.new marks × (forest_before marks self.new ≡ forest_of self.old)) }
+        ensures marks { IfOk result (λ marks. AreMarksOfTrees self.new marks × (forest_before marks self.new ≡ forest_of self.old)) }
         ensures err { OnErr result (forest_of self.new ≡ forest_of self.old) }
     {
         if let [item] = items {
@@ -51,7 +51,7 @@ impl Trees {
     fn push_one(&mut self, item: &BatchItem, number: u64) -> Result<Marks, AllocError>
         requires { MayPush number (item.now ∷ []) (forest_of self.old) }
         ensures ok { OnOk result (forest_of self.new ≡ pushed number (item.now ∷ []) (forest_of self.old)) }
-        ensures marks { IfOk result (λ marks. AreMarksOf self.new marks × (forest_before marks self.new ≡ forest_of self.old)) }
+        ensures marks { IfOk result (λ marks. AreMarksOfTrees self.new marks × (forest_before marks self.new ≡ forest_of self.old)) }
         ensures err { OnErr result (forest_of self.new ≡ forest_of self.old) }
     {
         let (id, key, op) = item;
@@ -71,7 +71,7 @@ impl Trees {
         requires before { AreBefore number (forest_of self.old) }
         requires small { number < 2 ^ 63 }
         ensures ok { OnOk result (forest_of self.new ≡ altered_at id (emptied number) (forest_of self.old)) }
-        ensures marks { IfOk result (λ marks. AreMarksOf self.new marks × (forest_before marks self.new ≡ forest_of self.old)) }
+        ensures marks { IfOk result (λ marks. AreMarksOfTrees self.new marks × (forest_before marks self.new ≡ forest_of self.old)) }
         ensures err { OnErr result (forest_of self.new ≡ forest_of self.old) }
     {
         let mut marks = Vec::with_capacity(self.alloc, 1)?;
@@ -116,7 +116,7 @@ impl Trees {
     /// Makes the trees what they were at these marks. It takes no memory and can't fail, and looks at each version of the
     /// active parts of the trees that have a mark.
     pub fn take_back(&mut self, marks: Marks)
-        requires { AreMarksOf self.old marks }
+        requires { AreMarksOfTrees self.old marks }
         ensures { forest_of self.new ≡ forest_before marks self.old }
     {
         let Marks { from, marks } = marks;

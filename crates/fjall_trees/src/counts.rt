@@ -3,8 +3,8 @@
 ghost use Rattle.std.specs.Prelude.{◌≡◌, ◌+◌, ◌-◌, ◌^◌, count_by, is_some, length, min};
 ghost use Rattle.std.specs.List.{sum_by};
 ghost use Rattle.fjall_memtable.specs.Entries.{size_of};
-ghost use Rattle.fjall_parts.specs.Parts.{parts_of, versions_in};
-ghost use Rattle.fjall_lsm.specs.Trees.{is_l0};
+ghost use Rattle.fjall_memtable.specs.Parts.{parts_of, versions_in};
+ghost use Rattle.fjall_tree.specs.Trees.{is_l0};
 ghost use Rattle.fjall_trees.specs.Tables.{shape_in};
 
 use crate::trees::Trees;

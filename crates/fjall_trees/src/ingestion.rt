@@ -1,13 +1,13 @@
 //! An ingestion into one keyspace's tree.
 
 ghost use Rattle.std.specs.Prelude.{◌≡◌, ◌+◌, ◌<◌, ◌≤◌, ◌^◌, [], length, vec_capacity};
-ghost use Rattle.fjall_lsm.specs.Ingestions.{ingested, is_flush_due};
-ghost use Rattle.fjall_lsm.specs.Trees.{clears_of};
+ghost use Rattle.fjall_tree.specs.Ingestions.{ingested, is_flush_due};
+ghost use Rattle.fjall_tree.specs.Trees.{clears_of};
 ghost use Rattle.fjall_trees.specs.Forests.{altered_at};
 ghost use Rattle.fjall_trees.specs.Tables.{shape_in};
 
 use crate::trees::{Trees, place_of};
-use fjall_blocks::TableReader;
+use fjall_table_reader::TableReader;
 
 impl Trees {
     ghost use Rattle.fjall_trees.specs.Views.{forest_of};

@@ -3,18 +3,18 @@
 ghost use Rattle.std.specs.Prelude.{◌≡◌, ◌≢◌, ◌+◌, ◌-◌, ◌<◌, ◌≤◌, ◌^◌, ◌⊎◌, ◌↔◌, [], ℕ, List, length, ⊤, IsTrue, IfOk, IfErr, IfSome, IsOkUnless, OnOk, OnErr, IsOk, nat_lt, vec_len, vec_capacity, Ok, Some, None, true, false};
 ghost use Rattle.std.specs.Option.{option_map};
 ghost use Rattle.fjall_table.specs.Blocks.{Entry};
-ghost use Rattle.fjall_table.specs.Files.{IsRefused};
-ghost use Rattle.fjall_blocks.specs.Readers.{LooksOn, SomeTableIsWrong};
-ghost use Rattle.fjall_lsm.specs.Flushes.{flush_task};
-ghost use Rattle.fjall_lsm.specs.Merges.{merge_task};
-ghost use Rattle.fjall_lsm.specs.Jobs.{IsFlushing, IsMerging, MergesNothing, count_out, flush_begun, flush_dropped, flush_end, flush_finished, flush_of, input_of, is_flush_out, is_merge_out, merge_begun, merge_dropped, merge_finished, merge_of};
+ghost use Rattle.fjall_table_reader.specs.Files.{IsRefused};
+ghost use Rattle.fjall_table_reader.specs.Readers.{LooksOn, SomeTableIsWrong};
+ghost use Rattle.fjall_jobs.specs.Flushes.{flush_task};
+ghost use Rattle.fjall_jobs.specs.Merges.{merge_task};
+ghost use Rattle.fjall_tree.specs.Jobs.{IsFlushing, IsMerging, MergesNothing, count_out, flush_begun, flush_dropped, flush_end, flush_finished, flush_of, input_of, is_flush_out, is_merge_out, merge_begun, merge_dropped, merge_finished, merge_of};
 ghost use Rattle.fjall_trees.specs.Forests.{altered_at};
 ghost use Rattle.fjall_trees.specs.Tables.{AreReadOn, AreSameTrees, HasRoomAt, shape_in};
 
 use crate::trees::{Trees, place_of};
 use fjall_base::{Disk, Error, Result};
-use fjall_blocks::TableReader;
-use fjall_lsm::{FlushJob, FlushMade, MergeJob, MergeMade};
+use fjall_jobs::{FlushJob, FlushMade, MergeJob, MergeMade};
+use fjall_table_reader::TableReader;
 
 impl Trees {
     ghost use Rattle.fjall_trees.specs.Views.{forest_of};

@@ -1,6 +1,6 @@
 //! Marks of several trees.
 
-use fjall_parts::Mark;
+use fjall_memtable::Mark;
 
 /// What the trees from a place on held once: a mark for each of so many of them.
 #[derive(Drop)]

@@ -4,10 +4,10 @@ ghost use Rattle.std.specs.Prelude.{◌≡◌, [], ℕ, List, ⊤, IfOk, IfErr, 
 ghost use Rattle.fjall_base.specs.Disk.{Meaning};
 ghost use Rattle.fjall_base.specs.Pairs.{Pairs, key_range, page, pairs_between};
 ghost use Rattle.fjall_table.specs.Blocks.{Entry};
-ghost use Rattle.fjall_table.specs.Files.{IsRefused};
+ghost use Rattle.fjall_table_reader.specs.Files.{IsRefused};
 ghost use Rattle.fjall_views.specs.Views.{IsView, value_at};
-ghost use Rattle.fjall_blocks.specs.Readers.{LooksOn, SomeTableIsWrong};
-ghost use Rattle.fjall_lsm.specs.Trees.{Shape, clears_of, versions_of};
+ghost use Rattle.fjall_table_reader.specs.Readers.{LooksOn, SomeTableIsWrong};
+ghost use Rattle.fjall_tree.specs.Trees.{Shape, clears_of, versions_of};
 ghost use Rattle.fjall_trees.specs.Forests.{tree_at};
 ghost use Rattle.fjall_trees.specs.Tables.{AreReadOn, AreSameTrees, shape_in};
 

@@ -2,13 +2,13 @@
 
 ghost use Rattle.std.specs.Prelude.{◌≡◌, ◌≢◌, ◌++◌, ◌∷◌, ◌<◌, [], List, All, length, map, not, IfOk, OnOk, OnErr, IsOkUnless, MatchOption, IsSomeAnd, Some, None, Ok, true, false, slice_get, unwrap_or};
 ghost use Rattle.std.specs.Option.{option_copied, option_map};
-ghost use Rattle.fjall_parts.specs.Parts.{holds_nothing};
-ghost use Rattle.fjall_lsm.specs.Shapes.{shape_of};
-ghost use Rattle.fjall_lsm.specs.Trees.{sealed_off};
+ghost use Rattle.fjall_memtable.specs.Parts.{holds_nothing};
+ghost use Rattle.fjall_tree.specs.Shapes.{shape_of};
+ghost use Rattle.fjall_tree.specs.Trees.{sealed_off};
 ghost use Rattle.fjall_trees.specs.Forests.{IsForest, altered_at, forest_prop, tree_at, without};
 ghost use Rattle.fjall_trees.specs.Lists.{forest_in};
 
-use fjall_lsm::Tree;
+use fjall_tree::Tree;
 use std::alloc::{AllocError, Global};
 
 /// The tree of one keyspace.

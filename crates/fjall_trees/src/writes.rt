@@ -5,14 +5,14 @@ ghost use Rattle.std.specs.List.{All};
 ghost use Rattle.std.specs.Option.{option_map};
 ghost use Rattle.fjall_table.specs.Blocks.{value_bytes};
 ghost use Rattle.fjall_memtable.specs.Entries.{version};
-ghost use Rattle.fjall_lsm.specs.Puts.{emptied_once, put};
-ghost use Rattle.fjall_lsm.specs.Trees.{Shape};
+ghost use Rattle.fjall_tree.specs.Puts.{emptied_once, put};
+ghost use Rattle.fjall_tree.specs.Trees.{Shape};
 ghost use Rattle.fjall_trees.specs.Forests.{altered_at, tree_at};
 ghost use Rattle.fjall_trees.specs.Writes.{with_tree};
 
 use crate::marks::Marks;
 use crate::trees::{Trees, place_near, place_of};
-use fjall_lsm::Tree;
+use fjall_tree::Tree;
 use std::alloc::AllocError;
 
 impl Trees {

@@ -1,7 +1,7 @@
 //! Worked runs of a tracker.
 
 use fjall_base::{Error, Result};
-use fjall_meta::SnapshotTracker;
+use fjall_history::SnapshotTracker;
 use std::alloc::Global;
 
 /// A call of a tracker, or many of them.

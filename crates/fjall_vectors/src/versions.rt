@@ -1,8 +1,8 @@
 //! Worked rows of batches and their first faults.
 
 use fjall_base::{Error, Result, Slice};
+use fjall_contents::check_batches;
 use fjall_journal::{Batch, ReadBatchItem, ValueType};
-use fjall_versions::check_batches;
 use std::alloc::Global;
 
 /// A batch that a row names: its number, and the keyspace and the key that it puts. One that points also has an item that

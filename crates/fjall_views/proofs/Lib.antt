@@ -1,7 +1,7 @@
 pub mod Clears
 pub mod Hiding
 pub mod Merging
-pub mod Needed
+mod Needed
 pub mod Newest
 pub mod Once
 pub mod Sameness

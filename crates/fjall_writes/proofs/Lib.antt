@@ -1,2 +1,2 @@
-pub mod Ascents
-pub mod Queues
+mod Ascents
+mod Queues

@@ -1,1 +1,1 @@
-pub mod Times
+mod Times

@@ -3,7 +3,7 @@
 ghost use Rattle.std.specs.Prelude.{◌≡◌, ◌++◌, ◌<◌, ◌^◌, ℕ, List, IfOk, Some, nat_le};
 ghost use Rattle.std.specs.Int.{w64, to_be_bytes};
 ghost use Rattle.std.specs.declared.ops.Bound.TheVariants.{Unbounded};
-ghost use Rattle.fjall_base.specs.Fields.{Shows};
+ghost use Rattle.fjall_base.specs.Fields.{ShowsRead};
 ghost use Rattle.fjall_base.specs.Pairs.{is_within};
 ghost use Rattle.session_store.specs.Stamps.{stamp_in};
 
@@ -24,7 +24,7 @@ pub fn stamped(alloc: Global, time: u64, bytes: &[u8]) -> Result<Slice, AllocErr
 
 /// The time that these bytes begin with, and the bytes behind it; none where they are too short.
 pub fn read_stamped(bytes: &[u8]) -> Option<(u64, &[u8])>
-    ensures { Shows (λ found. (found.0, found.1.now)) result (stamp_in bytes.now) }
+    ensures { ShowsRead (λ found. (found.0, found.1.now)) result (stamp_in bytes.now) }
 {
     let (time, rest) = bytes.split_first_chunk::<8>()?;
     Some((u64::from_be_bytes(*time), rest))

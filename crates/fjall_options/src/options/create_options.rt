@@ -4,7 +4,7 @@ ghost use Rattle.std.specs.Prelude.{◌≡◌, ◌<◌, true, None, Some, Ok, If
 ghost use Rattle.byteorder.specs.Endian.{little_bytes};
 ghost use Rattle.fjall_base.specs.declared.error.Error.TheVariants.{OutOfMemory};
 ghost use Rattle.fjall_options.specs.Policies.{policy_bytes, number_bytes, interval_bytes, flag_bytes, compression_bytes, filter_bytes};
-ghost use Rattle.fjall_options.specs.Options.{stored_options, default_options, is_value, value_at, with_value, kept_bytes, is_set, with_strategy, effective_settings, config_pairs, stored_value, stored_values, value_of, Reads};
+ghost use Rattle.fjall_options.specs.Options.{stored_options, default_options, is_value, value_at, with_value, kept_bytes, is_set, with_strategy, effective_settings, config_pairs, stored_value, stored_values, value_of, ReadsStored};
 
 use crate::options::config_key::encode_config_key;
 use crate::options::effective::EffectiveSettings;
@@ -264,7 +264,7 @@ impl KeyspaceCreateOptions {
         keyspace_id: u64,
         pairs: &[KvPair],
     ) -> Result<KeyspaceCreateOptions>
-        ensures { Reads result (stored_values keyspace_id pairs.now stored_options) }
+        ensures { ReadsStored result (stored_values keyspace_id pairs.now stored_options) }
     {
         let mut values = Vec::new(alloc);
         for option in &STORED_OPTIONS {
@@ -289,7 +289,7 @@ fn value_in(
     pairs: &[KvPair],
     option: StoredOption,
 ) -> Result<Slice>
-    ensures { Reads result (stored_value keyspace_id pairs.now option) }
+    ensures { ReadsStored result (stored_value keyspace_id pairs.now option) }
 {
     let found = {
         let key = encode_config_key(alloc, keyspace_id, option.name())?;

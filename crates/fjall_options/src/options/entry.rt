@@ -1,7 +1,7 @@
 //! What a policy says of one level, as bytes and back.
 
 ghost use Rattle.std.specs.Prelude.{◌≡◌, ◌++◌, ℕ, List, Ok, OnOk, IsOkUnless};
-ghost use Rattle.fjall_options.specs.Reading.{Gives, Reader, byte_at, number_at};
+ghost use Rattle.fjall_options.specs.Reading.{Gives, ValueReader, byte_at, number_at};
 ghost use Rattle.fjall_options.specs.Policies.{number_bytes, interval_bytes, flag_bytes, flag_at, compression_bytes, compression_at, filter_bytes, bloom_at, filter_at};
 
 use crate::options::filter::{BloomConstructionPolicy, FilterPolicyEntry};
@@ -18,7 +18,7 @@ pub trait PolicyEntry: Copy {
     ghost spelled: { Self → List ℕ };
 
     /// How an entry is read.
-    ghost entry_at: { Reader Self };
+    ghost entry_at: { ValueReader Self };
 
     /// Adds the entry's bytes, from which the entry is read again, whatever stands behind them.
     fn encode_into(self, out: &mut Vec<u8>) -> Result<()>

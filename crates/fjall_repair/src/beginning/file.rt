@@ -6,7 +6,7 @@ ghost use Rattle.fjall_files.specs.Texts.{text_in};
 ghost use Rattle.fjall_files.specs.Calls.{seen, AllServed};
 ghost use Rattle.fjall_files.specs.Tidy.{FitsAt, StaysTidy};
 ghost use Rattle.fjall_repair.specs.Plans.{FindsAt, IsFilled};
-ghost use Rattle.fjall_repair.specs.Making.{CanHold, GoesOn, StaysAt};
+ghost use Rattle.fjall_repair.specs.Making.{CanHold, MakingGoesOn, StaysAt};
 
 use crate::beginning::plan::FileState;
 use fjall_base::{Disk, Result};
@@ -14,7 +14,7 @@ use fjall_base::{Disk, Result};
 /// Adds bytes to an empty file, and syncs it.
 fn fill<D: Disk>(disk: &mut D, name: &str, bytes: &[u8]) -> Result<()>
     ensures goes { IsTrue D.honest → (marking : Bool) → CanHold marking name.now bytes.now → text_in (seen (D.meaning disk.old) name.now) ≡ []
-        → GoesOn marking (D.meaning disk.old) (D.meaning disk.new) }
+        → MakingGoesOn marking (D.meaning disk.old) (D.meaning disk.new) }
     ensures stays { IsTrue D.honest → StaysAt name.now (D.meaning disk.old) (D.meaning disk.new) }
     ensures filled { IsTrue D.honest → text_in (seen (D.meaning disk.old) name.now) ≡ []
         → OnOk result (IsFilled (state_in (D.meaning disk.new)) name.now bytes.now) }
@@ -36,7 +36,7 @@ pub(crate) fn complete_file<D: Disk>(
     bytes: &[u8],
 ) -> Result<()>
     ensures goes { IsTrue D.honest → (marking : Bool) → CanHold marking name.now bytes.now → FindsAt (seen (D.meaning disk.old)) name.now bytes.now found
-        → GoesOn marking (D.meaning disk.old) (D.meaning disk.new) }
+        → MakingGoesOn marking (D.meaning disk.old) (D.meaning disk.new) }
     ensures stays { IsTrue D.honest → StaysAt name.now (D.meaning disk.old) (D.meaning disk.new) }
     ensures filled { IsTrue D.honest → FindsAt (seen (D.meaning disk.old)) name.now bytes.now found
         → OnOk result (IsFilled (state_in (D.meaning disk.new)) name.now bytes.now) }

@@ -5,13 +5,13 @@ ghost use Rattle.fjall_base.specs.Disk.{CanCreate, File, OnlyFaults, state_in};
 ghost use Rattle.fjall_files.specs.Calls.{AllServed, StaysWhere};
 ghost use Rattle.fjall_files.specs.Tidy.{FitsAt, IsTidy, StaysTidy};
 ghost use Rattle.fjall_repair.specs.Plans.{WhereJournals};
-ghost use Rattle.fjall_repair.specs.Making.{CanHold, GoesOn, StaysAt};
+ghost use Rattle.fjall_repair.specs.Making.{CanHold, MakingGoesOn, StaysAt};
 
 use fjall_base::{Disk, Result};
 
 /// Makes a file that holds nothing, or empties the one that is there, and syncs it.
 fn empty_file<D: Disk>(disk: &mut D, name: &str) -> Result<()>
-    ensures goes { IsTrue D.honest → (marking : Bool) → CanHold marking name.now [] → GoesOn marking (D.meaning disk.old) (D.meaning disk.new) }
+    ensures goes { IsTrue D.honest → (marking : Bool) → CanHold marking name.now [] → MakingGoesOn marking (D.meaning disk.old) (D.meaning disk.new) }
     ensures stays { IsTrue D.honest → StaysAt name.now (D.meaning disk.old) (D.meaning disk.new) }
     ensures emptied { IsTrue D.honest → OnOk result ((state_in (D.meaning disk.new) name.now).now ≡ File [] []) }
     ensures cause { OnlyFaults (D.meaning disk.old) (D.meaning disk.new) result }
@@ -24,7 +24,7 @@ fn empty_file<D: Disk>(disk: &mut D, name: &str) -> Result<()>
 
 /// Makes each of these journals, or empties it where it is there. None of them has a whole batch.
 pub(crate) fn empty_journals<D: Disk>(disk: &mut D, names: &[String]) -> Result<()>
-    ensures goes { IsTrue D.honest → WhereJournals names.now (GoesOn false (D.meaning disk.old) (D.meaning disk.new)) }
+    ensures goes { IsTrue D.honest → WhereJournals names.now (MakingGoesOn false (D.meaning disk.old) (D.meaning disk.new)) }
     ensures elsewhere { IsTrue D.honest → StaysWhere (D.meaning disk.old) (D.meaning disk.new) (λ q. All (λ name. q ≢ string_bytes name) names.now) }
     ensures emptied { IsTrue D.honest → OnOk result (All (λ name. (state_in (D.meaning disk.new) (string_bytes name)).now ≡ File [] []) names.now) }
     ensures cause { OnlyFaults (D.meaning disk.old) (D.meaning disk.new) result }

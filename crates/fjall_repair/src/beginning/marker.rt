@@ -8,10 +8,10 @@ ghost use Rattle.fjall_files.specs.Calls.{seen, AllServed};
 ghost use Rattle.fjall_files.specs.Marker.{header as header_of};
 ghost use Rattle.fjall_files.specs.Tidy.{IsTidy, StaysTidy};
 ghost use Rattle.fjall_files.specs.Names.{journal_name};
-ghost use Rattle.fjall_versions.specs.Replays.{bare};
-ghost use Rattle.fjall_recovery.specs.Folders.{IsUnfinished, StandsFor};
+ghost use Rattle.fjall_contents.specs.Replays.{bare};
+ghost use Rattle.fjall_recovery.specs.Folders.{ImageStandsFor, IsUnfinished};
 ghost use Rattle.fjall_repair.specs.Begun.{IsBegunOn};
-ghost use Rattle.fjall_repair.specs.Making.{IsKept, KeepsHomes, KeepsTables, ComesBackUnfinished};
+ghost use Rattle.fjall_repair.specs.Making.{IsKept, KeepsHomeRecords, KeepsAllTables, ComesBackUnfinished};
 ghost use Rattle.fjall_repair.specs.Plans.{AwaitsMarker, FindsAt};
 
 use crate::beginning::file::complete_file;
@@ -24,14 +24,14 @@ pub(crate) fn mark<D: Disk>(disk: &mut D, found: FileState, header: &[u8]) -> Re
     ensures any_moment { IsTrue D.honest → header.now ≡ header_of V3 → FindsAt (seen (D.meaning disk.old)) (codes "version") (header_of V3) found
         → IsKept true (state_in (D.meaning disk.old))
         → (sealed : List ℕ) (active : ℕ) → AwaitsMarker (state_in (D.meaning disk.old)) sealed active
-        → LeavesOnly (D.meaning disk.old) (D.meaning disk.new) (λ image. StandsFor image (bare no_keyspaces)) }
-    ensures tables { IsTrue D.honest → KeepsTables (state_in (D.meaning disk.old)) (state_in (D.meaning disk.new)) }
+        → LeavesOnly (D.meaning disk.old) (D.meaning disk.new) (λ image. ImageStandsFor image (bare no_keyspaces)) }
+    ensures tables { IsTrue D.honest → KeepsAllTables (state_in (D.meaning disk.old)) (state_in (D.meaning disk.new)) }
     ensures begun { IsTrue D.honest → header.now ≡ header_of V3 → FindsAt (seen (D.meaning disk.old)) (codes "version") (header_of V3) found
         → (sealed : List ℕ) (active : ℕ) → AwaitsMarker (state_in (D.meaning disk.old)) sealed active
         → OnOk result (IsBegunOn (state_in (D.meaning disk.new)) sealed active) }
     ensures cause { OnlyFaults (D.meaning disk.old) (D.meaning disk.new) result }
     ensures kinds { IsTrue D.honest → StaysTidy (D.meaning disk.old) (D.meaning disk.new) }
-    ensures homes { IsTrue D.honest → KeepsHomes (state_in (D.meaning disk.old)) (state_in (D.meaning disk.new)) }
+    ensures homes { IsTrue D.honest → KeepsHomeRecords (state_in (D.meaning disk.old)) (state_in (D.meaning disk.new)) }
     ensures served { IsTrue D.honest → IsTidy (state_in (D.meaning disk.old)) → header.now ≡ header_of V3
         → FindsAt (seen (D.meaning disk.old)) (codes "version") (header_of V3) found
         → AllServed (D.meaning disk.old) (D.meaning disk.new) }

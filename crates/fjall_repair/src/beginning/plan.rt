@@ -12,7 +12,7 @@ ghost use Rattle.fjall_recovery.specs.Journals.{AreJournalIds};
 ghost use Rattle.fjall_recovery.specs.Naming.{JournalsAreNamed};
 ghost use Rattle.fjall_recovery.specs.Refusals.{HasRisen, IsDue, IsOpeningRefusal};
 ghost use Rattle.fjall_repair.specs.Begun.{IsActive};
-ghost use Rattle.fjall_repair.specs.Plans.{AreToBe, IsFound, IsPlan};
+ghost use Rattle.fjall_repair.specs.Plans.{AreToBe, IsBeginPlan, IsFound};
 
 use fjall_base::{Disk, Error, Result};
 use fjall_catalog::first_record;
@@ -149,7 +149,7 @@ fn header(alloc: Global) -> Result<Vec<u8>>
 /// Refusals: `OutOfMemory`; `Io` for a fault of the disk; and for a file that is named nearly like a journal
 /// `InvalidFileName`, which `read_folder` answers first.
 pub fn plan_beginning<D: Disk>(alloc: Global, disk: &mut D) -> Result<BeginPlan>
-    ensures plan { IsTrue D.honest → IfOk result (IsPlan (seen (D.meaning disk.old))) }
+    ensures plan { IsTrue D.honest → IfOk result (IsBeginPlan (seen (D.meaning disk.old))) }
     ensures active { IsTrue D.honest → IfOk result (λ plan. IsActive (seen (D.meaning disk.old)) plan.active) }
     // Of whatever disk the numbers of the journals ascend.
     ensures numbered { IfOk result (λ plan. IsStrictlyIncreasing (plan.sealed.items ++ plan.active ∷ [])) }

@@ -1,12 +1,12 @@
 //! What is to be done to a folder, by name, all of it in memory before the disk is changed.
 
 ghost use Rattle.std.specs.Prelude.{◌≡◌, ◌∷◌, IfOk, IsOkUnless, map, string_bytes};
-ghost use Rattle.fjall_repair.specs.Steps.{IsPlanOf, active_of, end_of, folder_names, home_end, tree_end, whole_names};
+ghost use Rattle.fjall_repair.specs.Steps.{IsMendPlan, active_of, end_of, folder_names, home_end, tree_end, whole_names};
 
 use fjall_base::{Error, Result};
 use fjall_catalog::LoadedCatalog;
 use fjall_files::{KEYSPACES_FOLDER, MARKER_FILE, current_name, journal_name, keyspace_folder};
-use fjall_home::LoadedHome;
+use fjall_manifest::LoadedHome;
 use fjall_recovery::RecoveredFolder;
 use std::alloc::Global;
 
@@ -35,7 +35,7 @@ pub struct MendPlan {
 }
 
 /// The id of the active journal: the last one, and 1 where there is no journal.
-pub(crate) fn active_id(ids: &[u64]) -> u64
+pub fn active_id(ids: &[u64]) -> u64
     ensures { result ≡ active_of ids.now }
 {
     match ids {
@@ -117,8 +117,8 @@ fn end_of_tree(alloc: Global, catalog: &LoadedCatalog) -> Result<FileEnd>
 }
 
 /// What is to be done to the folder that was read.
-pub(crate) fn plan_of(alloc: Global, found: &RecoveredFolder) -> Result<MendPlan>
-    ensures plan { IfOk result (IsPlanOf found.now (tree_end found.now.catalog)) }
+pub fn plan_of(alloc: Global, found: &RecoveredFolder) -> Result<MendPlan>
+    ensures plan { IfOk result (IsMendPlan found.now (tree_end found.now.catalog)) }
     ensures only { IsOkUnless result Error.OutOfMemory }
 {
     let active = active_id(&found.journal_ids);

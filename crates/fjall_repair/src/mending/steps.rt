@@ -5,7 +5,7 @@ ghost use Rattle.fjall_base.specs.Store.{Command, Store};
 ghost use Rattle.fjall_base.specs.Disk.{Image, IsFile, IsImage, LeavesOnly, Name, OnlyFaults, Took, folder_of, state_in, CanCreate, File, IsThere};
 ghost use Rattle.fjall_files.specs.Calls.{seen, AllServed, StaysWhere};
 ghost use Rattle.fjall_files.specs.Tidy.{FitsAt, IsTidy, StaysTidy};
-ghost use Rattle.fjall_recovery.specs.Folders.{Contents, IsOpenable, StandsFor, store_of};
+ghost use Rattle.fjall_recovery.specs.Folders.{Contents, ImageStandsFor, IsOpenable, store_of_contents};
 ghost use Rattle.fjall_recovery.specs.Amid.{HoldsAmid, StandsAmid, LeavesAmid, KeepsAmid, WhereAmid};
 ghost use Rattle.fjall_recovery.specs.Held.{Holds};
 ghost use Rattle.fjall_repair.specs.Amids.{StaysAmid, AllStayAmid};
@@ -18,7 +18,7 @@ use fjall_files::end_file;
 /// Makes the active journal where it is missing, and syncs the names in the root.
 fn settle_root<D: Disk>(disk: &mut D, active: &str) -> Result<()>
     ensures any_moment { IsTrue D.honest → (c : Contents) → Holds (state_in (D.meaning disk.old)) (Some c) → IsActiveIn c active.now
-        → LeavesOnly (D.meaning disk.old) (D.meaning disk.new) (λ image. StandsFor image (store_of c)) }
+        → LeavesOnly (D.meaning disk.old) (D.meaning disk.new) (λ image. ImageStandsFor image (store_of_contents c)) }
     ensures sound { IsTrue D.honest → (c : Contents) → Holds (state_in (D.meaning disk.old)) (Some c) → IsActiveIn c active.now
         → OnOk result ((image : Image) → IsImage (state_in (D.meaning disk.new)) image → IsOpenable image (with_active c)) }
     ensures opened { IsTrue D.honest → OnOk result (IsOpened (seen (D.meaning disk.old)) (seen (D.meaning disk.new)) active.now) }
@@ -106,9 +106,9 @@ fn end_files<D: Disk>(disk: &mut D, ends: &[FileEnd]) -> Result<()>
 }
 
 /// Takes all steps of a plan. The names come first, so that of each file that is cut one text alone may be left.
-pub(crate) fn carry_out<D: Disk>(disk: &mut D, plan: &MendPlan) -> Result<()>
+pub fn carry_out<D: Disk>(disk: &mut D, plan: &MendPlan) -> Result<()>
     ensures any_moment { IsTrue D.honest → (c : Contents) → Holds (state_in (D.meaning disk.old)) (Some c) → Suits (seen (D.meaning disk.old)) c plan.now
-        → LeavesOnly (D.meaning disk.old) (D.meaning disk.new) (λ image. StandsFor image (store_of c)) }
+        → LeavesOnly (D.meaning disk.old) (D.meaning disk.new) (λ image. ImageStandsFor image (store_of_contents c)) }
     ensures rested { IsTrue D.honest → (c : Contents) → Holds (state_in (D.meaning disk.old)) (Some c) → Suits (seen (D.meaning disk.old)) c plan.now
         → OnOk result (IsRested (state_in (D.meaning disk.new)) (with_active c)) }
     ensures elsewhere { IsTrue D.honest → (q : Name) → q ≢ string_bytes plan.now.active → All (λ file. q ≢ string_bytes file) plan.now.whole.items

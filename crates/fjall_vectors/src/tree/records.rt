@@ -5,8 +5,8 @@ use super::{
     with_other_bit,
 };
 use fjall_base::{Error, Result, StorageError};
+use fjall_manifest::{Record, read_current};
 use fjall_table::{BLOCK_BYTES, Level, TableEntry, TableInfo, read_block};
-use fjall_tree::{Record, read_current};
 use std::alloc::Global;
 use std::test::Fail;
 

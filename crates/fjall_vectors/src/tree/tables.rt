@@ -78,24 +78,12 @@ fn table_of(alloc: Global, blocks: &[Block], count: u64, value: &[u8]) -> Result
     building.finish(count)
 }
 
-/// All versions of these blocks that have the key, if one is given, and are numbered below the instant.
-fn wanted_of<'a>(
-    alloc: Global,
-    blocks: &[Block],
-    value: &'a [u8],
-    key: Option<&[u8]>,
-    instant: u64,
-) -> Result<Vec<TableEntry<'a>>> {
+/// All versions of these blocks.
+fn wanted_of<'a>(alloc: Global, blocks: &[Block], value: &'a [u8]) -> Result<Vec<TableEntry<'a>>> {
     let mut wanted = Vec::new(alloc);
     for (_, named) in blocks {
         for version in &versions_of(alloc, named, value)? {
-            let has_key = match key {
-                Some(key) => version.key == key,
-                None => true,
-            };
-            if has_key && version.number < instant {
-                wanted.push(*version)?;
-            }
+            wanted.push(*version)?;
         }
     }
     Ok(wanted)
@@ -110,20 +98,16 @@ fn info_of(bytes: &[u8], entry_count: u64) -> TableInfo {
     }
 }
 
-/// What a table answers: how many blocks, versions, and versions of a key at instant 10 it has.
-type Answers = Result<(usize, Result<usize>, Result<usize>)>;
+/// What a table answers: how many blocks and versions it has.
+type Answers = Result<(usize, Result<usize>)>;
 
 fn count_of(versions: Result<Vec<TableEntry<'_>>>) -> Result<usize> {
     Ok(versions?.len())
 }
 
-fn answers(alloc: Global, bytes: &[u8], info: TableInfo, key: &[u8]) -> Answers {
+fn answers(alloc: Global, bytes: &[u8], info: TableInfo) -> Answers {
     let table = Table::open(alloc, bytes, info)?;
-    Ok((
-        table.block_count(),
-        count_of(table.versions()),
-        count_of(table.versions_at(key, 10)),
-    ))
+    Ok((table.block_count(), count_of(table.versions())))
 }
 
 const ONE: Named = (b"a", 1, Some(1));
@@ -146,14 +130,14 @@ const MANY: &[Block] = &[
 /// more the record says than it has.
 type Given = (&'static [Block], u64, u64, u64);
 
-// A table, a key, and what is answered.
-const TABLES: &[(Given, &[u8], Answers)] = &[
-    ((SINGLE, 1, 1, 0), b"a", Ok((1, Ok(1), Ok(1)))),
-    ((MANY, 9, 9, 0), b"k", Ok((5, Ok(9), Ok(4)))),
+// A table, and what is answered.
+const TABLES: &[(Given, Answers)] = &[
+    ((SINGLE, 1, 1, 0), Ok((1, Ok(1)))),
+    ((MANY, 9, 9, 0), Ok((5, Ok(9)))),
     // Other records, and another count of entries.
-    ((SINGLE, 1, 1, 1), b"a", Err(DAMAGED)),
-    ((SINGLE, 1, 2, 0), b"a", Err(DAMAGED)),
-    ((SINGLE, 2, 2, 0), b"a", Ok((1, Err(DAMAGED), Ok(1)))),
+    ((SINGLE, 1, 1, 1), Err(DAMAGED)),
+    ((SINGLE, 1, 2, 0), Err(DAMAGED)),
+    ((SINGLE, 2, 2, 0), Ok((1, Err(DAMAGED)))),
     // The first block was closed early.
     (
         (
@@ -162,8 +146,7 @@ const TABLES: &[(Given, &[u8], Answers)] = &[
             2,
             0,
         ),
-        b"k",
-        Ok((2, Err(DAMAGED), Ok(1))),
+        Ok((2, Err(DAMAGED))),
     ),
     // The second block begins before the first one ends, though not before it begins.
     (
@@ -176,14 +159,12 @@ const TABLES: &[(Given, &[u8], Answers)] = &[
             3,
             0,
         ),
-        b"k",
-        Ok((2, Err(DAMAGED), Ok(1))),
+        Ok((2, Err(DAMAGED))),
     ),
     // The index says that the block begins with another key.
     (
         (&[(b"b", &[(b"a", 5, LONG)])], 1, 1, 0),
-        b"b",
-        Ok((1, Err(DAMAGED), Err(DAMAGED))),
+        Ok((1, Err(DAMAGED))),
     ),
     // Blocks whose first keys descend have no index.
     (
@@ -193,75 +174,38 @@ const TABLES: &[(Given, &[u8], Answers)] = &[
             2,
             0,
         ),
-        b"a",
         Err(DAMAGED),
     ),
 ];
 
 /// What the table that a row names answers, whose values are of 3,000 bytes.
-fn answers_given(alloc: Global, given: Given, key: &[u8]) -> Result<Answers> {
+fn answers_given(alloc: Global, given: Given) -> Result<Answers> {
     let (blocks, count, said, more) = given;
     let value = vec![in alloc; b'b'; 3_000]?;
     let bytes = table_of(alloc, blocks, count, &value)?;
     let mut info = info_of(&bytes, said);
     info.file_len = info.file_len.wrapping_add(more);
-    Ok(answers(alloc, &bytes, info, key))
+    Ok(answers(alloc, &bytes, info))
 }
 
-/// Of a table of one entry, the index's offset and length and the count of entries, how many handles the index has, and
-/// where the span of "a" begins and ends.
-fn parts_of(alloc: Global, bytes: &[u8]) -> Result<((u64, u64, u64), (usize, usize, usize))> {
+/// Of a table of one entry, the index's offset and length and the count of entries, and how many handles the index has.
+fn parts_of(alloc: Global, bytes: &[u8]) -> Result<((u64, u64, u64), usize)> {
     let footer = Footer::read(bytes.get(68..).unwrap_or(&[]))?;
     let index = Index::read(alloc, bytes.get(33..68).unwrap_or(&[]), 33)?;
-    let span = index.span(b"a");
     Ok((
         (footer.index_offset, footer.index_len, footer.entry_count),
-        (index.handles().len(), span.start, span.end),
+        index.handles().len(),
     ))
 }
 
-const KEYS: &[&[u8]] = &[b"", b"a", b"b", b"k", b"kk", b"l", b"m", b"z", b"zz"];
-
-/// Whether a table of these blocks answers their versions, or those of a key that are numbered below the instant.
-fn is_answered(
-    alloc: Global,
-    table: &Table<'_>,
-    blocks: &[Block],
-    value: &[u8],
-    (key, instant): (Option<&[u8]>, u64),
-) -> Result<bool> {
-    let found = match key {
-        Some(key) => table.versions_at(key, instant)?,
-        None => table.versions()?,
-    };
-    let wanted = wanted_of(alloc, blocks, value, key, instant)?;
-    Ok(are_equal(&found, &wanted))
-}
-
-/// The first key and instant at which a table answers other versions than those of these blocks.
-fn wrong_in(
-    alloc: Global,
-    table: &Table<'_>,
-    blocks: &[Block],
-    value: &[u8],
-) -> Result<Option<(usize, u64)>> {
-    for (place, &key) in KEYS.iter().enumerate() {
-        for instant in 0..11u64 {
-            if !is_answered(alloc, table, blocks, value, (Some(key), instant))? {
-                return Ok(Some((place, instant)));
-            }
-        }
-    }
-    let all = is_answered(alloc, table, blocks, value, (None, 11))?;
-    Ok(if all { None } else { Some((9, 11)) })
-}
-
-/// The first key and instant at which the table of these blocks answers other versions than theirs.
-fn wrong_answer(alloc: Global, blocks: &[Block], count: u64) -> Result<Option<(usize, u64)>> {
+/// Whether the table of these blocks answers their versions.
+fn is_answered(alloc: Global, blocks: &[Block], count: u64) -> Result<bool> {
     let value = vec![in alloc; b'b'; 3_000]?;
     let bytes = table_of(alloc, blocks, count, &value)?;
     let table = Table::open(alloc, &bytes, info_of(&bytes, count))?;
-    wrong_in(alloc, &table, blocks, &value)
+    let found = table.versions()?;
+    let wanted = wanted_of(alloc, blocks, &value)?;
+    Ok(are_equal(&found, &wanted))
 }
 
 const COUNTED: &[(&[Block], u64)] = &[(SINGLE, 1), (MANY, 9)];
@@ -275,15 +219,9 @@ fn table_of_two_blocks(alloc: Global) -> Result<Vec<u8>> {
 }
 
 /// What a table answers when the byte at this place is changed.
-fn changed_answers(
-    alloc: Global,
-    bytes: &[u8],
-    at: usize,
-    count: u64,
-    key: &[u8],
-) -> Result<Answers> {
+fn changed_answers(alloc: Global, bytes: &[u8], at: usize, count: u64) -> Result<Answers> {
     let changed = with_other_bit(alloc, bytes, at)?;
-    Ok(answers(alloc, &changed, info_of(bytes, count), key))
+    Ok(answers(alloc, &changed, info_of(bytes, count)))
 }
 
 // Handles, each of an offset, a length and a first key, and how many an index of them has before 15 bytes of blocks.
@@ -312,17 +250,13 @@ fn index_len(alloc: Global, handles: &[(u64, u64, &[u8])]) -> Result<usize> {
 
 #[test]
 fn tables_answer(rt: HostRuntime) {
-    for (row, &(given, key, wanted)) in TABLES.iter().enumerate() {
-        assert_eq!(rt;
-            answers_given(rt.alloc(), given, key),
-            Ok(wanted),
-            "row {row}"
-        );
+    for (row, &(given, wanted)) in TABLES.iter().enumerate() {
+        assert_eq!(rt; answers_given(rt.alloc(), given), Ok(wanted), "row {row}");
     }
     for &(blocks, count) in COUNTED {
         assert_eq!(rt;
-            wrong_answer(rt.alloc(), blocks, count),
-            Ok(None),
+            is_answered(rt.alloc(), blocks, count),
+            Ok(true),
             "{count} entries"
         );
     }
@@ -338,44 +272,30 @@ fn damaged_tables(rt: HostRuntime) -> std::result::Result<(), Fail> {
     for at in 0..104usize {
         let cut = bytes.get(..at).unwrap_or(&[]);
         let wanted: Answers = if at < 33 {
-            Ok((1, Err(DAMAGED), Err(DAMAGED)))
+            Ok((1, Err(DAMAGED)))
         } else {
             Err(DAMAGED)
         };
         assert_eq!(rt;
             (
-                changed_answers(alloc, &bytes, at, 1, b"a"),
-                answers(alloc, cut, info_of(cut, 1), b"a"),
+                changed_answers(alloc, &bytes, at, 1),
+                answers(alloc, cut, info_of(cut, 1)),
                 parts_of(alloc, &bytes),
                 (bytes.len(), FOOTER_LEN)
             ),
-            (
-                Ok(wanted),
-                Err(DAMAGED),
-                Ok(((33, 35, 1), (1, 0, 1))),
-                (104, 36)
-            ),
+            (Ok(wanted), Err(DAMAGED), Ok(((33, 35, 1), 1)), (104, 36)),
             "at {at}"
         );
     }
     let bytes = table_of_two_blocks(alloc)?;
     let info = info_of(&bytes, 300);
-    for i in 0..300u16 {
-        let key = i.to_be_bytes();
-        let found = if i < 241 { Ok(1) } else { Err(DAMAGED) };
-        assert_eq!(rt;
-            (
-                bytes.len(),
-                answers(alloc, &bytes, info, &key),
-                changed_answers(alloc, &bytes, 4_121, 300, &key)
-            ),
-            (
-                5_224,
-                Ok((2, Ok(300), Ok(1))),
-                Ok(Ok((2, Err(DAMAGED), found)))
-            ),
-            "{i}"
-        );
-    }
+    assert_eq!(rt;
+        (
+            bytes.len(),
+            answers(alloc, &bytes, info),
+            changed_answers(alloc, &bytes, 4_121, 300)
+        ),
+        (5_224, Ok((2, Ok(300))), Ok(Ok((2, Err(DAMAGED)))))
+    );
     Ok(())
 }

@@ -3,12 +3,12 @@ use Rattle.std.specs.Prelude.{IsOkUnless}
 use Rattle.fjall_base.specs.Pairs.{Bytes}
 use Rattle.fjall_base.specs.declared.error.Error.{Error}
 use Rattle.fjall_base.specs.declared.error.Error.TheVariants.{OutOfMemory}
-use Rattle.fjall_own.specs.Owns.{Own, wanted}
+use Rattle.fjall_tx.specs.Owns.{Own, wanted}
 use Rattle.fjall_history.specs.Queries.{Page}
 use Rattle.fjall_history.specs.declared.reply.Reply.TheVariants.{Refused}
 use Rattle.fjall_history.specs.declared.ticket.Ticket.{Ticket}
 use Rattle.fjall_history.specs.declared.ticket.View.TheVariants.{At}
-use Rattle.fjall_state.specs.Shapes.{OfRead}
+use Rattle.fjall_machine.specs.Shapes.{OfRead}
 use Rattle.fjall_core.specs.Standing.{Owes, Serves, pairs_reply}
 use Rattle.fjall_calls.specs.declared.call.Within.TheVariants as within
 use Rattle.fjall_calls.specs.Serving.{ActsOn}

@@ -1,16 +1,15 @@
 use Rattle.std.proofs.Common.{◌==◌, ◌<◌, ◌^◌, Option, Some, length, refl, sym, ap, ◌∙◌, subst}
-use Rattle.fjall_own.specs.Owns.{Own, items_of}
+use Rattle.fjall_tx.specs.Owns.{Own, items_of}
 use Rattle.fjall_history.specs.Tickets.{is_open}
 use Rattle.fjall_history.specs.declared.reply.Reply.{Reply}
 use Rattle.fjall_base.specs.declared.error.Error.TheVariants.{SnapshotClosed}
 use Rattle.fjall_history.specs.declared.reply.Reply.TheVariants.{Refused}
-use Rattle.fjall_calls.specs.Names.{Takes, is_wanted}
+use Rattle.fjall_calls.specs.Names.{Takes, is_wanted, is_of_kind}
 use Rattle.fjall_calls.specs.declared.call.TxCall.TheVariants as calls
 use Rattle.fjall_calls.specs.declared.named.Named.{Named}
 use Rattle.fjall_calls.proofs.Jobs.{one_reply_more}
 use Rattle.fjall_core.specs.Standing.{Owes, Serves}
 use Rattle.fjall_core.proofs.ServedCalls.{either_owes, either_serves}
-use Rattle.fjall_calls.specs.Names.{is_of_kind}
 use Rattle.fjall_calls.specs.Serving.{ServesTx}
 use Rattle.fjall_calls.proofs.Beginning.{unknown}
 use Rattle.fjall_calls.proofs.Ending.{commit_keeps, commit_serves, ends_chain, ends_writer, in_list, in_list_has, no_job_told, wanted_open}

@@ -5,13 +5,12 @@ use Rattle.fjall_history.specs.declared.reply.Reply.TheVariants.{Refused}
 use Rattle.fjall_calls.specs.Names.{Takes, is_wanted}
 use Rattle.fjall_calls.specs.declared.call.TxCall.TheVariants as calls
 use Rattle.fjall_calls.specs.declared.named.Named.{Named}
-use Rattle.fjall_calls.proofs.Jobs.{one_reply_more}
+use Rattle.fjall_calls.proofs.Jobs.{one_reply_more, kept_on}
 use Rattle.fjall_core.specs.Standing.{reply_of}
-use Rattle.fjall_state.specs.Shapes.{Close, OfTickets}
+use Rattle.fjall_machine.specs.Shapes.{Close, OfTickets}
 use Rattle.fjall_calls.specs.Serving.{ServesTx}
 use Rattle.fjall_calls.proofs.Beginning.{unknown}
 use Rattle.fjall_calls.proofs.Ending.{no_job_behind, rollback_serves}
-use Rattle.fjall_calls.proofs.Jobs.{kept_on}
 use Rattle.fjall_calls.proofs.ends.roll_back.Goals as goal
 
 pub returns-in_default-clause-serves : goal.returns-in_default-clause-serves

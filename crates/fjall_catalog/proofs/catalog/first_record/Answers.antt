@@ -1,6 +1,6 @@
 use Rattle.std.proofs.Common.{◌≡◌, length, None, refl, rules, arith, ap, ◌∙◌}
 use Rattle.std.proofs.lemmas.Result.{IfOk-weaker}
-use Rattle.fjall_tree.specs.Records.{record_text}
+use Rattle.fjall_manifest.specs.Records.{record_text}
 use Rattle.fjall_catalog.specs.Catalog.{fields, first_catalog}
 use Rattle.fjall_catalog.proofs.Shapes.{first_fits, first_len}
 use Rattle.fjall_catalog.proofs.catalog.first_record.Goals as goal

@@ -1,6 +1,6 @@
 use Rattle.std.proofs.Common.{◌≡◌, Err, rules}
 use Rattle.fjall_base.specs.declared.error.StorageError.TheVariants.{RecordDamaged}
-use Rattle.fjall_tree.specs.Records.{view}
+use Rattle.fjall_manifest.specs.Records.{view}
 use Rattle.fjall_table.proofs.Damages.{passed_on}
 use Rattle.fjall_catalog.proofs.Lasts.{contradiction_none, has_last}
 use Rattle.fjall_catalog.proofs.reading.last_record.Goals as goal

@@ -1,6 +1,6 @@
 use Rattle.std.proofs.Common.{◌≡◌, ◌∙◌, ℕ, Err, List, ap, codes, rules, subst, sym}
-use Rattle.fjall_base.specs.Disk.{Image, Meaning, Name, State, standing, state_in}
-use Rattle.fjall_tree.specs.Records.{IsRecords}
+use Rattle.fjall_base.specs.Disk.{DiskState, Image, Meaning, Name, standing, state_in}
+use Rattle.fjall_manifest.specs.Records.{IsRecords}
 use Rattle.fjall_meta.specs.declared.entry.MetaEntry.{MetaEntry}
 use Rattle.fjall_meta.specs.Entries.{entries_of}
 use Rattle.fjall_catalog.specs.declared.catalog.Catalog.{Catalog}
@@ -47,7 +47,7 @@ returns-in_err-entries-clause-refused g c honest =
     let has : HasLast (records_in image) d = subst (λ (l : List ℕ). HasLast l d) (c.deref.ensures.value ∙ read.is) c.in_ok-catalog.ensures.last in
     let still = (c.in_ok-bytes.ensures.same honest).state in
     let refused : IsTableRefused image d.table (m c.read.new.self).faults (m c.read_entries.new.disk).faults c.in_err-entries.field-0.0 =
-    subst (λ (state : State). IsTableRefused (standing state) d.table (m c.read.new.self).faults (m c.read_entries.new.disk).faults c.in_err-entries.field-0.0) still (c.in_err-entries.ensures.refused honest) in
+    subst (λ (state : DiskState). IsTableRefused (standing state) d.table (m c.read.new.self).faults (m c.read_entries.new.disk).faults c.in_err-entries.field-0.0) still (c.in_err-entries.ensures.refused honest) in
     rw is (Readings.table_refuses image d _ (m c.read.new.self).faults _ c.in_err-entries.field-0.0 has c.in_ok-bytes.ensures.cause.later c.in_err-entries.ensures.later refused)
 
 pub returns-in_err-entries-clause-all : goal.returns-in_err-entries-clause-all
@@ -61,7 +61,7 @@ returns-in_err-entries-clause-all g c honest records last s says =
     let same : d ≡ last = Readings.same_catalog image records d last s has says in
     let still = (c.in_ok-bytes.ensures.same honest).state in
     let refused : IsTableRefused image d.table (m c.read.new.self).faults (m c.read_entries.new.disk).faults c.in_err-entries.field-0.0 =
-    subst (λ (state : State). IsTableRefused (standing state) d.table (m c.read.new.self).faults (m c.read_entries.new.disk).faults c.in_err-entries.field-0.0) still (c.in_err-entries.ensures.refused honest) in
+    subst (λ (state : DiskState). IsTableRefused (standing state) d.table (m c.read.new.self).faults (m c.read_entries.new.disk).faults c.in_err-entries.field-0.0) still (c.in_err-entries.ensures.refused honest) in
     rw is (Readings.table_is_read image d.table (entries_of s.living) _ (m c.read.new.self).faults _ c.in_err-entries.field-0.0 (subst (λ (e : Catalog). HoldsEntries image e.table (entries_of s.living)) (sym same) (Readings.says_entries image records last s says))
     c.in_ok-bytes.ensures.cause.later c.in_err-entries.ensures.later refused)
 
@@ -73,7 +73,7 @@ returns-in_err-keyspaces-clause-refused g c honest =
     let is : c.from_residual-in_err-keyspaces.result ≡ Err c.in_err-keyspaces.field-0.0 = search rules in
     let read = Readings.current_some image c.in_ok-bytes.field-0 c.in-Some.bytes at (sym current_zero) c.in-Some.is (c.in_ok-bytes.ensures.found honest) in
     let has : HasLast (records_in image) d = subst (λ (l : List ℕ). HasLast l d) (c.deref.ensures.value ∙ read.is) c.in_ok-catalog.ensures.last in
-    let holds : HoldsEntries image d.table c.in_ok-entries.entries.items = subst (λ (state : State). HoldsEntries (standing state) d.table c.in_ok-entries.entries.items) (c.in_ok-bytes.ensures.same honest).state (c.in_ok-entries.ensures.ok honest) in
+    let holds : HoldsEntries image d.table c.in_ok-entries.entries.items = subst (λ (state : DiskState). HoldsEntries (standing state) d.table c.in_ok-entries.entries.items) (c.in_ok-bytes.ensures.same honest).state (c.in_ok-entries.ensures.ok honest) in
     rw is (Readings.pairs_refused image d c.deref-2.result.now _ _ c.in_err-keyspaces.field-0.0 has (subst (λ (l : List MetaEntry). HoldsEntries image d.table l) (sym c.deref-2.ensures.value) holds) c.in_err-keyspaces.ensures.cause)
 
 pub returns-in_err-keyspaces-clause-all : goal.returns-in_err-keyspaces-clause-all
@@ -84,7 +84,7 @@ returns-in_err-keyspaces-clause-all g c honest records last s says =
     let is : c.from_residual-in_err-keyspaces.result ≡ Err c.in_err-keyspaces.field-0.0 = search rules in
     let read = Readings.current_some image c.in_ok-bytes.field-0 c.in-Some.bytes at (sym current_zero) c.in-Some.is (c.in_ok-bytes.ensures.found honest) in
     let has : HasLast (records_in image) d = subst (λ (l : List ℕ). HasLast l d) (c.deref.ensures.value ∙ read.is) c.in_ok-catalog.ensures.last in
-    let holds : HoldsEntries image d.table c.in_ok-entries.entries.items = subst (λ (state : State). HoldsEntries (standing state) d.table c.in_ok-entries.entries.items) (c.in_ok-bytes.ensures.same honest).state (c.in_ok-entries.ensures.ok honest) in
+    let holds : HoldsEntries image d.table c.in_ok-entries.entries.items = subst (λ (state : DiskState). HoldsEntries (standing state) d.table c.in_ok-entries.entries.items) (c.in_ok-bytes.ensures.same honest).state (c.in_ok-entries.ensures.ok honest) in
     let same : d ≡ last = Readings.same_catalog image records d last s has says in
     let pairs : entries_of s.living ≡ c.deref-2.result.now = Readings.same_pairs image records d last s c.in_ok-entries.entries.items same holds says ∙ sym c.deref-2.ensures.value in
     rw is (Readings.memory_alone _ _ c.in_err-keyspaces.field-0.0 (c.in_err-keyspaces.ensures.whole s says.are (says.next ∙ ap (λ (e : Catalog). e.next_keyspace_id) (sym same)) pairs))
@@ -96,7 +96,7 @@ returns-clause-all g c honest records last s says =
     let d : Catalog = c.in_ok-catalog.field-0.catalog in
     let read = Readings.current_some image c.in_ok-bytes.field-0 c.in-Some.bytes at (sym current_zero) c.in-Some.is (c.in_ok-bytes.ensures.found honest) in
     let has : HasLast (records_in image) d = subst (λ (l : List ℕ). HasLast l d) (c.deref.ensures.value ∙ read.is) c.in_ok-catalog.ensures.last in
-    let holds : HoldsEntries image d.table c.in_ok-entries.entries.items = subst (λ (state : State). HoldsEntries (standing state) d.table c.in_ok-entries.entries.items) (c.in_ok-bytes.ensures.same honest).state (c.in_ok-entries.ensures.ok honest) in
+    let holds : HoldsEntries image d.table c.in_ok-entries.entries.items = subst (λ (state : DiskState). HoldsEntries (standing state) d.table c.in_ok-entries.entries.items) (c.in_ok-bytes.ensures.same honest).state (c.in_ok-entries.ensures.ok honest) in
     let same : d ≡ last = Readings.same_catalog image records d last s has says in
     let pairs : entries_of s.living ≡ c.deref-2.result.now = Readings.same_pairs image records d last s c.in_ok-entries.entries.items same holds says ∙ sym c.deref-2.ensures.value in
     (same, c.in_ok-keyspaces.ensures.whole s says.are (says.next ∙ ap (λ (e : Catalog). e.next_keyspace_id) (sym same)) pairs)
@@ -108,7 +108,7 @@ returns-clause-says g c honest =
     let d : Catalog = c.in_ok-catalog.field-0.catalog in
     let read = Readings.current_some image c.in_ok-bytes.field-0 c.in-Some.bytes at (sym current_zero) c.in-Some.is (c.in_ok-bytes.ensures.found honest) in
     let has : HasLast (records_in image) d = subst (λ (l : List ℕ). HasLast l d) (c.deref.ensures.value ∙ read.is) c.in_ok-catalog.ensures.last in
-    let holds : HoldsEntries image d.table c.in_ok-entries.entries.items = subst (λ (state : State). HoldsEntries (standing state) d.table c.in_ok-entries.entries.items) (c.in_ok-bytes.ensures.same honest).state (c.in_ok-entries.ensures.ok honest) in
+    let holds : HoldsEntries image d.table c.in_ok-entries.entries.items = subst (λ (state : DiskState). HoldsEntries (standing state) d.table c.in_ok-entries.entries.items) (c.in_ok-bytes.ensures.same honest).state (c.in_ok-entries.ensures.ok honest) in
     let pairs : c.in_ok-entries.entries.items ≡ entries_of c.in_ok-keyspaces.keyspaces.living = sym c.deref-2.ensures.value ∙ sym c.in_ok-keyspaces.ensures.ok in
     (has.records, Readings.said image d c.in_ok-keyspaces.keyspaces read.file has (subst (λ (l : List MetaEntry). HoldsEntries image d.table l) pairs holds) c.in_ok-keyspaces.ensures.next c.in_ok-keyspaces.ensures.lawful)
 

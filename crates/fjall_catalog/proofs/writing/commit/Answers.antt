@@ -2,7 +2,7 @@ use Rattle.std.proofs.Common.{◌≡◌, ◌∙◌, true, ap, arith, codes, sym}
 use Rattle.fjall_base.specs.Disk.{Meaning, Name, state_in}
 use Rattle.fjall_files.specs.Names.{IsNameOf, current_name, keyspace_folder}
 use Rattle.fjall_files.specs.Regions.{is_under}
-use Rattle.fjall_home.proofs.Naming as homes
+use Rattle.fjall_manifest.proofs.Naming as homes
 use Rattle.fjall_catalog.specs.Catalog.{home_of}
 use Rattle.fjall_catalog.proofs.Naming.{current_zero}
 use Rattle.fjall_catalog.proofs.Changes as Changes

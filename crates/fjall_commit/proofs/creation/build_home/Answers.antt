@@ -1,16 +1,15 @@
 use Rattle.std.proofs.Common.{codes, [], ◌∷◌, ◌∙◌, subst, inr, ap, sym}
 use Rattle.fjall_base.specs.Disk.{File, Folder, Meaning, Name, SyncFolder, Took, state_in, IsNoFolder, folder_of}
-use Rattle.fjall_files.proofs.Fitting.{folder_of-current}
+use Rattle.fjall_files.proofs.Fitting.{folder_of-current, fits_current, fits_folder}
 use Rattle.fjall_files.proofs.Made.{within_both}
 use Rattle.fjall_files.specs.Names.{keyspace_folder}
 use Rattle.fjall_recovery.proofs.Listed.{in_keyspaces}
 use Rattle.fjall_commit.proofs.ServableCreations.{can_make_home, keyspaces_there}
-use Rattle.fjall_home.proofs.Outside.{within_keyspaces}
+use Rattle.fjall_manifest.proofs.Outside.{within_keyspaces}
 use Rattle.fjall_commit.proofs.KeptHomes.{settled_others, still_others, within_others}
 use Rattle.fjall_commit.proofs.UnnamedHomes as Building
 use Rattle.fjall_files.specs.Tidy.{FitsAt}
 use Rattle.fjall_files.proofs.Tidying.{stays_both, stays_by, stays_none, stays_settling}
-use Rattle.fjall_files.proofs.Fitting.{fits_current, fits_folder}
 use Rattle.fjall_commit.proofs.creation.build_home.Goals as goal
 
 -- ---- the folder or its file wasn't written

@@ -4,7 +4,7 @@ use Rattle.fjall_base.proofs.Moments.{runs_on, weaken}
 use Rattle.fjall_files.proofs.Made.{within_both}
 use Rattle.fjall_recovery.specs.Halves.{HasTree}
 use Rattle.fjall_commit.specs.Changes.{HasEither, with_home}
-use Rattle.fjall_home.proofs.Outside.{within_keyspaces}
+use Rattle.fjall_manifest.proofs.Outside.{within_keyspaces}
 use Rattle.fjall_commit.proofs.KeptHomes.{others_both, tree_others}
 use Rattle.fjall_commit.proofs.NextKeyspaces.{next_unused, with_housed}
 use Rattle.fjall_files.proofs.Tidying.{stays_both}

@@ -1,7 +1,7 @@
 use Rattle.std.proofs.Common.{refl}
 use Rattle.fjall_base.specs.Disk.{Meaning, state_in}
 use Rattle.fjall_commit.specs.Changes.{without_home}
-use Rattle.fjall_home.proofs.Outside.{within_keyspaces}
+use Rattle.fjall_manifest.proofs.Outside.{within_keyspaces}
 use Rattle.fjall_commit.proofs.KeptHomes.{tree_others}
 use Rattle.fjall_commit.proofs.NextKeyspaces.{without_housed}
 use Rattle.fjall_commit.proofs.deletion.delete_keyspace.Goals as goal

@@ -4,7 +4,7 @@ use Rattle.fjall_base.specs.Disk.{Meaning}
 use Rattle.fjall_files.specs.declared.own.OwnFiles.{OwnFiles}
 use Rattle.fjall_files.proofs.Made.{within_none}
 use Rattle.fjall_files.proofs.Tidying.{stays_both, stays_none, stays_settling}
-use Rattle.fjall_home.proofs.Outside.{within_keyspaces}
+use Rattle.fjall_manifest.proofs.Outside.{within_keyspaces}
 use Rattle.fjall_commit.proofs.ServableCreations.{keyspaces_there}
 use Rattle.fjall_commit.proofs.UnnamedHomes as Building
 use Rattle.fjall_commit.proofs.removal.remove_keyspace.Goals as goal

@@ -1,7 +1,7 @@
 use Rattle.std.proofs.Common.{◌∙◌, sym}
 use Rattle.fjall_journal.specs.Changes.{Emptied}
-use Rattle.fjall_state.specs.Remembered.{facts_of}
-use Rattle.fjall_state.proofs.Dues.{may_change}
+use Rattle.fjall_machine.specs.Remembered.{facts_of}
+use Rattle.fjall_machine.proofs.Dues.{may_change}
 use Rattle.fjall_disk_vectors.proofs.machine.clear.Goals as goal
 
 pub clear-requires-clause-living : goal.clear-requires-clause-living

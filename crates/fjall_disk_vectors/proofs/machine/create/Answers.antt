@@ -1,7 +1,7 @@
 use Rattle.std.proofs.Common.{◌∙◌, ap, sym}
 use Rattle.std.specs.Option.{is_some}
-use Rattle.fjall_state.specs.Remembered.{facts_of}
-use Rattle.fjall_state.proofs.Dues.{may_create}
+use Rattle.fjall_machine.specs.Remembered.{facts_of}
+use Rattle.fjall_machine.proofs.Dues.{may_create}
 use Rattle.fjall_disk_vectors.proofs.machine.create.Goals as goal
 
 pub create-requires-clause-numbered : goal.create-requires-clause-numbered

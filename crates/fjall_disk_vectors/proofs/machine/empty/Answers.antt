@@ -1,7 +1,7 @@
 use Rattle.std.proofs.Common.{◌∙◌, ap}
 use Rattle.std.specs.FinMap.{get, get-empty}
 use Rattle.std.specs.Ordering.{nat_cmp}
-use Rattle.fjall_loading.specs.Known.{LastFields}
+use Rattle.fjall_recovery.specs.Known.{LastFields}
 use Rattle.fjall_disk_vectors.proofs.machine.empty.Goals as goal
 
 pub new-requires-6-clause-kept : goal.new-requires-6-clause-kept

@@ -1,7 +1,7 @@
 use Rattle.std.proofs.Common.{◌∙◌, sym}
 use Rattle.fjall_journal.specs.Changes.{Items}
-use Rattle.fjall_state.specs.Remembered.{facts_of}
-use Rattle.fjall_state.proofs.Dues.{may_change}
+use Rattle.fjall_machine.specs.Remembered.{facts_of}
+use Rattle.fjall_machine.proofs.Dues.{may_change}
 use Rattle.fjall_disk_vectors.proofs.machine.push.Goals as goal
 
 pub write-requires-clause-living : goal.write-requires-clause-living

@@ -1,8 +1,8 @@
 use Rattle.std.proofs.Common.{◌≡◌, ℕ, List, Option, Some, None, sym, subst}
 use Rattle.std.specs.declared.cmp.Ordering.TheVariants.{Less}
 use Rattle.fjall_base.specs.Pairs.{byte_order}
-use Rattle.fjall_lsm.specs.declared.tree.Tree.{Tree}
-use Rattle.fjall_lsm.specs.Shapes.{shape_of}
+use Rattle.fjall_tree.specs.declared.tree.Tree.{Tree}
+use Rattle.fjall_tree.specs.Shapes.{shape_of}
 use Rattle.fjall_disk_vectors.specs.Writes.{IsWrittenTo}
 use Rattle.fjall_disk_vectors.proofs.Writing.{absent_behind, written_to}
 use Rattle.fjall_disk_vectors.proofs.writes.write.Goals as goal

@@ -1,4 +1,4 @@
-use Rattle.fjall_lsm.specs.Shapes.{shape_of}
+use Rattle.fjall_tree.specs.Shapes.{shape_of}
 use Rattle.fjall_disk_vectors.specs.Writes.{IsWrittenTo}
 use Rattle.fjall_disk_vectors.proofs.writes.write_keys.Given as goal
 

@@ -1,5 +1,5 @@
 use Rattle.std.proofs.Common.{◌≡◌, take}
-use Rattle.fjall_sorted.specs.Pages.{barrier}
+use Rattle.fjall_memtable.specs.SortedPages.{barrier}
 use Rattle.fjall_jobs.proofs.bound.bound_of.Given as goal
 
 abbrev pub invariant-clears : goal.invariant-clears

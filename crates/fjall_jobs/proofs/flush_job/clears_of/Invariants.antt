@@ -1,6 +1,6 @@
 use Rattle.std.proofs.Common.{◌≡◌, take}
-use Rattle.fjall_parts.specs.Parts.{clears_in}
-use Rattle.fjall_parts.specs.Shares.{shared}
+use Rattle.fjall_memtable.specs.Parts.{clears_in}
+use Rattle.fjall_memtable.specs.Shares.{shared}
 use Rattle.fjall_jobs.proofs.flush_job.clears_of.Given as goal
 
 abbrev pub invariant-loop-part : goal.invariant-loop-part

@@ -1,6 +1,6 @@
 use Rattle.std.proofs.Common.{◌∙◌, ap}
-use Rattle.fjall_parts.specs.Held.{held_of}
-use Rattle.fjall_parts.specs.declared.part.Part.{Part}
+use Rattle.fjall_memtable.specs.Held.{held_of}
+use Rattle.fjall_memtable.specs.declared.part.Part.{Part}
 use Rattle.fjall_jobs.proofs.Flushing.{run_more}
 use Rattle.fjall_jobs.proofs.flush_job.memtable_runs.Goals as goal
 

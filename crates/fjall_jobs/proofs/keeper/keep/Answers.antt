@@ -1,8 +1,8 @@
 use Rattle.std.proofs.Common.{◌≡◌, ◌∙◌, List, Err, drop, false, map, ap, subst, rules}
 use Rattle.fjall_table.specs.Blocks.{Entry}
-use Rattle.fjall_sorted.specs.Sorted.{IsFirst, flat, sorted}
-use Rattle.fjall_sorted.proofs.Barriers.{used_up}
-use Rattle.fjall_sorted.proofs.Keeping.{kept_ordered}
+use Rattle.fjall_memtable.specs.Sorted.{IsFirst, flat, sorted}
+use Rattle.fjall_memtable.proofs.Barriers.{used_up}
+use Rattle.fjall_memtable.proofs.Keeping.{kept_ordered}
 use Rattle.fjall_jobs.proofs.Looping.{fewer_left, first_entry, looked_up, made_all, next_in_loop, now_keeps}
 use Rattle.fjall_jobs.proofs.keeper.keep.Goals as goal
 

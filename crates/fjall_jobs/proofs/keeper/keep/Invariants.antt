@@ -1,5 +1,5 @@
 use Rattle.std.proofs.Common.{map, length, None}
-use Rattle.fjall_sorted.specs.Sorted.{flat, sorted}
+use Rattle.fjall_memtable.specs.Sorted.{flat, sorted}
 use Rattle.fjall_jobs.specs.Keeping.{AreSorted, kept_by}
 use Rattle.fjall_jobs.proofs.Looping.{IsInLoop}
 use Rattle.fjall_jobs.proofs.keeper.keep.Given as goal

@@ -1,6 +1,6 @@
 use Rattle.std.proofs.Common.{◌≡◌, ◌∙◌, ◌+◌, ◌++◌, [], ◌∷◌, Err, false, refl, ap, rules}
-use Rattle.fjall_sorted.specs.Pages.{barrier}
-use Rattle.fjall_parts.specs.Held.{held_of}
+use Rattle.fjall_memtable.specs.SortedPages.{barrier}
+use Rattle.fjall_memtable.specs.Held.{held_of}
 use Rattle.fjall_jobs.specs.Inputs.{runs_of}
 use Rattle.fjall_jobs.proofs.Holding.{memory_flushed, seen_sorted}
 use Rattle.fjall_jobs.proofs.memory.flush_memory.Goals as goal

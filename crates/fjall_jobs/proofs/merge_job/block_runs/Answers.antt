@@ -1,5 +1,5 @@
 use Rattle.std.proofs.Common.{◌∙◌, ap}
-use Rattle.fjall_sorted.specs.Sorted.{flat}
+use Rattle.fjall_memtable.specs.Sorted.{flat}
 use Rattle.fjall_jobs.specs.Blocks.{entries_in}
 use Rattle.fjall_jobs.proofs.Merging.{table_more}
 use Rattle.fjall_jobs.proofs.merge_job.block_runs.Goals as goal

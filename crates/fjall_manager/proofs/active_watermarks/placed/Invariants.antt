@@ -1,10 +1,10 @@
 use Rattle.std.proofs.Common.{◌≡◌, ◌++◌, map}
 use Rattle.std.specs.BTreeMap.{IsOrdered}
 use Rattle.std.specs.Ordering.{nat_cmp}
-use Rattle.fjall_manager.specs.Marks.{Marks}
+use Rattle.fjall_manager.specs.Marks.{JournalMarks}
 use Rattle.fjall_manager.proofs.Placing.{place_of}
 use Rattle.fjall_manager.proofs.active_watermarks.placed.Given as goal
 
 abbrev pub invariant-loop-keyspace_id : goal.invariant-loop-keyspace_id
 invariant-loop-keyspace_id l =
-    ((seen : Marks) × (l.lsns.entries ≡ seen ++ l.keyspace_id-iterator) × (l.places.entries ≡ map place_of seen)) × IsOrdered nat_cmp l.places
+    ((seen : JournalMarks) × (l.lsns.entries ≡ seen ++ l.keyspace_id-iterator) × (l.places.entries ≡ map place_of seen)) × IsOrdered nat_cmp l.places

@@ -1,6 +1,6 @@
 use Rattle.std.proofs.Common.{◌≡◌, ◌↔◌, IsTrue, true, false, ◌∙◌, refl, sym, ap, subst, rules}
 use Rattle.fjall_base.specs.Disk.{Place}
-use Rattle.fjall_memory.specs.Memory.{entry_of, place_of, changed, Fits}
+use Rattle.fjall_memory.specs.Memory.{entry_of, place_of, changed, FitsEntry}
 use Rattle.fjall_base.proofs.Results.{on_err}
 use Rattle.fjall_memory.proofs.Names.{alter_names, same_names, found_at, none_at, never_fits}
 use Rattle.fjall_memory.proofs.node.alter_at.Goals as goal
@@ -21,7 +21,7 @@ returns-clause-ok c =
 
 pub returns-clause-fits : goal.returns-clause-fits
 returns-clause-fits c =
-    subst (λ (p : Place). IsTrue true ↔ Fits c.args.change p.now)
+    subst (λ (p : Place). IsTrue true ↔ FitsEntry c.args.change p.now)
     (ap place_of c.index_mut.ensures.value ∙ sym (found_at c.args.names.now.items c.args.name.now c.in-Some.at c.index_mut.result.now (search rules)))
     (rw c.if-not-branch.false at c.in_ok-alter.ensures.fits)
 
@@ -30,6 +30,6 @@ returns-in_default-clause-fits c = rw (none_at c.args.names.now.items c.args.nam
 
 pub returns-then-not-branch-clause-fits : goal.returns-then-not-branch-clause-fits
 returns-then-not-branch-clause-fits c =
-    subst (λ (p : Place). IsTrue false ↔ Fits c.args.change p.now)
+    subst (λ (p : Place). IsTrue false ↔ FitsEntry c.args.change p.now)
     (ap place_of c.index_mut.ensures.value ∙ sym (found_at c.args.names.now.items c.args.name.now c.in-Some.at c.index_mut.result.now (search rules)))
     (rw c.if-not-branch.true at c.in_ok-alter.ensures.fits)

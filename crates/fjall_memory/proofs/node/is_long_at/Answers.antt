@@ -1,6 +1,6 @@
 use Rattle.std.proofs.Common.{IsTrue, sym, subst, ap, rules}
 use Rattle.std.proofs.lemmas.Bool.{true≢false}
-use Rattle.fjall_base.specs.Disk.{Entry, Place, IsLong}
+use Rattle.fjall_base.specs.Disk.{DiskEntry, Place, IsLong}
 use Rattle.fjall_memory.proofs.Names.{found_at, none_at}
 use Rattle.fjall_memory.proofs.node.is_long_at.Goals as goal
 
@@ -12,4 +12,4 @@ returns-in-Some c =
 pub returns-in-None : goal.returns-in-None
 returns-in-None c =
     let none = ap (λ (p : Place). p.now) (none_at c.args.names.now c.args.name.now (search rules)) in
-    (λ no. absurd (true≢false (sym no)), λ long. absurd (subst (λ (e : Entry). IsLong c.args.len e) none long))
+    (λ no. absurd (true≢false (sym no)), λ long. absurd (subst (λ (e : DiskEntry). IsLong c.args.len e) none long))

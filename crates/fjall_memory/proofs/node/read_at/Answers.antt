@@ -1,5 +1,5 @@
 use Rattle.std.proofs.Common.{sym, subst, rules}
-use Rattle.fjall_base.specs.Disk.{Place, Reads}
+use Rattle.fjall_base.specs.Disk.{Place, ReadsFile}
 use Rattle.fjall_memory.proofs.Names.{found_at, none_at}
 use Rattle.fjall_memory.proofs.node.read_at.Goals as goal
 
@@ -7,4 +7,4 @@ pub returns-in_default : goal.returns-in_default
 returns-in_default c = rw (none_at c.args.names.now c.args.name.now (search rules)) (search rules)
 
 pub returns : goal.returns
-returns c = subst (λ (p : Place). Reads p.now c.in_ok-found.found) (sym (found_at c.args.names.now c.args.name.now c.in-Some.at c.index-names-at.result (search rules))) c.in_ok-found.ensures
+returns c = subst (λ (p : Place). ReadsFile p.now c.in_ok-found.found) (sym (found_at c.args.names.now c.args.name.now c.in-Some.at c.index-names-at.result (search rules))) c.in_ok-found.ensures

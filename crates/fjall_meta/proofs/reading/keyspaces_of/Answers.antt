@@ -3,7 +3,7 @@ use Rattle.std.proofs.lemmas.List.{take_more, map_push}
 use Rattle.std.proofs.lemmas.List.Elements.{All-push}
 use Rattle.std.proofs.lemmas.Result.{err_from_is_err_and}
 use Rattle.fjall_base.specs.declared.error.StorageError.{StorageError}
-use Rattle.fjall_options.specs.Options.{Refuses}
+use Rattle.fjall_options.specs.Options.{RefusesStored}
 use Rattle.fjall_meta.specs.declared.living.LivingKeyspace.{LivingKeyspace}
 use Rattle.fjall_meta.specs.declared.entry.MetaEntry.{MetaEntry}
 use Rattle.fjall_meta.specs.Reading.{pairs_of, own_entries, number_in, stored_keyspace, IsStored}
@@ -21,7 +21,7 @@ returns-in_err-keyspace-clause-cause c =
     let bound : id < 2 ^ 64 = (let fits = c.type_inv.ids i in omega (arith, fits)) in
     let read : stored_keyspace id (pairs_of c.own.result.now) ≡ stored_keyspace id (pairs_of entries) = ap (λ (es : List MetaEntry). stored_keyspace id (pairs_of es)) own ∙ own_keyspace id entries bound in
     let error = c.in_err-keyspace.field-0.0 in
-    let refuses : Refuses error (stored_keyspace id (pairs_of entries)) = subst (λ (r : Result (List ℕ × List (List ℕ)) StorageError). Refuses error r) read c.in_err-keyspace.ensures.cause in
+    let refuses : RefusesStored error (stored_keyspace id (pairs_of entries)) = subst (λ (r : Result (List ℕ × List (List ℕ)) StorageError). RefusesStored error r) read c.in_err-keyspace.ensures.cause in
     let p = err_from_is_err_and c.from_residual-in_err-keyspace.result c.from_residual-in_err-keyspace.ensures.1 in
     rw (p.1, p.2) (ends error ids (pairs_of entries) i c.loop-id-test.true refuses c.loop-id.invariant.fault)
 

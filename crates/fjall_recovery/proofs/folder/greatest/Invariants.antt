@@ -1,5 +1,5 @@
 use Rattle.std.proofs.Common.{◌≡◌, drop, map, max}
-use Rattle.fjall_tree.specs.Records.{view}
+use Rattle.fjall_manifest.specs.Records.{view}
 use Rattle.fjall_recovery.specs.Folders.{past, past_records}
 use Rattle.fjall_recovery.proofs.folder.greatest.Given as goal
 

@@ -8,7 +8,7 @@ use Rattle.fjall_recovery.specs.Refusals.{TailRefuses}
 use Rattle.fjall_recovery.proofs.Telling.{last_told, none_told}
 use Rattle.fjall_recovery.proofs.Gathering.{front_refuses, active_batch, active_tail, last_found}
 use Rattle.fjall_recovery.proofs.Looking.{fault_listed}
-use Rattle.fjall_versions.specs.Replays.{first_fault}
+use Rattle.fjall_contents.specs.Replays.{first_fault}
 use Rattle.fjall_recovery.proofs.journals.read_journals.Goals as goal
 
 pub returns-in_err-journals-clause-cause : goal.returns-in_err-journals-clause-cause

@@ -1,5 +1,5 @@
 use Rattle.std.proofs.Common.{[], ◌∙◌, inl, refl, lit<, arith}
-use Rattle.fjall_base.specs.Disk.{State, state_in}
+use Rattle.fjall_base.specs.Disk.{DiskState, state_in}
 use Rattle.fjall_journal.proofs.Writing.{took_none}
 use Rattle.fjall_repair.specs.Sweeps.{names_of}
 use Rattle.fjall_repair.proofs.Listings.{finds_all, finds_none, more_found, more_of, more_unnamed, unnamed_tables}
@@ -7,7 +7,7 @@ use Rattle.fjall_repair.proofs.plan.list_all_tables.Goals as goal
 
 pub loop-home-init : goal.loop-home-init
 loop-home-init g c =
-    let state : State = state_in (g.D.Disk.meaning c.args.disk.now) in
+    let state : DiskState = state_in (g.D.Disk.meaning c.args.disk.now) in
     let first = c.in_ok-names.ensures in
     let tree = c.args.tree.now in
     let names = names_of tree c.args.homes.now in
@@ -22,8 +22,8 @@ loop-home-init g c =
 
 pub loop-home-preserved : goal.loop-home-preserved
 loop-home-preserved g c =
-    let state : State = state_in (g.D.Disk.meaning c.args.disk.now) in
-    let now : State = state_in (g.D.Disk.meaning c.loop-home.disk) in
+    let state : DiskState = state_in (g.D.Disk.meaning c.args.disk.now) in
+    let now : DiskState = state_in (g.D.Disk.meaning c.loop-home.disk) in
     let so_far = c.loop-home.invariant in
     let one = c.in_ok-more.ensures in
     let homes = c.args.homes.now in

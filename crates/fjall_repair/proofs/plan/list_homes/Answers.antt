@@ -1,11 +1,11 @@
 use Rattle.std.proofs.Common.{◌≡◌, ◌⊎◌, ℕ, All, Option, [], refl, sym, ◌∙◌, ap, subst, get_or, arith}
 use Rattle.std.specs.Prelude.{IfSome, IsSome, IsTrue}
 use Rattle.std.proofs.lemmas.Bool.{true≢false}
-use Rattle.fjall_base.specs.Disk.{Meaning, State, Took, state_in}
+use Rattle.fjall_base.specs.Disk.{DiskState, Meaning, Took, state_in}
 use Rattle.fjall_journal.proofs.Writing.{took_none}
 use Rattle.fjall_files.specs.declared.own.OwnFiles.{OwnFiles}
 use Rattle.fjall_files.specs.Own.{AreOwnFiles, HoldsOnlyOwn}
-use Rattle.fjall_repair.specs.Sweeps.{FindsHomes, HasAll, IsOwnHome, IsUnnamedHome, Lives}
+use Rattle.fjall_repair.specs.Sweeps.{FindsHomes, HasAll, IsOwnHome, IsUnnamedHome, KeyspaceLives}
 use Rattle.fjall_repair.proofs.Listings.{foreign_passed, home_found, home_unnamed, homes_all, named_passed}
 use Rattle.fjall_repair.proofs.SweepServed.{has_all_of, have_all_more, own_home}
 use Rattle.fjall_repair.proofs.plan.list_homes.Goals as goal
@@ -15,13 +15,13 @@ pub loop-id-preserved : goal.loop-id-preserved
 loop-id-preserved g c = elim c.if-not-is_named.branch [
   | then-not-is_named+in_ok-home+in-Some+in_ok-push w ↦
       let m : _ → Meaning = g.D.Disk.meaning in
-      let state : State = state_in (m c.args.disk.now) in
-      let now : State = state_in (m c.loop-id.disk) in
+      let state : DiskState = state_in (m c.args.disk.now) in
+      let now : DiskState = state_in (m c.loop-id.disk) in
       let so_far = c.loop-id.invariant in
       let one = w.in_ok-home.ensures in
       let id : ℕ = get_or c.args.ids.now c.loop-id.id-index 0 in
       let home : OwnFiles = w.in-Some.home in
-      let unnamed : (id ≡ 0) ⊎ Lives c.args.living.now id → ⊥ = λ named. true≢false (sym (c.is_named.ensures.1 named) ∙ w.if-not-is_named.true) in
+      let unnamed : (id ≡ 0) ⊎ KeyspaceLives c.args.living.now id → ⊥ = λ named. true≢false (sym (c.is_named.ensures.1 named) ∙ w.if-not-is_named.true) in
       let found : IsTrue g.D.Disk.honest → AreOwnFiles now id home = λ honest. subst (λ (o : Option OwnFiles). IfSome o (AreOwnFiles now id)) w.in-Some.is (one.own honest) in
       let holds : IsTrue g.D.Disk.honest → HoldsOnlyOwn now id = λ honest. (one.exact honest).0 (subst (λ (o : Option OwnFiles). IsSome o) (sym w.in-Some.is) refl) in
       let new_is = ap (λ v. v.items) w.homes-is ∙ w.in_ok-push.ensures.items in
@@ -39,8 +39,8 @@ loop-id-preserved g c = elim c.if-not-is_named.branch [
       }
   | then-not-is_named+in_ok-home+in_default w ↦
       let m : _ → Meaning = g.D.Disk.meaning in
-      let state : State = state_in (m c.args.disk.now) in
-      let now : State = state_in (m c.loop-id.disk) in
+      let state : DiskState = state_in (m c.args.disk.now) in
+      let now : DiskState = state_in (m c.loop-id.disk) in
       let so_far = c.loop-id.invariant in
       let one = w.in_ok-home.ensures in
       let id : ℕ = get_or c.args.ids.now c.loop-id.id-index 0 in
@@ -59,8 +59,8 @@ loop-id-preserved g c = elim c.if-not-is_named.branch [
       }
   | else-not-is_named w ↦
       let m : _ → Meaning = g.D.Disk.meaning in
-      let state : State = state_in (m c.args.disk.now) in
-      let now : State = state_in (m c.loop-id.disk) in
+      let state : DiskState = state_in (m c.args.disk.now) in
+      let now : DiskState = state_in (m c.loop-id.disk) in
       let so_far = c.loop-id.invariant in
       let homes_is = ap (λ v. v.items) w.homes-is in
       let faults = so_far.later in let disk_is = ap (λ d. (m d).faults) w.disk-is in

@@ -2,7 +2,7 @@ use Rattle.std.proofs.Common.{List, Ok, arith, refl, subst, sym, ◌∙◌, map}
 use Rattle.std.specs.Prelude.{string_bytes}
 use Rattle.std.specs.List.{Contains}
 use Rattle.fjall_base.specs.Disk.{IsNoFolder, Meaning, Name, state_in}
-use Rattle.fjall_repair.specs.Sweeps.{AreGone}
+use Rattle.fjall_repair.specs.Sweeps.{NamesAreGone}
 use Rattle.fjall_repair.proofs.Removals as Removals
 use Rattle.fjall_files.proofs.Tidying.{stays_both, stays_none, stays_removing, stays_start}
 use Rattle.fjall_repair.proofs.Items.{item_has}
@@ -23,7 +23,7 @@ loop-name-preserved g c =
       removes = λ honest. Removals.both (Contains (map string_bytes names)) (m c.args.disk.now) (m c.loop-name.disk) (m c.remove.new.self) (so_far.removes honest)
           (Removals.one (Contains (map string_bytes names)) (m c.loop-name.disk) (m c.remove.new.self) c.as_str.result.now _
           (Removals.contained string_bytes names c.loop-name.name-index _ c.name-item.result c.as_str.result.now c.name-item.is c.loop-name-test.true c.as_str.ensures.value) (took.ok honest));
-      gone = λ honest. subst (λ (l : List Name). AreGone (state_in (m c.remove.new.self)) l) (sym (Removals.one_more string_bytes names c.loop-name.name-index _ c.name-item.result c.as_str.result.now c.name-item.is c.loop-name-test.true c.as_str.ensures.value))
+      gone = λ honest. subst (λ (l : List Name). NamesAreGone (state_in (m c.remove.new.self)) l) (sym (Removals.one_more string_bytes names c.loop-name.name-index _ c.name-item.result c.as_str.result.now c.name-item.is c.loop-name-test.true c.as_str.ensures.value))
           (Removals.one_gone (m c.args.disk.now) (m c.loop-name.disk) (m c.remove.new.self) _ c.as_str.result.now (so_far.gone honest) (took.kind honest) (took.ok honest));
       kinds = λ honest. stays_both (m c.args.disk.now) (m c.loop-name.disk) (m c.remove.new.self) (so_far.kinds honest) (stays_removing _ _ c.as_str.result.now _ (Ok tt) (took.ok honest) tt);
       served = λ honest kinds. (took.judged honest).served (subst (λ (n : Name). IsNoFolder (state_in (m c.loop-name.disk) n).now) (sym c.as_str.ensures.value)

@@ -2,7 +2,7 @@ use Rattle.std.proofs.Common.{All, Global, OnOk, String, get_or, map, subst, sym
 use Rattle.std.specs.List.{Contains, flat_map}
 use Rattle.std.specs.Prelude.{string_bytes}
 use Rattle.fjall_base.specs.Disk.{IsNoFolder, Meaning, state_in}
-use Rattle.fjall_repair.specs.Sweeps.{AreGone, HasAll, IsUnnamedHome, Removes, home_names}
+use Rattle.fjall_repair.specs.Sweeps.{HasAll, IsUnnamedHome, NamesAreGone, RemovesNames, home_names}
 use Rattle.fjall_repair.proofs.Planned.{spare_run, swept, within_run}
 use Rattle.fjall_repair.proofs.Removals as Removals
 use Rattle.fjall_repair.proofs.Spared.{spared, spared_run}
@@ -15,7 +15,7 @@ returns-in_err-remove_all-clause-removes g c honest =
     let m : _ → Meaning = g.D.Disk.meaning in
     let plan = c.args.plan.now in
     Removals.removes_first (map string_bytes plan.tables.items) (flat_map home_names plan.homes.items) (m c.args.disk.now) (m c.remove_all.new.disk) (m c.remove_all.new.disk)
-    (subst (λ l. Removes (Contains (map string_bytes l)) (m c.args.disk.now) (m c.remove_all.new.disk)) c.deref.ensures.value (c.in_err-remove_all.ensures.removes honest))
+    (subst (λ l. RemovesNames (Contains (map string_bytes l)) (m c.args.disk.now) (m c.remove_all.new.disk)) c.deref.ensures.value (c.in_err-remove_all.ensures.removes honest))
 
 pub returns-in_err-remove_all-clause-within : goal.returns-in_err-remove_all-clause-within
 returns-in_err-remove_all-clause-within g c honest t is = within_run _ _ c.args.plan.now _ _ is (returns-in_err-remove_all-clause-removes g c honest)
@@ -33,17 +33,17 @@ returns-clause-removes g c honest =
     let m : _ → Meaning = g.D.Disk.meaning in
     let plan = c.args.plan.now in
     Removals.removes_both (map string_bytes plan.tables.items) (flat_map home_names plan.homes.items) (m c.args.disk.now) (m c.remove_all.new.disk) (m c.remove_homes.new.disk)
-    (subst (λ l. Removes (Contains (map string_bytes l)) (m c.args.disk.now) (m c.remove_all.new.disk)) c.deref.ensures.value (c.in_ok-remove_all.ensures.removes honest))
-    (subst (λ l. Removes (Contains (flat_map home_names l)) (m c.remove_all.new.disk) (m c.remove_homes.new.disk)) c.deref-2.ensures.value (c.remove_homes.ensures.removes honest))
+    (subst (λ l. RemovesNames (Contains (map string_bytes l)) (m c.args.disk.now) (m c.remove_all.new.disk)) c.deref.ensures.value (c.in_ok-remove_all.ensures.removes honest))
+    (subst (λ l. RemovesNames (Contains (flat_map home_names l)) (m c.remove_all.new.disk) (m c.remove_homes.new.disk)) c.deref-2.ensures.value (c.remove_homes.ensures.removes honest))
 
 pub returns-clause-gone : goal.returns-clause-gone
 returns-clause-gone g c honest =
     let m : _ → Meaning = g.D.Disk.meaning in
     let plan = c.args.plan.now in
     Removals.gone_both (map string_bytes plan.tables.items) (flat_map home_names plan.homes.items) (m c.args.disk.now) (m c.remove_all.new.disk) (m c.remove_homes.new.disk) c.remove_homes.result
-    (subst (λ l. AreGone (state_in (m c.remove_all.new.disk)) (map string_bytes l)) c.deref.ensures.value (c.in_ok-remove_all.ensures.gone honest))
-    (subst (λ l. Removes (Contains (flat_map home_names l)) (m c.remove_all.new.disk) (m c.remove_homes.new.disk)) c.deref-2.ensures.value (c.remove_homes.ensures.removes honest))
-    (subst (λ l. OnOk c.remove_homes.result (AreGone (state_in (m c.remove_homes.new.disk)) (flat_map home_names l))) c.deref-2.ensures.value (c.remove_homes.ensures.gone honest))
+    (subst (λ l. NamesAreGone (state_in (m c.remove_all.new.disk)) (map string_bytes l)) c.deref.ensures.value (c.in_ok-remove_all.ensures.gone honest))
+    (subst (λ l. RemovesNames (Contains (flat_map home_names l)) (m c.remove_all.new.disk) (m c.remove_homes.new.disk)) c.deref-2.ensures.value (c.remove_homes.ensures.removes honest))
+    (subst (λ l. OnOk c.remove_homes.result (NamesAreGone (state_in (m c.remove_homes.new.disk)) (flat_map home_names l))) c.deref-2.ensures.value (c.remove_homes.ensures.gone honest))
 
 pub returns-clause-within : goal.returns-clause-within
 returns-clause-within g c honest t is = within_run _ _ c.args.plan.now _ _ is (returns-clause-removes g c honest)

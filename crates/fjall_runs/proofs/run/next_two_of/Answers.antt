@@ -1,7 +1,7 @@
 use Rattle.std.proofs.Common.{[], ◌<◌, ℕ, length, IfSome, Option, ap, map, slice_set, subst, sym, ◌≡◌, ◌∙◌}
 use Rattle.std.specs.Option.{option_map}
 use Rattle.fjall_table.specs.Blocks.{seen}
-use Rattle.fjall_sorted.specs.Sorted.{IsFirst}
+use Rattle.fjall_memtable.specs.Sorted.{IsFirst}
 use Rattle.fjall_runs.proofs.Heads.{ahead_first, alone_first, got_at, has_one, length_of, overtaken, turned}
 use Rattle.fjall_runs.proofs.run.next_two_of.Goals as goal
 

@@ -1,7 +1,7 @@
 use Rattle.std.proofs.Common.{◌≡◌, ◌-◌, ◌∙◌, ◌==◌, ap, sym, subst, arith, refl, unwrap_or, IsSome}
 use Rattle.std.proofs.lemmas.Bool.{ne_eqb}
-use Rattle.fjall_state.specs.Machine.{handles_of}
-use Rattle.fjall_state.proofs.Counting.{last_gone, map_of, one_gone, same_get}
+use Rattle.fjall_machine.specs.Machine.{handles_of}
+use Rattle.fjall_machine.proofs.Counting.{last_gone, map_of, one_gone, same_get}
 use Rattle.fjall_state.proofs.engine_state.count_less.Goals as goal
 
 pub returns-then-count-eq1 : goal.returns-then-count-eq1

@@ -1,5 +1,5 @@
 use Rattle.std.proofs.Common.{◌∙◌, ap, unwrap_or}
-use Rattle.fjall_state.proofs.Counting.{same_count}
+use Rattle.fjall_machine.proofs.Counting.{same_count}
 use Rattle.fjall_state.proofs.engine_state.count_of.Goals as goal
 
 pub returns : goal.returns

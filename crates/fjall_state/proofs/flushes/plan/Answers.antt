@@ -1,10 +1,10 @@
 use Rattle.std.proofs.Common.{◌≡◌, ℕ, List, rules, subst, sym}
 use Rattle.fjall_base.specs.declared.error.Error.TheVariants.{OutOfMemory}
-use Rattle.fjall_merge.specs.FlushPlans.{AreReadersOf, IsNamed}
+use Rattle.fjall_compaction.specs.FlushPlans.{AreReadersOf, IsNamed}
 use Rattle.fjall_jobs.specs.declared.made_table.MadeTable.{MadeTable}
 use Rattle.fjall_jobs.specs.Sequences.{AreMadeTables}
-use Rattle.fjall_state.specs.Finishing.{keyspace_of}
-use Rattle.fjall_state.proofs.Planning.{memory_ran_out}
+use Rattle.fjall_machine.specs.Finishing.{keyspace_of}
+use Rattle.fjall_machine.proofs.Planning.{memory_ran_out}
 use Rattle.fjall_state.proofs.flushes.plan.Goals as goal
 
 pub returns-in_err-readers-clause-cause : goal.returns-in_err-readers-clause-cause

@@ -1,4 +1,4 @@
-use Rattle.fjall_core.specs.Shapes.{shape_of}
+use Rattle.fjall_machine.specs.Shapes.{shape_of}
 use Rattle.fjall_transactions.proofs.Standing.{owed_stands, served_goes_on, shape_stands}
 use Rattle.fjall_transactions.proofs.laws.a_call_of_the_core_stands.Goals as goal
 

@@ -1,4 +1,4 @@
-use Rattle.fjall_serial.proofs.Serials.{checked_is_serial}
+use Rattle.fjall_history.proofs.Serials.{checked_is_serial}
 use Rattle.fjall_transactions.specs.Standing.{history_of}
 use Rattle.fjall_transactions.proofs.laws.transactions_are_serial.Goals as goal
 

@@ -1,5 +1,5 @@
 use Rattle.std.proofs.Common.{◌≡◌, ◌<◌, ◌^◌, length, Err, rules}
-use Rattle.fjall_tree.specs.Records.{body, view}
+use Rattle.fjall_manifest.specs.Records.{body, view}
 use Rattle.fjall_catalog.proofs.Shapes.{short_body}
 use Rattle.fjall_catalog.proofs.catalog.Catalog.encode.Goals as goal
 

@@ -1,6 +1,6 @@
 use Rattle.std.proofs.Common.{ap, sym, ◌∙◌}
-use Rattle.fjall_state.specs.Machine.{merge_count}
-use Rattle.fjall_state.proofs.MergeSettings.{merges_counted}
+use Rattle.fjall_machine.specs.Machine.{merge_count}
+use Rattle.fjall_machine.proofs.MergeSettings.{merges_counted}
 use Rattle.fjall_core.specs.Holding.{Held}
 use Rattle.fjall_core.proofs.engine.Core.active_compactions.Goals as goal
 

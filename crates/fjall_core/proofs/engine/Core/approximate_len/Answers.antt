@@ -1,8 +1,8 @@
 use Rattle.std.proofs.Common.{ap, sym, ◌∙◌}
 use Rattle.fjall_journal.specs.Writer.{counted}
 use Rattle.fjall_trees.specs.Tables.{shape_in}
-use Rattle.fjall_state.specs.Machine.{version_count}
-use Rattle.fjall_state.proofs.Sizes.{versions_agree}
+use Rattle.fjall_machine.specs.Machine.{version_count}
+use Rattle.fjall_machine.proofs.Sizes.{versions_agree}
 use Rattle.fjall_core.specs.Holding.{Held}
 use Rattle.fjall_core.proofs.engine.Core.approximate_len.Goals as goal
 

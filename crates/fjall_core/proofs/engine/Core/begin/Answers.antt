@@ -1,9 +1,9 @@
 use Rattle.std.proofs.Common.{◌≡◌, IsTrue, false, if◌then◌else◌, nat_lt, Err, Ok, refl, sym, ◌∙◌, ap, subst}
 use Rattle.fjall_jobs.specs.Flushes.{flush_task}
-use Rattle.fjall_lsm.specs.Jobs.{IsFlushing}
+use Rattle.fjall_tree.specs.Jobs.{IsFlushing}
 use Rattle.fjall_trees.specs.Tables.{shape_in}
-use Rattle.fjall_state.specs.Machine.{begins_flush}
-use Rattle.fjall_state.specs.Remembered.{Remembered, flush_out, poisoned}
+use Rattle.fjall_machine.specs.Machine.{begins_flush}
+use Rattle.fjall_machine.specs.Remembered.{Remembered, flush_out, poisoned}
 use Rattle.fjall_core.specs.Holding.{Held}
 use Rattle.fjall_core.specs.CallParts.{Begins, SyncsAll}
 use Rattle.fjall_core.specs.Crashes.{is_io}

@@ -2,9 +2,9 @@ use Rattle.std.proofs.Common.{◌≡◌, IfOk, IfSome, Result, Option, refl, sym
 use Rattle.fjall_base.specs.declared.error.Error.{Error}
 use Rattle.fjall_jobs.specs.declared.merge_job.MergeJob.{MergeJob}
 use Rattle.fjall_jobs.specs.Merges.{merge_task}
-use Rattle.fjall_state.specs.Machine.{merge_out}
-use Rattle.fjall_state.specs.Merging.{KnowsMerge}
-use Rattle.fjall_state.specs.Shapes.{OfMergeBegin}
+use Rattle.fjall_machine.specs.Machine.{merge_out}
+use Rattle.fjall_machine.specs.Merging.{KnowsMerge}
+use Rattle.fjall_machine.specs.Shapes.{OfMergeBegin}
 use Rattle.fjall_core.specs.Holding.{Held}
 use Rattle.fjall_core.specs.Standing.{Owes, ReadsOn, Serves, StandsFor, begins_merge_in, merge_job_reply}
 use Rattle.fjall_core.proofs.FlushBegins.{begin_due}

@@ -1,6 +1,6 @@
 use Rattle.std.proofs.Common.{IsTrue, None, sym, ◌∙◌}
 use Rattle.fjall_journal.specs.Changes.{Items}
-use Rattle.fjall_state.specs.Shapes.{ByMode, OfChange}
+use Rattle.fjall_machine.specs.Shapes.{ByMode, OfChange}
 use Rattle.fjall_core.proofs.ServedCalls.{due_owes, due_serves}
 use Rattle.fjall_core.proofs.WriteCalls.{all_live, change_owes, change_serves, found_due, no_items_owe, no_items_serve}
 use Rattle.fjall_core.proofs.engine.Core.change.Goals as goal

@@ -1,7 +1,7 @@
 use Rattle.std.proofs.Common.{List, sym, subst}
 use Rattle.fjall_journal.specs.Ops.{BatchItem}
 use Rattle.fjall_journal.specs.Changes.{Items}
-use Rattle.fjall_state.specs.Shapes.{AsKeyspace, OfChange}
+use Rattle.fjall_machine.specs.Shapes.{AsKeyspace, OfChange}
 use Rattle.fjall_core.specs.Standing.{Serves, reply_of}
 use Rattle.fjall_core.proofs.engine.Core.change_key.Goals as goal
 

@@ -1,5 +1,5 @@
 use Rattle.std.proofs.Common.{IsTrue, sym, ◌∙◌}
-use Rattle.fjall_state.specs.Shapes.{AsKeyspace, of_clear}
+use Rattle.fjall_machine.specs.Shapes.{AsKeyspace, of_clear}
 use Rattle.fjall_core.proofs.ServedCalls.{due_owes, due_serves}
 use Rattle.fjall_core.proofs.WriteCalls.{clear_due, clear_owes, clear_serves, it_lives}
 use Rattle.fjall_core.proofs.engine.Core.clear.Goals as goal

@@ -1,5 +1,5 @@
 use Rattle.std.proofs.Common.{subst}
-use Rattle.fjall_state.specs.Shapes.{Clone, OfTickets}
+use Rattle.fjall_machine.specs.Shapes.{Clone, OfTickets}
 use Rattle.fjall_core.specs.Holding.{Held}
 use Rattle.fjall_core.specs.Standing.{Owes, Serves, ticket_reply}
 use Rattle.fjall_core.proofs.TicketCalls.{cloned_owes, cloned_serves}

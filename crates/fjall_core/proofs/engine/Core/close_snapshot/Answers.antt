@@ -1,5 +1,5 @@
 use Rattle.std.proofs.Common.{subst}
-use Rattle.fjall_state.specs.Shapes.{Close, OfTickets}
+use Rattle.fjall_machine.specs.Shapes.{Close, OfTickets}
 use Rattle.fjall_core.specs.Holding.{Held}
 use Rattle.fjall_core.specs.Standing.{Owes, Serves, reply_of}
 use Rattle.fjall_core.proofs.TicketCalls.{closed_owes, closed_serves}

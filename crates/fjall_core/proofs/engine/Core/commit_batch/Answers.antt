@@ -1,7 +1,7 @@
 use Rattle.std.proofs.Common.{rules, ◌≡◌, List, refl, subst}
 use Rattle.fjall_journal.specs.Ops.{BatchItem}
 use Rattle.fjall_journal.specs.Changes.{Items}
-use Rattle.fjall_state.specs.Shapes.{ByMode, OfChange}
+use Rattle.fjall_machine.specs.Shapes.{ByMode, OfChange}
 use Rattle.fjall_core.specs.Standing.{Serves, reply_of}
 use Rattle.fjall_core.proofs.engine.Core.commit_batch.Goals as goal
 

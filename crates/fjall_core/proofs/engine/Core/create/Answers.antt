@@ -2,7 +2,7 @@ use Rattle.std.proofs.Common.{IsTrue, sym, ◌∙◌, ap, subst}
 use Rattle.std.proofs.lemmas.Result.{err_from_is_err_and}
 use Rattle.fjall_options.specs.Options.{AreOptions}
 use Rattle.fjall_base.specs.declared.error.Error.TheVariants.{OutOfMemory}
-use Rattle.fjall_state.specs.Shapes.{OfCreation}
+use Rattle.fjall_machine.specs.Shapes.{OfCreation}
 use Rattle.fjall_history.specs.declared.reply.Reply.TheVariants.{Refused}
 use Rattle.fjall_core.specs.Holding.{Held}
 use Rattle.fjall_core.specs.Standing.{Serves}

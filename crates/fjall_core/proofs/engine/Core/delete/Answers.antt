@@ -1,6 +1,6 @@
 use Rattle.std.proofs.Common.{IsTrue, ap}
 use Rattle.std.proofs.lemmas.Result.{err_from_is_err_and}
-use Rattle.fjall_state.specs.Shapes.{OfDeletion}
+use Rattle.fjall_machine.specs.Shapes.{OfDeletion}
 use Rattle.fjall_core.specs.Holding.{Held}
 use Rattle.fjall_core.proofs.ServedCalls.{memory_serves}
 use Rattle.fjall_core.proofs.Deletions.{deleted_owes, deleted_serves, deleted_whole, undeleted_owes, undeleted_serves}

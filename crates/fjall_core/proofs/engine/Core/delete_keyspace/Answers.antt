@@ -1,6 +1,6 @@
 use Rattle.std.proofs.Common.{sym, ◌∙◌, ap}
-use Rattle.fjall_state.specs.Shapes.{OfDeletion}
-use Rattle.fjall_state.specs.Machine.{is_living}
+use Rattle.fjall_machine.specs.Shapes.{OfDeletion}
+use Rattle.fjall_machine.specs.Machine.{is_living}
 use Rattle.fjall_core.specs.Holding.{Held}
 use Rattle.fjall_core.specs.Standing.{held_due, store_in}
 use Rattle.fjall_core.proofs.ServedCalls.{due_serves}

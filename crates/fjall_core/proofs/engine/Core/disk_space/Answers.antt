@@ -2,8 +2,8 @@ use Rattle.std.proofs.Common.{◌≡◌, ℕ, ◌+◌, arith, ap, sym, ◌∙◌
 use Rattle.fjall_journal.specs.Writer.{counted}
 use Rattle.fjall_manager.specs.Journals.{bytes_of}
 use Rattle.fjall_trees.specs.Tables.{shape_in}
-use Rattle.fjall_state.specs.Machine.{present, space_of, table_space, tables_space}
-use Rattle.fjall_state.proofs.Sizes.{space_agrees, spaces_agree}
+use Rattle.fjall_machine.specs.Machine.{present, space_of, table_space, tables_space}
+use Rattle.fjall_machine.proofs.Sizes.{space_agrees, spaces_agree}
 use Rattle.fjall_core.specs.Holding.{Held}
 use Rattle.fjall_core.specs.Standing.{store_in}
 use Rattle.fjall_core.proofs.engine.Core.disk_space.Goals as goal

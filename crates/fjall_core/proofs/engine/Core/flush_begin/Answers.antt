@@ -1,6 +1,6 @@
 use Rattle.std.proofs.Common.{IsTrue, Err, Ok, refl, sym, ◌∙◌, ap}
-use Rattle.fjall_state.specs.Machine.{begins_flush}
-use Rattle.fjall_state.specs.Shapes.{OfFlushBegin}
+use Rattle.fjall_machine.specs.Machine.{begins_flush}
+use Rattle.fjall_machine.specs.Shapes.{OfFlushBegin}
 use Rattle.fjall_core.specs.Holding.{Held}
 use Rattle.fjall_core.proofs.FlushBegins.{begin_due, begun_known_task, begun_owes, begun_serves, idle_owes, idle_serves}
 use Rattle.fjall_core.proofs.ServedCalls.{due_owes, due_serves}

@@ -1,6 +1,6 @@
 use Rattle.std.proofs.Common.{subst}
 use Rattle.fjall_history.specs.declared.reply.Reply.TheVariants.{Number}
-use Rattle.fjall_state.specs.Shapes.{Collect, OfTickets}
+use Rattle.fjall_machine.specs.Shapes.{Collect, OfTickets}
 use Rattle.fjall_core.specs.Holding.{Held}
 use Rattle.fjall_core.specs.Standing.{Owes, Serves}
 use Rattle.fjall_core.proofs.TicketCalls.{collected_owes, collected_serves}

@@ -1,6 +1,6 @@
 use Rattle.std.proofs.Common.{subst}
 use Rattle.fjall_history.specs.Queries.{Get}
-use Rattle.fjall_state.specs.Shapes.{OfRead}
+use Rattle.fjall_machine.specs.Shapes.{OfRead}
 use Rattle.fjall_core.specs.Holding.{Held}
 use Rattle.fjall_core.specs.Standing.{Owes, Serves, value_reply}
 use Rattle.fjall_core.proofs.ReadCalls.{Came, value_owes, value_serves}

@@ -1,13 +1,12 @@
 use Rattle.std.proofs.Common.{rules, ◌≡◌, IsTrue, Err, Result, false, true, nat_lt, refl, sym, ◌∙◌, subst}
 use Rattle.fjall_base.specs.declared.error.Error.{Error}
-use Rattle.fjall_state.specs.Remembered.{IsLawful}
-use Rattle.fjall_state.specs.Shapes.{OfIngestion}
+use Rattle.fjall_machine.specs.Remembered.{IsLawful}
+use Rattle.fjall_machine.specs.Shapes.{OfIngestion}
 use Rattle.fjall_writes.specs.Ingestions.{AreWritable, KeysAscend}
 use Rattle.fjall_core.specs.Holding.{Held}
 use Rattle.fjall_core.specs.Standing.{Owes, Serves, reply_of}
 use Rattle.fjall_core.proofs.FlushBegins.{told_long}
-use Rattle.fjall_core.proofs.IngestionRefusals.{may_go_on, may_put, no_journal_owes, no_journal_serves, no_plan_owes, no_plan_serves, nothing_owes, nothing_serves, planned_owes, planned_serves}
-use Rattle.fjall_core.proofs.IngestionRefusals.{seen_due, seen_plan, seen_refusal, told_empty, told_journals}
+use Rattle.fjall_core.proofs.IngestionRefusals.{may_go_on, may_put, no_journal_owes, no_journal_serves, no_plan_owes, no_plan_serves, nothing_owes, nothing_serves, planned_owes, planned_serves, seen_due, seen_plan, seen_refusal, told_empty, told_journals}
 use Rattle.fjall_core.proofs.ServedCalls.{due_owes, due_serves}
 use Rattle.fjall_core.proofs.engine.Core.ingest.Goals as goal
 

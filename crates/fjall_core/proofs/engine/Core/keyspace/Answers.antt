@@ -1,6 +1,6 @@
 use Rattle.std.proofs.Common.{sym, ◌∙◌, ap}
 use Rattle.fjall_meta.specs.Keyspaces.{id_of}
-use Rattle.fjall_state.specs.Shapes.{OfCreation}
+use Rattle.fjall_machine.specs.Shapes.{OfCreation}
 use Rattle.fjall_core.specs.Holding.{Held}
 use Rattle.fjall_core.specs.Standing.{held_due}
 use Rattle.fjall_core.proofs.ServedCalls.{due_serves}

@@ -1,8 +1,8 @@
 use Rattle.std.proofs.Common.{ap, sym, ◌∙◌}
 use Rattle.std.specs.List.{count_by}
-use Rattle.fjall_lsm.specs.Trees.{is_l0}
+use Rattle.fjall_tree.specs.Trees.{is_l0}
 use Rattle.fjall_trees.specs.Tables.{shape_in}
-use Rattle.fjall_state.proofs.Sizes.{l0_counts_agree}
+use Rattle.fjall_machine.proofs.Sizes.{l0_counts_agree}
 use Rattle.fjall_core.specs.Holding.{Held}
 use Rattle.fjall_core.proofs.engine.Core.l0_table_count.Goals as goal
 

@@ -1,6 +1,6 @@
 use Rattle.std.proofs.Common.{IsTrue, true, ap, sym, ◌∙◌}
 use Rattle.fjall_base.specs.declared.error.Error.TheVariants.{Poisoned}
-use Rattle.fjall_state.specs.Shapes.{OfMaintenance}
+use Rattle.fjall_machine.specs.Shapes.{OfMaintenance}
 use Rattle.fjall_core.specs.Holding.{Held}
 use Rattle.fjall_core.proofs.Evictions.{evicted_owes, evicted_serves, maintenance_due}
 use Rattle.fjall_core.proofs.ServedCalls.{due_owes, due_serves}

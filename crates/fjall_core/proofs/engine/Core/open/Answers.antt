@@ -2,7 +2,7 @@ use Rattle.std.proofs.Common.{ℕ, List, sym, subst}
 use Rattle.fjall_base.specs.Disk.{Meaning, state_in}
 use Rattle.fjall_table.specs.Blocks.{Entry}
 use Rattle.fjall_repair.specs.Sweeps.{IsSwept}
-use Rattle.fjall_state.specs.Remembered.{AreBeside, Remembered}
+use Rattle.fjall_machine.specs.Remembered.{AreBeside, Remembered}
 use Rattle.fjall_core.specs.Openings.{Opens, OpensAs, OpensOn, OpensAmid}
 use Rattle.fjall_core.specs.Standing.{store_with_tables}
 use Rattle.fjall_core.proofs.DeviceFaults.{risen_blames}

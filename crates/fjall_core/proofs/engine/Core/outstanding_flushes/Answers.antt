@@ -1,6 +1,6 @@
 use Rattle.std.proofs.Common.{ap, sym, ◌∙◌}
-use Rattle.fjall_state.specs.Machine.{flush_count}
-use Rattle.fjall_state.proofs.Sizes.{waits_agree}
+use Rattle.fjall_machine.specs.Machine.{flush_count}
+use Rattle.fjall_machine.proofs.Sizes.{waits_agree}
 use Rattle.fjall_core.specs.Holding.{Held}
 use Rattle.fjall_core.specs.Standing.{store_in}
 use Rattle.fjall_core.proofs.engine.Core.outstanding_flushes.Goals as goal

@@ -1,6 +1,6 @@
 use Rattle.std.proofs.Common.{subst}
 use Rattle.fjall_history.specs.Queries.{Page}
-use Rattle.fjall_state.specs.Shapes.{OfRead}
+use Rattle.fjall_machine.specs.Shapes.{OfRead}
 use Rattle.fjall_core.specs.Holding.{Held}
 use Rattle.fjall_core.specs.Standing.{Owes, Serves, pairs_reply}
 use Rattle.fjall_core.proofs.ReadCalls.{Came, pairs_owes, pairs_serves}

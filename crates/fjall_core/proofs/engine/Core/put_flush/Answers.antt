@@ -1,9 +1,9 @@
 use Rattle.std.proofs.Common.{◌≡◌, IsTrue, Err, Ok, true, refl, subst, sym}
 use Rattle.fjall_jobs.specs.Flushes.{flush_task}
-use Rattle.fjall_lsm.specs.Jobs.{IsFlushing}
+use Rattle.fjall_tree.specs.Jobs.{IsFlushing}
 use Rattle.fjall_trees.specs.Tables.{shape_in}
-use Rattle.fjall_state.specs.Finishing.{keyspace_of}
-use Rattle.fjall_state.specs.Machine.{is_living}
+use Rattle.fjall_machine.specs.Finishing.{keyspace_of}
+use Rattle.fjall_machine.specs.Machine.{is_living}
 use Rattle.fjall_core.specs.Holding.{Held}
 use Rattle.fjall_core.specs.CallParts.{Puts}
 use Rattle.fjall_core.specs.Standing.{store_in}

@@ -1,6 +1,6 @@
 use Rattle.std.proofs.Common.{rules, ◌≡◌, IsTrue, Err, Result, inl, inr, sym, subst}
 use Rattle.fjall_base.specs.declared.error.Error.{Error}
-use Rattle.fjall_loading.specs.Known.{last_known}
+use Rattle.fjall_recovery.specs.Known.{last_known}
 use Rattle.fjall_core.specs.CallParts.{PutsIngestion}
 use Rattle.fjall_core.proofs.PutIngestions.{may_settle, put_by}
 use Rattle.fjall_core.proofs.engine.Core.put_ingestion.Goals as goal

@@ -1,10 +1,10 @@
 -- proofs/engine/Core/put_merge/Answers.antt
 use Rattle.std.proofs.Common.{◌≡◌, IsTrue, Err, Ok, true, refl, subst, sym}
 use Rattle.fjall_jobs.specs.Merges.{merge_task}
-use Rattle.fjall_lsm.specs.Jobs.{is_merge_out}
+use Rattle.fjall_tree.specs.Jobs.{is_merge_out}
 use Rattle.fjall_trees.specs.Tables.{shape_in}
-use Rattle.fjall_state.specs.Machine.{is_living}
-use Rattle.fjall_state.specs.Merging.{keyspace_of}
+use Rattle.fjall_machine.specs.Machine.{is_living}
+use Rattle.fjall_machine.specs.Merging.{keyspace_of}
 use Rattle.fjall_core.specs.Holding.{Held}
 use Rattle.fjall_core.specs.CallParts.{PutsMerge}
 use Rattle.fjall_core.specs.Standing.{store_in}

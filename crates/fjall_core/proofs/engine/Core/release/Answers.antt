@@ -1,10 +1,10 @@
 use Rattle.std.proofs.Common.{arith, ◌≡◌, ◌⊎◌, inl, inr, true, false, IsTrue, refl, sym, ◌∙◌, ap, subst}
-use Rattle.fjall_state.specs.Shapes.{OfHandle, OneLess}
+use Rattle.fjall_machine.specs.Shapes.{OfHandle, OneLess}
 use Rattle.fjall_history.specs.declared.reply.Reply.TheVariants.{Done}
 use Rattle.fjall_core.specs.Holding.{Held}
 use Rattle.fjall_core.specs.Standing.{Serves, held_due}
 use Rattle.fjall_core.proofs.ServedCalls.{due_serves}
-use Rattle.fjall_state.specs.Remembered.{is_last, released}
+use Rattle.fjall_machine.specs.Remembered.{is_last, released}
 use Rattle.fjall_core.proofs.Releases.{counted_serves, left_by, then_serves, unremoved_owes, unremoved_serves}
 use Rattle.fjall_core.proofs.engine.Core.release.Goals as goal
 use Rattle.fjall_core.proofs.engine.Core.release.Goals.{then-not-is_last-via-then-not-is_last, then-not-is_last-via-else-not-is_last+then-is_poisoned}

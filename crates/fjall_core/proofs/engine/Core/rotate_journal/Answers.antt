@@ -1,5 +1,5 @@
 use Rattle.std.proofs.Common.{IsTrue, ◌∙◌}
-use Rattle.fjall_state.specs.Shapes.{OfJournalRotation}
+use Rattle.fjall_machine.specs.Shapes.{OfJournalRotation}
 use Rattle.fjall_core.proofs.JournalRotations.{is_numbered, journal_due, turned_owes, turned_serves}
 use Rattle.fjall_core.proofs.ServedCalls.{due_owes, due_serves}
 use Rattle.fjall_core.proofs.engine.Core.rotate_journal.Goals as goal

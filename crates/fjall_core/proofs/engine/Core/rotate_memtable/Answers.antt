@@ -1,5 +1,5 @@
 use Rattle.std.proofs.Common.{subst, ◌∙◌, refl}
-use Rattle.fjall_state.specs.Shapes.{OfRotation}
+use Rattle.fjall_machine.specs.Shapes.{OfRotation}
 use Rattle.fjall_core.specs.Holding.{Held}
 use Rattle.fjall_core.specs.Standing.{Owes, Serves, flag_reply}
 use Rattle.fjall_core.proofs.ServedCalls.{due_owes, due_serves}

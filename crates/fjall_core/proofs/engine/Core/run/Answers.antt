@@ -3,8 +3,8 @@ use Rattle.std.proofs.lemmas.List.{take_all}
 use Rattle.std.proofs.lemmas.Iterator.Adapters.{YieldsList-from_vec}
 use Rattle.std.proofs.lemmas.Iterator.Consumers.{YieldsList-end, YieldsList-turn}
 use Rattle.fjall_history.specs.declared.reply.Reply.{Reply}
-use Rattle.fjall_state.specs.Places.{resolved, resolved_all}
-use Rattle.fjall_state.specs.Shapes.{shape_of}
+use Rattle.fjall_machine.specs.Places.{resolved, resolved_all}
+use Rattle.fjall_machine.specs.Shapes.{shape_of}
 use Rattle.fjall_jobs.specs.declared.merge_job.MergeJob.{MergeJob}
 use Rattle.fjall_core.specs.Jobs.{KeepsJobs, KeepsMerges, KnowsMerges}
 use Rattle.fjall_core.specs.Standing.{Owes, OwesAll, ServesWhere}

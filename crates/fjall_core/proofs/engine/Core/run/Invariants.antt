@@ -1,5 +1,5 @@
 use Rattle.std.proofs.Common.{◌≡◌, ◌≤◌, IsTrue, length, vec_len, vec_capacity}
-use Rattle.fjall_state.specs.Machine.{State}
+use Rattle.fjall_machine.specs.Machine.{State}
 use Rattle.fjall_core.specs.Durables.{Durable}
 use Rattle.fjall_core.specs.Jobs.{KeepsJobs}
 use Rattle.fjall_core.specs.Standing.{ReadsOn, StandsFor, StandsOn, OwesAll}

@@ -3,7 +3,7 @@ use Rattle.fjall_base.specs.declared.error.Error.{Error}
 use Rattle.fjall_history.specs.declared.job.JobId.{JobId}
 use Rattle.fjall_history.specs.declared.reply.Reply.TheVariants.{Refused}
 use Rattle.fjall_jobs.specs.Flushes.{flush_task}
-use Rattle.fjall_state.specs.Shapes.{OfFlushFinish}
+use Rattle.fjall_machine.specs.Shapes.{OfFlushFinish}
 use Rattle.fjall_core.specs.Holding.{Held}
 use Rattle.fjall_core.specs.Standing.{IsDueToFinish, Owes, Serves, job_of}
 use Rattle.fjall_core.proofs.ServedCalls.{memory_owes, memory_serves}

@@ -3,9 +3,9 @@ use Rattle.fjall_base.specs.declared.error.Error.{Error}
 use Rattle.fjall_history.specs.declared.job.JobId.{JobId}
 use Rattle.fjall_history.specs.declared.reply.Reply.TheVariants.{Flag, Refused}
 use Rattle.fjall_jobs.specs.Merges.{merge_task}
-use Rattle.fjall_state.specs.Merging.{KnowsMerge}
-use Rattle.fjall_state.specs.Machine.{State}
-use Rattle.fjall_state.specs.Shapes.{OfMergeFinish}
+use Rattle.fjall_machine.specs.Merging.{KnowsMerge}
+use Rattle.fjall_machine.specs.Machine.{State}
+use Rattle.fjall_machine.specs.Shapes.{OfMergeFinish}
 use Rattle.fjall_core.specs.Holding.{Held}
 use Rattle.fjall_core.specs.Standing.{IsDueToMerge, Owes, Serves, ServesWhere, flag_reply, job_of}
 use Rattle.fjall_core.proofs.KeptMerges.{run_owes, run_serves, same_merge, serves_where}

@@ -1,6 +1,6 @@
 use Rattle.std.proofs.Common.{length, ap, sym, ◌∙◌}
 use Rattle.fjall_trees.specs.Tables.{shape_in}
-use Rattle.fjall_state.proofs.Sizes.{sealed_agree}
+use Rattle.fjall_machine.proofs.Sizes.{sealed_agree}
 use Rattle.fjall_core.specs.Holding.{Held}
 use Rattle.fjall_core.proofs.engine.Core.sealed_memtable_count.Goals as goal
 

@@ -1,9 +1,9 @@
 use Rattle.std.proofs.Common.{refl, subst, arith}
-use Rattle.fjall_state.specs.declared.call.Call.{Call}
-use Rattle.fjall_state.specs.declared.merges.MergeKind.TheVariants.{Due, Major}
-use Rattle.fjall_state.specs.Machine.{State}
-use Rattle.fjall_state.specs.Places.{resolved}
-use Rattle.fjall_state.specs.Shapes.{OfFlushBegin, OfFlushFinish, OfMergeBegin, shape_of}
+use Rattle.fjall_machine.specs.declared.call.Call.{Call}
+use Rattle.fjall_machine.specs.declared.merge_kind.MergeKind.TheVariants.{Due, Major}
+use Rattle.fjall_machine.specs.Machine.{State}
+use Rattle.fjall_machine.specs.Places.{resolved}
+use Rattle.fjall_machine.specs.Shapes.{OfFlushBegin, OfFlushFinish, OfMergeBegin, shape_of}
 use Rattle.fjall_core.specs.Jobs.{KeepsMerges, KnowsMerges}
 use Rattle.fjall_core.specs.Standing.{Owes, ServesWhere}
 use Rattle.fjall_core.proofs.KeptJobs.{finish_kept, keeps_begun, keeps_finished, keeps_merged, keeps_merging, keeps_on, merge_kept, plain_begins, plain_call}

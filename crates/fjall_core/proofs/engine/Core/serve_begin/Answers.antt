@@ -4,7 +4,7 @@ use Rattle.std.specs.Option.{IfSome}
 use Rattle.std.specs.declared.alloc.AllocFailed.{AllocFailed}
 use Rattle.fjall_jobs.specs.Flushes.{flush_task}
 use Rattle.fjall_jobs.specs.declared.flush_job.FlushJob.{FlushJob}
-use Rattle.fjall_state.specs.Remembered.{KnowsTask}
+use Rattle.fjall_machine.specs.Remembered.{KnowsTask}
 use Rattle.fjall_core.proofs.FoundJobs.{named_so}
 use Rattle.fjall_core.proofs.engine.Core.serve_begin.Goals as goal
 

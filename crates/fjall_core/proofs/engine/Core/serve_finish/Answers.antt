@@ -5,9 +5,9 @@ use Rattle.std.proofs.lemmas.Bool.{true≢false}
 use Rattle.fjall_history.specs.declared.job.JobId.{JobId}
 use Rattle.fjall_jobs.specs.declared.flush_job.FlushJob.{FlushJob}
 use Rattle.fjall_jobs.specs.Flushes.{flush_task}
-use Rattle.fjall_state.specs.Machine.{is_flushing}
-use Rattle.fjall_state.specs.Remembered.{KnowsTask}
-use Rattle.fjall_state.specs.Shapes.{OfFlushFinish}
+use Rattle.fjall_machine.specs.Machine.{is_flushing}
+use Rattle.fjall_machine.specs.Remembered.{KnowsTask}
+use Rattle.fjall_machine.specs.Shapes.{OfFlushFinish}
 use Rattle.fjall_core.specs.Holding.{Held}
 use Rattle.fjall_core.specs.Jobs.{IsGivenBack, is_kept}
 use Rattle.fjall_core.specs.Standing.{Owes, Serves}

@@ -5,9 +5,9 @@ use Rattle.fjall_history.specs.declared.job.JobId.{JobId}
 use Rattle.fjall_history.specs.declared.reply.Reply.TheVariants.{Began, Refused}
 use Rattle.fjall_jobs.specs.Merges.{merge_task}
 use Rattle.fjall_jobs.specs.declared.merge_job.MergeJob.{MergeJob}
-use Rattle.fjall_state.specs.Machine.{merge_out}
-use Rattle.fjall_state.specs.Merging.{KnowsMerge}
-use Rattle.fjall_state.specs.Shapes.{OfMergeBegin}
+use Rattle.fjall_machine.specs.Machine.{merge_out}
+use Rattle.fjall_machine.specs.Merging.{KnowsMerge}
+use Rattle.fjall_machine.specs.Shapes.{OfMergeBegin}
 use Rattle.fjall_core.specs.Jobs.{KeepsMerges}
 use Rattle.fjall_core.proofs.FoundJobs.{named_so}
 use Rattle.fjall_core.proofs.KeptMerges.{begun_known, merges_stay}

@@ -6,9 +6,9 @@ use Rattle.fjall_history.specs.declared.job.JobId.{JobId}
 use Rattle.fjall_history.specs.declared.reply.Reply.TheVariants.{Flag}
 use Rattle.fjall_jobs.specs.declared.merge_job.MergeJob.{MergeJob}
 use Rattle.fjall_jobs.specs.Merges.{merge_task}
-use Rattle.fjall_state.specs.Machine.{State, is_merging}
-use Rattle.fjall_state.specs.Merging.{KnowsMerge}
-use Rattle.fjall_state.specs.Shapes.{OfMergeFinish}
+use Rattle.fjall_machine.specs.Machine.{State, is_merging}
+use Rattle.fjall_machine.specs.Merging.{KnowsMerge}
+use Rattle.fjall_machine.specs.Shapes.{OfMergeFinish}
 use Rattle.fjall_core.specs.Holding.{Held}
 use Rattle.fjall_core.specs.Jobs.{IsMergeGivenBack, KnowsMerges, is_merge_kept}
 use Rattle.fjall_core.specs.Standing.{Owes, ServesWhere, job_of}

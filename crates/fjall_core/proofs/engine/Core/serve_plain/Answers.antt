@@ -1,6 +1,6 @@
 use Rattle.std.proofs.Common.{ap}
 use Rattle.fjall_history.specs.declared.reply.Reply.TheVariants.{Flag, Number}
-use Rattle.fjall_state.specs.Shapes.{DiskSpace, Entries, Flushes, JournalSpace, Journals, Keyspaces, MergesDone, MergesOut, Next, OpenTickets, SealedMemtables, Tables, TablesL0, Visible, WantsRotation, WriteBuffer, shape_of}
+use Rattle.fjall_machine.specs.Shapes.{DiskSpace, Entries, Flushes, JournalSpace, Journals, Keyspaces, MergesDone, MergesOut, Next, OpenTickets, SealedMemtables, Tables, TablesL0, Visible, WantsRotation, WriteBuffer, shape_of}
 use Rattle.fjall_core.proofs.CallsInMemory.{flag_owes, flag_serves, number_owes, number_serves}
 use Rattle.fjall_core.proofs.engine.Core.serve_plain.Goals as goal
 

@@ -1,11 +1,11 @@
 use Rattle.std.proofs.Common.{◌≡◌, ◌⊎◌, inl, inr, false, true, sym, ◌∙◌, ap, subst}
 use Rattle.fjall_base.specs.declared.error.Error.TheVariants.{Poisoned}
 use Rattle.fjall_history.specs.declared.reply.Reply.TheVariants.{Flag, Refused}
-use Rattle.fjall_lsm.specs.Ingestions.{is_flush_due}
+use Rattle.fjall_tree.specs.Ingestions.{is_flush_due}
 use Rattle.fjall_trees.specs.Tables.{shape_in}
-use Rattle.fjall_state.specs.Machine.{is_flushing, is_living}
-use Rattle.fjall_state.specs.Remembered.{Remembered, flush_gone}
-use Rattle.fjall_state.specs.Shapes.{OfFlushFinish}
+use Rattle.fjall_machine.specs.Machine.{is_flushing, is_living}
+use Rattle.fjall_machine.specs.Remembered.{Remembered, flush_gone}
+use Rattle.fjall_machine.specs.Shapes.{OfFlushFinish}
 use Rattle.fjall_core.specs.Holding.{Held}
 use Rattle.fjall_core.specs.Standing.{Owes, Serves, store_in}
 use Rattle.fjall_core.proofs.FinishedFlushes.{gone_owes, gone_serves, late_owes, late_serves, stale_owes, stale_serves, takes_is, takes_none}

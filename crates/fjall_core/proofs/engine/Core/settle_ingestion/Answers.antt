@@ -1,6 +1,6 @@
 use Rattle.std.proofs.Common.{◌≡◌, IsTrue, Err, Ok, ◌∙◌, ap, subst}
-use Rattle.fjall_state.specs.Ingesting.{with_tables}
-use Rattle.fjall_state.specs.Remembered.{Remembered}
+use Rattle.fjall_machine.specs.Ingesting.{with_tables}
+use Rattle.fjall_machine.specs.Remembered.{Remembered}
 use Rattle.fjall_core.specs.Holding.{Held}
 use Rattle.fjall_core.specs.CallParts.{Evicts, SettlesIngestion}
 use Rattle.fjall_core.proofs.IngestionSettles.{back_in_memory, record_there}

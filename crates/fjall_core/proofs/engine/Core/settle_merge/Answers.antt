@@ -1,9 +1,9 @@
 use Rattle.std.proofs.Common.{◌≡◌, Bool, true, IsTrue, Result, rules, subst, sym, Ok, Err}
 use Rattle.fjall_base.specs.declared.error.Error.{Error}
 use Rattle.fjall_jobs.specs.Merges.{merge_task}
-use Rattle.fjall_state.specs.Merging.{KnowsMerge}
+use Rattle.fjall_machine.specs.Merging.{KnowsMerge}
 use Rattle.fjall_history.specs.declared.job.JobId.{JobId}
-use Rattle.fjall_state.specs.Shapes.{OfMergeFinish}
+use Rattle.fjall_machine.specs.Shapes.{OfMergeFinish}
 use Rattle.fjall_core.specs.Holding.{Held}
 use Rattle.fjall_core.specs.Standing.{Owes, ServesWhere, flag_reply}
 use Rattle.fjall_core.proofs.FinishedMerges.{finished_owes, finished_serves, finishing}

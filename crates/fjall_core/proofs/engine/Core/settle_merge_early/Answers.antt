@@ -1,9 +1,9 @@
 use Rattle.std.proofs.Common.{◌≡◌, false, true, sym, ◌∙◌, ap, subst}
 use Rattle.fjall_base.specs.declared.error.Error.TheVariants.{Poisoned}
 use Rattle.fjall_history.specs.declared.reply.Reply.TheVariants.{Flag, Refused}
-use Rattle.fjall_state.specs.Machine.{is_merging}
-use Rattle.fjall_state.specs.Remembered.{Remembered}
-use Rattle.fjall_state.specs.Shapes.{OfMergeFinish}
+use Rattle.fjall_machine.specs.Machine.{is_merging}
+use Rattle.fjall_machine.specs.Remembered.{Remembered}
+use Rattle.fjall_machine.specs.Shapes.{OfMergeFinish}
 use Rattle.fjall_core.specs.Holding.{Held}
 use Rattle.fjall_core.specs.Standing.{IsDueToMerge, Owes, Serves}
 use Rattle.fjall_core.proofs.FinishedMerges.{gone_owes, gone_serves, late_owes, late_serves, stale_owes, stale_serves}

@@ -1,5 +1,5 @@
 use Rattle.std.proofs.Common.{subst}
-use Rattle.fjall_state.specs.Shapes.{OfTickets, Open}
+use Rattle.fjall_machine.specs.Shapes.{OfTickets, Open}
 use Rattle.fjall_core.specs.Holding.{Held}
 use Rattle.fjall_core.specs.Standing.{Owes, Serves, ticket_reply}
 use Rattle.fjall_core.proofs.TicketCalls.{opened_owes, opened_serves}

@@ -1,6 +1,6 @@
 use Rattle.std.proofs.Common.{length, ap, sym, ◌∙◌}
 use Rattle.fjall_trees.specs.Tables.{shape_in}
-use Rattle.fjall_state.proofs.Sizes.{table_counts_agree}
+use Rattle.fjall_machine.proofs.Sizes.{table_counts_agree}
 use Rattle.fjall_core.specs.Holding.{Held}
 use Rattle.fjall_core.proofs.engine.Core.table_count.Goals as goal
 

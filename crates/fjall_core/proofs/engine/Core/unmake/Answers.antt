@@ -2,7 +2,7 @@ use Rattle.std.proofs.Common.{IsTrue, Result, Ok, Err, refl, subst, sym, ◌∙�
 use Rattle.std.proofs.lemmas.Result.{err_from_is_err_and}
 use Rattle.fjall_base.specs.declared.error.Error.{Error}
 use Rattle.fjall_meta.specs.Keyspaces.{without_keyspace}
-use Rattle.fjall_state.specs.Remembered.{IsLawful}
+use Rattle.fjall_machine.specs.Remembered.{IsLawful}
 use Rattle.fjall_core.specs.Holding.{Held}
 use Rattle.fjall_core.specs.CallParts.{Unmakes}
 use Rattle.fjall_core.proofs.PartOutcomes.{unmake_done, unmake_failed}

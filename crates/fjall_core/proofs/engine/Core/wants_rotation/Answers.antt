@@ -1,6 +1,6 @@
 use Rattle.std.proofs.Common.{ap, sym, ◌∙◌}
-use Rattle.fjall_state.specs.Machine.{wants_rotation}
-use Rattle.fjall_state.proofs.Sizes.{wants_agree}
+use Rattle.fjall_machine.specs.Machine.{wants_rotation}
+use Rattle.fjall_machine.proofs.Sizes.{wants_agree}
 use Rattle.fjall_core.specs.Holding.{Held}
 use Rattle.fjall_core.specs.Standing.{store_in}
 use Rattle.fjall_core.proofs.engine.Core.wants_rotation.Goals as goal

@@ -1,7 +1,7 @@
 use Rattle.std.proofs.Common.{ap, sym, ◌∙◌}
 use Rattle.fjall_journal.specs.Writer.{counted}
-use Rattle.fjall_state.specs.Machine.{buffer_size}
-use Rattle.fjall_state.proofs.Sizes.{buffers_agree}
+use Rattle.fjall_machine.specs.Machine.{buffer_size}
+use Rattle.fjall_machine.proofs.Sizes.{buffers_agree}
 use Rattle.fjall_core.specs.Holding.{Held}
 use Rattle.fjall_core.specs.Standing.{store_in}
 use Rattle.fjall_core.proofs.engine.Core.write_buffer_size.Goals as goal

@@ -1,5 +1,5 @@
 use Rattle.std.proofs.Common.{IsTrue, Err, Ok, refl, subst, sym}
-use Rattle.fjall_state.specs.Remembered.{Remembered}
+use Rattle.fjall_machine.specs.Remembered.{Remembered}
 use Rattle.fjall_core.specs.Holding.{Held}
 use Rattle.fjall_core.specs.CallParts.{WritesIngestion}
 use Rattle.fjall_core.proofs.IngestionWrites.{write_failed}

@@ -1,7 +1,7 @@
 use Rattle.std.proofs.Common.{◌∙◌, ap, subst, sym}
 use Rattle.std.specs.FinMap.{from_entries}
 use Rattle.std.specs.Ordering.{nat_cmp}
-use Rattle.fjall_meta.specs.Trackers.{after_raise, fresh_tracker}
+use Rattle.fjall_history.specs.Trackers.{after_raise, fresh_tracker}
 use Rattle.fjall_history.specs.Tickets.{AreTracked}
 use Rattle.fjall_history.proofs.Tracking.{tracked_fresh}
 use Rattle.fjall_history.proofs.tickets.Tickets.new.Goals as goal

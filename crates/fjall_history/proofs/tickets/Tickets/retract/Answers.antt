@@ -1,6 +1,6 @@
 use Rattle.std.proofs.Common.{◌<◌, All, subst, sym}
 use Rattle.std.specs.FinMap.{values}
-use Rattle.fjall_meta.specs.Trackers.{IsSoundTracker, Tracker}
+use Rattle.fjall_history.specs.Trackers.{IsSoundTracker, Tracker}
 use Rattle.fjall_history.specs.Tickets.{AreTracked, Tracked}
 use Rattle.fjall_history.proofs.Maps.{map_of}
 use Rattle.fjall_history.proofs.Values.{of_tracker, tracked_retracted}

@@ -1,6 +1,6 @@
 use Rattle.std.proofs.Common.{◌≡◌, ◌∙◌, ◌++◌, ℕ, List, Some, Err, ap, sym, rules}
 use Rattle.fjall_table.specs.Blocks.{Entry, seen}
-use Rattle.fjall_sorted.specs.Sorted.{flat}
+use Rattle.fjall_memtable.specs.Sorted.{flat}
 use Rattle.fjall_jobs.specs.Keeping.{before_of, kept_by}
 use Rattle.fjall_jobs.proofs.Keeping.{by_stamp}
 use Rattle.fjall_jobs.proofs.keeper.Keeper.take.Goals as goal

@@ -1,7 +1,7 @@
 use Rattle.std.proofs.Common.{◌≡◌, ◌∙◌, ℕ, List, true, sym, subst}
 use Rattle.fjall_table.specs.Blocks.{seen}
-use Rattle.fjall_sorted.specs.Kept.{is_kept}
-use Rattle.fjall_sorted.specs.Sorted.{flat}
+use Rattle.fjall_memtable.specs.Kept.{is_kept}
+use Rattle.fjall_memtable.specs.Sorted.{flat}
 use Rattle.fjall_jobs.specs.Keeping.{before_of}
 use Rattle.fjall_jobs.proofs.Keeping.{kept_follows}
 use Rattle.fjall_jobs.proofs.keeper.Keeper.write.Goals as goal

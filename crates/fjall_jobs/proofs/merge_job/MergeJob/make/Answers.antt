@@ -1,12 +1,12 @@
 use Rattle.std.proofs.Common.{◌≡◌, ◌∙◌, ◌+◌, List, Err, None, Some, true, refl, ap, subst, sym, rules}
 use Rattle.fjall_table.specs.Blocks.{Entry}
 use Rattle.fjall_views.specs.Jobs.{merged_clears}
-use Rattle.fjall_sorted.specs.Pages.{barrier}
-use Rattle.fjall_sorted.specs.Sorted.{flat, sorted}
+use Rattle.fjall_memtable.specs.SortedPages.{barrier}
+use Rattle.fjall_memtable.specs.Sorted.{flat, sorted}
 use Rattle.fjall_jobs.specs.Keeping.{AreSorted, kept_by}
 use Rattle.fjall_jobs.specs.MergeInputs.{table_runs}
 use Rattle.fjall_jobs.specs.Merges.{merge_task}
-use Rattle.fjall_jobs.specs.Sequences.{Makes}
+use Rattle.fjall_jobs.specs.Sequences.{MakesTables}
 use Rattle.fjall_jobs.proofs.Keeping.{same_runs}
 use Rattle.fjall_jobs.proofs.Merging.{merged_is}
 use Rattle.fjall_jobs.proofs.merge_job.MergeJob.make.Goals as goal
@@ -26,5 +26,5 @@ returns-clause-made c are =
     merged_is job.target (merge_task job) (record { watermark = job.watermark; bound = c.bound_of-bound.result; spends = true }) c.in_ok-tables.tables.items c.in_ok-clears.clears.items are refl refl
     (c.bound_of-bound.ensures ∙ ap (barrier (job.watermark + 1)) c.as_slice-2.ensures.value)
     (c.in_ok-clears.ensures.clears ∙ ap (merged_clears job.watermark) c.as_slice.ensures.value)
-    (subst (λ (rs : List (List Entry)). Makes (Some job.target) c.in_ok-tables.tables.items (kept_by (record { watermark = job.watermark; bound = c.bound_of-bound.result; spends = true }) None (sorted (flat rs)))) is
+    (subst (λ (rs : List (List Entry)). MakesTables (Some job.target) c.in_ok-tables.tables.items (kept_by (record { watermark = job.watermark; bound = c.bound_of-bound.result; spends = true }) None (sorted (flat rs)))) is
     (c.in_ok-tables.ensures.made (subst AreSorted (sym is) are)))

@@ -3,7 +3,7 @@ use Rattle.std.specs.Prelude.{Some}
 use Rattle.std.specs.BTreeMap.{is_at}
 use Rattle.std.specs.Map.{set_value}
 use Rattle.std.specs.Ordering.{nat_cmp}
-use Rattle.fjall_manager.specs.Places.{HasPlace, Places, raising, told}
+use Rattle.fjall_manager.specs.Places.{HasPlace, JournalPlaces, raising, told}
 use Rattle.fjall_manager.proofs.Placing.{lacking, told_raised}
 use Rattle.fjall_manager.specs.declared.active_watermarks.ActiveWatermarks.TheInside.{Inside}
 use Rattle.fjall_manager.proofs.active_watermarks.ActiveWatermarks.raise.Goals.{in-Some, in_default}
@@ -21,6 +21,6 @@ returns-clause-raised c =
           ∙ ap told (c.get_mut.follows.holds (Some w.max.result)).0
           ∙ ap (λ n. told (set_value (is_at (nat_cmp id)) places (Some n))) value
           ∙ told_raised id c.args.lsn old places c.self.invariant (sym w.in-Some.ensures.value)
-          ∙ ap (λ (l : Places). raising c.args.lsn id (told l)) c.self.view_is
-      | in_default w ↦ lacking _ w.in_default.ensures.value (subst (λ (l : Places). HasPlace l id) (sym c.self.view_is) c.requires.place)
+          ∙ ap (λ (l : JournalPlaces). raising c.args.lsn id (told l)) c.self.view_is
+      | in_default w ↦ lacking _ w.in_default.ensures.value (subst (λ (l : JournalPlaces). HasPlace l id) (sym c.self.view_is) c.requires.place)
     ]

@@ -1,11 +1,11 @@
 use Rattle.std.proofs.Common.{ℕ, ap, sym, ◌∙◌, List, slice_get}
 use Rattle.fjall_table.specs.Blocks.{Entry}
 use Rattle.fjall_table.specs.Tables.{versions_at}
-use Rattle.fjall_memtable.specs.Entries.{entries_of}
+use Rattle.fjall_memtable.specs.Entries.{entries_kept}
 use Rattle.fjall_memtable.proofs.Finds.{none_at_zero}
 use Rattle.fjall_memtable.proofs.memtable.Memtable.get_at.Goals as goal
 
 pub returns-then-instant-eq0 : goal.returns-then-instant-eq0
 returns-then-instant-eq0 c =
-    let es = entries_of c.args.self.now in
+    let es = entries_kept c.args.self.now in
     sym (ap (λ (n : ℕ). slice_get (versions_at c.args.key.now n es) 0) c.if-instant-eq0.true ∙ ap (λ (xs : List Entry). slice_get xs 0) (none_at_zero c.args.key.now es))

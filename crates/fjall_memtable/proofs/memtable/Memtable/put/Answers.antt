@@ -1,6 +1,6 @@
 use Rattle.std.proofs.Common.{ℕ, ap, sym, ◌∙◌, length, List, ◌++◌, arith, rules, refl, not, is_some, Option, Some, None, if◌then◌else◌}
 use Rattle.fjall_memtable.specs.declared.place.Place.{Place}
-use Rattle.fjall_memtable.specs.Entries.{inserted, entries_of}
+use Rattle.fjall_memtable.specs.Entries.{entries_kept, inserted}
 use Rattle.fjall_memtable.proofs.Absents.{apart_unfound, told_by}
 use Rattle.fjall_memtable.proofs.Texts.{IsNext}
 use Rattle.fjall_memtable.proofs.Puts.{when_ok, IsPut, put_all, put_entries, put_marks}
@@ -47,7 +47,7 @@ returns-clause-new c = λ made.
     let first = c.in_ok-extend_from_slice.ensures.items ∙ ap (λ (x : List ℕ). x ++ c.args.key.now) kept in
     let put : IsPut t c.args.key.now c.args.bytes.now s p es c.extend_from_slice-2.new.self.items _ = record { all = m.all; apart = apart_unfound s es (rw c.in-Vacant.is at c.in_ok-vacant.ensures.found); next = next; text = c.in_ok-extend_from_slice-2.ensures.items ∙ ap (λ (x : List ℕ). x ++ c.args.bytes.now) first; entries = search rules } in
     put_entries t c.args.key.now c.args.bytes.now s p es c.extend_from_slice-2.new.self.items _ put
-    ∙ (λ i. inserted (record { key = c.in_ok-version_key.ensures.key i; number = number i; value = if c.args.is_value then Some c.args.bytes.now else None }) (entries_of m))
+    ∙ (λ i. inserted (record { key = c.in_ok-version_key.ensures.key i; number = number i; value = if c.args.is_value then Some c.args.bytes.now else None }) (entries_kept m))
 
 pub returns-clause-marks : goal.returns-clause-marks
 returns-clause-marks c =

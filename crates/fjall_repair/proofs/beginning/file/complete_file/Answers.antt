@@ -1,5 +1,5 @@
 use Rattle.std.proofs.Common.{[], Ok, ap, refl, subst, ◌∙◌, inl}
-use Rattle.fjall_base.specs.Disk.{Entry, File, Meaning, state_in}
+use Rattle.fjall_base.specs.Disk.{DiskEntry, File, Meaning, state_in}
 use Rattle.fjall_files.specs.Texts.{text_in}
 use Rattle.fjall_repair.specs.Plans.{IsFound}
 use Rattle.fjall_repair.proofs.Filled.{emptied, made_text, synced_whole}
@@ -65,7 +65,7 @@ returns-in_ok-cut_sync-in-Other-clause-goes g c honest marking can is =
     let cut = c.in_ok-cut_sync-in-Other.ensures in
     goes_both marking (m c.args.disk.now) (m c.cut_sync.new.self) (m c.fill-in-Other.new.disk)
     (goes_cut marking _ _ name can.no_table 0 (either_cut name 0 _ _ (Ok tt) (cut.ok honest) tt))
-    (c.fill-in-Other.ensures.goes honest marking can (ap (λ (e : Entry). text_in e) (emptied name (m c.args.disk.now) (m c.cut_sync.new.self) (Ok tt) (cut.long honest) (cut.ok honest))))
+    (c.fill-in-Other.ensures.goes honest marking can (ap (λ (e : DiskEntry). text_in e) (emptied name (m c.args.disk.now) (m c.cut_sync.new.self) (Ok tt) (cut.long honest) (cut.ok honest))))
 
 pub returns-in_ok-cut_sync-in-Other-clause-stays : goal.returns-in_ok-cut_sync-in-Other-clause-stays
 returns-in_ok-cut_sync-in-Other-clause-stays g c honest =
@@ -78,7 +78,7 @@ returns-in_ok-cut_sync-in-Other-clause-filled g c honest is =
     let m : _ → Meaning = g.D.Disk.meaning in
     let name = c.args.name.now in
     let cut = c.in_ok-cut_sync-in-Other.ensures in
-    c.fill-in-Other.ensures.filled honest (ap (λ (e : Entry). text_in e) (emptied name (m c.args.disk.now) (m c.cut_sync.new.self) (Ok tt) (cut.long honest) (cut.ok honest)))
+    c.fill-in-Other.ensures.filled honest (ap (λ (e : DiskEntry). text_in e) (emptied name (m c.args.disk.now) (m c.cut_sync.new.self) (Ok tt) (cut.long honest) (cut.ok honest)))
 
 pub returns-in-Whole-clause-older : goal.returns-in-Whole-clause-older
 returns-in-Whole-clause-older g c honest = inl (sync_older _ _ c.args.name.now (either_sync c.args.name.now _ _ c.sync.result (c.sync.ensures.ok honest) (c.sync.ensures.err honest)))

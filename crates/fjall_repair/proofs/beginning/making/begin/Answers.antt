@@ -1,5 +1,5 @@
 use Rattle.std.proofs.Common.{sym, subst, ◌∙◌}
-use Rattle.fjall_base.specs.Disk.{Entry, Meaning, standing, state_in}
+use Rattle.fjall_base.specs.Disk.{DiskEntry, Meaning, standing, state_in}
 use Rattle.fjall_base.specs.declared.error.FormatVersion.TheVariants.{V3}
 use Rattle.fjall_files.specs.Texts.{text_in}
 use Rattle.fjall_files.specs.Marker.{header}
@@ -23,14 +23,14 @@ returns-clause-any_moment g c honest fits back =
     let kept = comes_back_kept (state_in (m c.args.disk.now)) back in
     let done = c.in_ok-prepare.ensures in
     let mid = m c.prepare.new.disk in
-    let found = subst (λ (e : Entry). IsFound c.args.plan.now.marker (header V3) (text_in e)) (sym (done.marker honest fits)) fits.marker in
+    let found = subst (λ (e : DiskEntry). IsFound c.args.plan.now.marker (header V3) (text_in e)) (sym (done.marker honest fits)) fits.marker in
     then_done (m c.args.disk.now) mid (m c.mark.new.disk) (before (m c.args.disk.now) mid kept (done.goes honest fits))
     (c.mark.ensures.any_moment honest (c.deref.ensures.value ∙ fits.header_is) found (kept_more (state_in mid) ((done.goes honest fits).kept kept)) c.args.plan.now.sealed.items c.args.plan.now.active (done.awaits honest fits kept.now))
 
 pub returns-clause-ok : goal.returns-clause-ok
 returns-clause-ok g c honest fits unfinished =
     let done = c.in_ok-prepare.ensures in
-    let found = subst (λ (e : Entry). IsFound c.args.plan.now.marker (header V3) (text_in e)) (sym (done.marker honest fits)) fits.marker in
+    let found = subst (λ (e : DiskEntry). IsFound c.args.plan.now.marker (header V3) (text_in e)) (sym (done.marker honest fits)) fits.marker in
     c.mark.ensures.begun honest (c.deref.ensures.value ∙ fits.header_is) found c.args.plan.now.sealed.items c.args.plan.now.active (done.awaits honest fits (making_of (standing (state_in (g.D.Disk.meaning c.args.disk.now))) unfinished))
 
 pub returns-in_err-prepare-clause-back : goal.returns-in_err-prepare-clause-back
@@ -49,7 +49,7 @@ returns-clause-back g c honest fits back begun =
     let m : _ → Meaning = g.D.Disk.meaning in
     let kept = comes_back_kept (state_in (m c.args.disk.now)) back in
     let done = c.in_ok-prepare.ensures in
-    let found = subst (λ (e : Entry). IsFound c.args.plan.now.marker (header V3) (text_in e)) (sym (done.marker honest fits)) fits.marker in
+    let found = subst (λ (e : DiskEntry). IsFound c.args.plan.now.marker (header V3) (text_in e)) (sym (done.marker honest fits)) fits.marker in
     c.mark.ensures.back honest (c.deref.ensures.value ∙ fits.header_is) found ((done.goes honest fits).kept kept) begun
 
 pub returns-clause-journal : goal.returns-clause-journal
@@ -73,5 +73,5 @@ pub returns-clause-served : goal.returns-clause-served
 returns-clause-served g c honest tidy fits =
     let m : _ → Meaning = g.D.Disk.meaning in
     let done = c.in_ok-prepare.ensures in
-    c.mark.ensures.served honest (tidy_on (m c.args.disk.now) (m c.prepare.new.disk) (done.kinds honest fits) tidy) (c.deref.ensures.value ∙ fits.header_is) (subst (λ (e : Entry). IsFound c.args.plan.now.marker (header V3) (text_in e)) (sym (done.marker honest fits)) fits.marker)
+    c.mark.ensures.served honest (tidy_on (m c.args.disk.now) (m c.prepare.new.disk) (done.kinds honest fits) tidy) (c.deref.ensures.value ∙ fits.header_is) (subst (λ (e : DiskEntry). IsFound c.args.plan.now.marker (header V3) (text_in e)) (sym (done.marker honest fits)) fits.marker)
     ∙ done.served honest tidy fits

@@ -2,7 +2,7 @@ use Rattle.std.proofs.Common.{◌≡◌, ◌∷◌, ◌++◌, [], ◌∙◌, ap,
 use Rattle.std.specs.Prelude.{string_bytes}
 use Rattle.fjall_base.specs.Disk.{Meaning, Place, SyncFolder, Took}
 use Rattle.fjall_files.specs.Names.{current_name, journal_name}
-use Rattle.fjall_repair.specs.Making.{GoesOn}
+use Rattle.fjall_repair.specs.Making.{MakingGoesOn}
 use Rattle.fjall_repair.proofs.Awaiting.{awaits, marker_stays}
 use Rattle.fjall_repair.proofs.Moments.{goes_both, goes_settled}
 use Rattle.fjall_repair.proofs.Trees.{on_ok_as}
@@ -32,7 +32,7 @@ pub returns-clause-awaits : goal.returns-clause-awaits
 returns-clause-awaits g c honest fits making =
     let m : _ → Meaning = g.D.Disk.meaning in
     let names : map string_bytes c.deref-2.result.now ≡ map journal_name (c.args.plan.now.sealed.items ++ c.args.plan.now.active ∷ []) = ap (λ l. map string_bytes l) c.deref-2.ensures.value ∙ fits.names in
-    let goes : GoesOn false (m c.args.disk.now) (m c.sync_folder.new.self) = returns-clause-goes g c honest fits in
+    let goes : MakingGoesOn false (m c.args.disk.now) (m c.sync_folder.new.self) = returns-clause-goes g c honest fits in
     on_ok_as c.sync_folder.result (Took (m c.empty_journals.new.disk) (m c.sync_folder.new.self) (SyncFolder [] ∷ [])) _
     (λ took. awaits string_bytes (m c.args.disk.now) (m c.make_tree.new.disk) (m c.empty_journals.new.disk) (m c.sync_folder.new.self) c.deref-2.result.now c.args.plan.now.sealed.items c.args.plan.now.active names fits.to_be
     (goes.now making) (c.in_ok-make_tree.ensures.made honest (c.deref.ensures.value ∙ fits.first_is) fits.records) (c.in_ok-make_tree.ensures.within honest)

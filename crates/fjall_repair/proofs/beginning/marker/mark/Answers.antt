@@ -4,8 +4,8 @@ use Rattle.fjall_base.proofs.Moments.{weaken}
 use Rattle.fjall_base.specs.declared.error.FormatVersion.TheVariants.{V3}
 use Rattle.fjall_files.specs.Marker.{header}
 use Rattle.fjall_meta.specs.Keyspaces.{no_keyspaces}
-use Rattle.fjall_versions.specs.Replays.{bare}
-use Rattle.fjall_recovery.specs.Folders.{StandsFor}
+use Rattle.fjall_contents.specs.Replays.{bare}
+use Rattle.fjall_recovery.specs.Folders.{ImageStandsFor}
 use Rattle.fjall_repair.specs.Making.{CanHold}
 use Rattle.fjall_repair.specs.Plans.{IsFound}
 use Rattle.fjall_repair.proofs.Holding.{marker_holds}
@@ -29,7 +29,7 @@ returns-in_err-complete_file-clause-any_moment g c honest is found kept sealed a
     let new = m c.complete_file.new.disk in
     let can = subst (λ (l : List ℕ). CanHold true (codes "version") l) (sym is) marker_holds in
     let here = subst (λ (l : List ℕ). IsFound c.args.found l (text_in (state_in old (codes "version")).now)) (sym is) found in
-    weaken old new (IsMarking (state_in old)) (λ image. StandsFor image (bare no_keyspaces))
+    weaken old new (IsMarking (state_in old)) (λ image. ImageStandsFor image (bare no_keyspaces))
     (marking_moments old kept new (c.in_err-complete_file.ensures.goes honest true can here) (c.in_err-complete_file.ensures.stays honest))
     (λ image marking. stands_for (state_in old) sealed active image awaits marking)
 
@@ -46,7 +46,7 @@ returns-clause-any_moment g c honest is found kept sealed active awaits =
     let new = m c.sync_folder.new.self in
     let can = subst (λ (l : List ℕ). CanHold true (codes "version") l) (sym is) marker_holds in
     let here = subst (λ (l : List ℕ). IsFound c.args.found l (text_in (state_in old (codes "version")).now)) (sym is) found in
-    weaken old new (IsMarking (state_in old)) (λ image. StandsFor image (bare no_keyspaces))
+    weaken old new (IsMarking (state_in old)) (λ image. ImageStandsFor image (bare no_keyspaces))
     (settled_moments old kept mid new c.sync_folder.result (c.in_ok-complete_file.ensures.goes honest true can here) (c.in_ok-complete_file.ensures.stays honest) (c.sync_folder.ensures.ok honest) (c.sync_folder.ensures.err honest))
     (λ image marking. stands_for (state_in old) sealed active image awaits marking)
 

@@ -1,5 +1,5 @@
 use Rattle.std.proofs.Common.{◌≡◌, Ok, false, codes, refl, ◌∙◌, ap}
-use Rattle.fjall_base.specs.Disk.{Folder, Meaning, Name, Place, State, state_in}
+use Rattle.fjall_base.specs.Disk.{DiskState, Folder, Meaning, Name, Place, state_in}
 use Rattle.fjall_files.proofs.Made.{within_both, within_none}
 use Rattle.fjall_files.specs.Names.{current_name}
 use Rattle.fjall_catalog.proofs.Naming.{folder_zero}
@@ -18,7 +18,7 @@ pub returns-in_err-make_folder-clause-within : goal.returns-in_err-make_folder-c
 returns-in_err-make_folder-clause-within g c honest = within_none (codes "keyspaces") _ _ (c.in_err-make_folder.ensures.err honest)
 
 pub returns-in_err-make_folder-clause-records : goal.returns-in_err-make_folder-clause-records
-returns-in_err-make_folder-clause-records g c honest = let m : _ → Meaning = g.D.Disk.meaning in records_along (m c.args.disk.now) (m c.make_folder.new.self) (ap (λ (s : State). s (current_name 0)) (c.in_err-make_folder.ensures.err honest).state)
+returns-in_err-make_folder-clause-records g c honest = let m : _ → Meaning = g.D.Disk.meaning in records_along (m c.args.disk.now) (m c.make_folder.new.self) (ap (λ (s : DiskState). s (current_name 0)) (c.in_err-make_folder.ensures.err honest).state)
 
 pub returns-clause-goes : goal.returns-clause-goes
 returns-clause-goes g c honest =
@@ -53,7 +53,7 @@ pub returns-in_err-make_folder-clause-kinds : goal.returns-in_err-make_folder-cl
 returns-in_err-make_folder-clause-kinds g c honest = tidy_none _ _ (c.in_err-make_folder.ensures.err honest)
 
 pub returns-in_err-make_folder-clause-homes : goal.returns-in_err-make_folder-clause-homes
-returns-in_err-make_folder-clause-homes g c honest id some small = ap (λ (s : State). (s (current_name id)).now) (c.in_err-make_folder.ensures.err honest).state
+returns-in_err-make_folder-clause-homes g c honest id some small = ap (λ (s : DiskState). (s (current_name id)).now) (c.in_err-make_folder.ensures.err honest).state
 
 pub returns-in_err-make_folder-clause-served : goal.returns-in_err-make_folder-clause-served
 returns-in_err-make_folder-clause-served g c honest tidy = (c.in_err-make_folder.ensures.judged honest).served (can_make_keyspaces (state_in (g.D.Disk.meaning c.args.disk.now)) tidy)

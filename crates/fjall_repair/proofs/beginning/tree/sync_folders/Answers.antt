@@ -1,5 +1,5 @@
 use Rattle.std.proofs.Common.{◌≡◌, Ok, inr, codes, false, refl, ap, subst, ◌∙◌}
-use Rattle.fjall_base.specs.Disk.{Folder, Meaning, Name, State, state_in}
+use Rattle.fjall_base.specs.Disk.{DiskState, Folder, Meaning, Name, state_in}
 use Rattle.fjall_files.specs.Names.{current_name}
 use Rattle.fjall_files.proofs.Made.{within_both, within_none}
 use Rattle.fjall_repair.proofs.Moments.{goes_both, goes_none, goes_settled}
@@ -38,7 +38,7 @@ pub returns-in_err-sync_folder-clause-kinds : goal.returns-in_err-sync_folder-cl
 returns-in_err-sync_folder-clause-kinds g c honest = tidy_none _ _ (c.in_err-sync_folder.ensures.err honest)
 
 pub returns-in_err-sync_folder-clause-homes : goal.returns-in_err-sync_folder-clause-homes
-returns-in_err-sync_folder-clause-homes g c honest id some small = ap (λ (s : State). (s (current_name id)).now) (c.in_err-sync_folder.ensures.err honest).state
+returns-in_err-sync_folder-clause-homes g c honest id some small = ap (λ (s : DiskState). (s (current_name id)).now) (c.in_err-sync_folder.ensures.err honest).state
 
 pub returns-in_err-sync_folder-clause-served : goal.returns-in_err-sync_folder-clause-served
 returns-in_err-sync_folder-clause-served g c honest outer inner =

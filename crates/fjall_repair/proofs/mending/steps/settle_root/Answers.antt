@@ -1,5 +1,5 @@
 use Rattle.std.proofs.Common.{ap, inl, inr, subst, sym, [], refl, ◌∙◌}
-use Rattle.fjall_base.specs.Disk.{Meaning, State, standing, File}
+use Rattle.fjall_base.specs.Disk.{Meaning, DiskState, standing, File}
 use Rattle.fjall_files.proofs.Tidying.{stays_both, stays_making, stays_none, stays_settling}
 use Rattle.fjall_recovery.specs.Folders.{IsOpenable}
 use Rattle.fjall_repair.proofs.MendOpened.{settle_moment, settle_sound, settle_opened, settle_settled, settle_elsewhere, still_stands}
@@ -11,7 +11,7 @@ pub returns-in_err-create-clause-any_moment : goal.returns-in_err-create-clause-
 returns-in_err-create-clause-any_moment g c honest contents holds named = still_stands _ _ contents holds c.args.active.now named (c.in_err-create.ensures.err honest)
 
 pub returns-in_err-create-clause-elsewhere : goal.returns-in_err-create-clause-elsewhere
-returns-in_err-create-clause-elsewhere g c honest q not = ap (λ (s : State). (s q).now) (c.in_err-create.ensures.err honest).state
+returns-in_err-create-clause-elsewhere g c honest q not = ap (λ (s : DiskState). (s q).now) (c.in_err-create.ensures.err honest).state
 
 pub returns-clause-any_moment : goal.returns-clause-any_moment
 returns-clause-any_moment g c honest contents holds named =
@@ -68,7 +68,7 @@ returns-clause-there g c honest =
     inr (settle_there (m c.create.new.self) (m c.sync_folder.new.self) c.args.active.now (c.in_ok-create.ensures.file honest) c.sync_folder.result (c.sync_folder.ensures.ok honest) (c.sync_folder.ensures.err honest))
 
 pub returns-in_err-create-clause-stands : goal.returns-in_err-create-clause-stands
-returns-in_err-create-clause-stands g c honest contents sound named = inl (subst (λ (s : State). IsOpenable (standing s) contents) (sym (c.in_err-create.ensures.err honest).state) sound)
+returns-in_err-create-clause-stands g c honest contents sound named = inl (subst (λ (s : DiskState). IsOpenable (standing s) contents) (sym (c.in_err-create.ensures.err honest).state) sound)
 
 pub returns-clause-stands : goal.returns-clause-stands
 returns-clause-stands g c honest contents sound named =

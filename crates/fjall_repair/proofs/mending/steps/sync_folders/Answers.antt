@@ -1,6 +1,6 @@
 use Rattle.std.proofs.Common.{◌≡◌, [], All, arith, ap, subst, sym, ◌∙◌, string_bytes, Ok}
 use Rattle.std.proofs.lemmas.List.{take_all}
-use Rattle.fjall_base.specs.Disk.{IsThere, Meaning, Name, State, folder_of, standing, state_in}
+use Rattle.fjall_base.specs.Disk.{DiskState, IsThere, Meaning, Name, folder_of, standing, state_in}
 use Rattle.fjall_files.proofs.Tidying.{stays_both, stays_none, stays_settling}
 use Rattle.fjall_repair.proofs.Items.{all_more, all_to, item_has}
 use Rattle.fjall_repair.proofs.Narrowing.{folder_moment, folder_same, folder_still, folder_empty}
@@ -8,10 +8,10 @@ use Rattle.fjall_repair.proofs.MendServed.{still_there}
 use Rattle.fjall_repair.proofs.mending.steps.sync_folders.Goals as goal
 
 pub returns-in_err-sync_folder-clause-same : goal.returns-in_err-sync_folder-clause-same
-returns-in_err-sync_folder-clause-same g c honest q = ap (λ (s : State). (s q).now) (c.in_err-sync_folder.ensures.err honest).state ∙ c.loop-folder.invariant.same honest q
+returns-in_err-sync_folder-clause-same g c honest q = ap (λ (s : DiskState). (s q).now) (c.in_err-sync_folder.ensures.err honest).state ∙ c.loop-folder.invariant.same honest q
 
 pub returns-in_err-sync_folder-clause-still : goal.returns-in_err-sync_folder-clause-still
-returns-in_err-sync_folder-clause-still g c honest q older = ap (λ (s : State). (s q).older) (c.in_err-sync_folder.ensures.err honest).state ∙ c.loop-folder.invariant.still honest q older
+returns-in_err-sync_folder-clause-still g c honest q older = ap (λ (s : DiskState). (s q).older) (c.in_err-sync_folder.ensures.err honest).state ∙ c.loop-folder.invariant.still honest q older
 
 pub loop-folder-preserved : goal.loop-folder-preserved
 loop-folder-preserved g c =

@@ -1,9 +1,9 @@
 use Rattle.std.proofs.Common.{IfOk, List, ap, arith, length, reverse, subst, sym, ◌<◌, ◌≤◌, ◌≡◌, ◌∙◌}
 use Rattle.fjall_base.specs.Pairs.{Bytes}
-use Rattle.fjall_sorted.specs.Pages.{pair_found}
+use Rattle.fjall_memtable.specs.SortedPages.{pair_found}
 use Rattle.fjall_runs.specs.Keyed.{Keyed, found_in}
 use Rattle.fjall_runs.proofs.Keyeds.{ended_back}
-use Rattle.fjall_runs.proofs.Paging.{full_page}
+use Rattle.fjall_runs.proofs.RunPaging.{full_page}
 use Rattle.fjall_runs.proofs.back_page.BackPage.finish.Goals as goal
 
 pub returns-then-count_before-max : goal.returns-then-count_before-max

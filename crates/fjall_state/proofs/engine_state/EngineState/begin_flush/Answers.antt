@@ -1,13 +1,13 @@
 use Rattle.std.proofs.Common.{◌<◌, ◌-◌, ◌^◌, Option, ap, sym, refl, subst, ◌≡◌, ◌∙◌}
 use Rattle.std.specs.Prelude.{IfSome}
 use Rattle.fjall_jobs.specs.declared.flush_job.FlushJob.{FlushJob}
-use Rattle.fjall_lsm.specs.Jobs.{flush_begun}
+use Rattle.fjall_tree.specs.Jobs.{flush_begun}
 use Rattle.fjall_trees.specs.Forests.{altered_at}
 use Rattle.fjall_trees.specs.Views.{forest_of}
-use Rattle.fjall_state.specs.Remembered.{Remembered, flush_out}
+use Rattle.fjall_machine.specs.Remembered.{Remembered, flush_out}
 use Rattle.fjall_state.proofs.Inside.{memory_in}
-use Rattle.fjall_state.proofs.Flushing.{out_is_lawful}
-use Rattle.fjall_state.proofs.Lawful.{alike}
+use Rattle.fjall_machine.proofs.Flushing.{out_is_lawful}
+use Rattle.fjall_machine.proofs.Lawful.{alike}
 use Rattle.fjall_state.proofs.engine_state.EngineState.begin_flush.Goals as goal
 
 pub invariant_of-self-in-Some : goal.invariant_of-self-in-Some

@@ -2,16 +2,16 @@ use Rattle.std.proofs.Common.{ℕ, ◌-◌, ◌<◌, ◌^◌, Option, refl, rule
 use Rattle.std.specs.Prelude.{IfSome}
 use Rattle.fjall_jobs.specs.declared.merge_job.MergeJob.{MergeJob}
 use Rattle.fjall_jobs.specs.Merges.{merge_task}
-use Rattle.fjall_blocks.specs.Readers.{SomeTableIsWrong}
-use Rattle.fjall_lsm.specs.Jobs.{IsMerging, merge_begun}
-use Rattle.fjall_table.specs.Files.{IsRefused}
+use Rattle.fjall_table_reader.specs.Readers.{SomeTableIsWrong}
+use Rattle.fjall_tree.specs.Jobs.{IsMerging, merge_begun}
+use Rattle.fjall_table_reader.specs.Files.{IsRefused}
 use Rattle.fjall_trees.specs.Forests.{altered_at}
 use Rattle.fjall_trees.specs.Tables.{AreReadOn, AreSameTrees, shape_in}
 use Rattle.fjall_trees.specs.Views.{forest_of}
-use Rattle.fjall_state.specs.Remembered.{Remembered, merge_out, with_trees}
+use Rattle.fjall_machine.specs.Remembered.{Remembered, merge_out, with_trees}
 use Rattle.fjall_state.proofs.Inside.{memory_in}
-use Rattle.fjall_state.proofs.Lawful.{alike, read_is_lawful}
-use Rattle.fjall_state.proofs.MergesLawful.{merge_out_is_lawful}
+use Rattle.fjall_machine.proofs.Lawful.{alike, read_is_lawful}
+use Rattle.fjall_machine.proofs.MergesLawful.{merge_out_is_lawful}
 use Rattle.fjall_state.proofs.engine_state.EngineState.begin_merge.Goals as goal
 
 pub invariant_of-self : goal.invariant_of-self

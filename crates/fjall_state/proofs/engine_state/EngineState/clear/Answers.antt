@@ -3,13 +3,13 @@ use Rattle.fjall_base.specs.Disk.{LeavesOnly, state_in}
 use Rattle.fjall_journal.specs.Changes.{Emptied, change_text, of_change}
 use Rattle.fjall_journal.specs.Writer.{BatchTook}
 use Rattle.fjall_trees.specs.Views.{forest_of}
-use Rattle.fjall_lsm.specs.Trees.{emptied}
+use Rattle.fjall_tree.specs.Trees.{emptied}
 use Rattle.fjall_trees.specs.Forests.{altered_at}
 use Rattle.fjall_commit.specs.Journaling.{ForFollowing, LeavesRoot}
 use Rattle.fjall_history.specs.Tickets.{Tracked}
-use Rattle.fjall_state.specs.Remembered.{IsLawful, Remembered, with_change}
-use Rattle.fjall_state.proofs.Lawful.{alike, clear_is_lawful}
-use Rattle.fjall_state.proofs.Writing.{untouched_leaves}
+use Rattle.fjall_machine.specs.Remembered.{IsLawful, Remembered, with_change}
+use Rattle.fjall_machine.proofs.Lawful.{alike, clear_is_lawful}
+use Rattle.fjall_machine.proofs.Writing.{untouched_leaves}
 use Rattle.fjall_state.proofs.engine_state.EngineState.clear.Goals as goal
 
 pub invariant_of-self-2 : goal.invariant_of-self-2

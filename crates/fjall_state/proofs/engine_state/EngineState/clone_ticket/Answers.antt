@@ -1,5 +1,5 @@
 use Rattle.fjall_state.proofs.Inside.{memory_in}
-use Rattle.fjall_state.proofs.Lawful.{cloning_is_lawful}
+use Rattle.fjall_machine.proofs.Lawful.{cloning_is_lawful}
 use Rattle.fjall_state.proofs.engine_state.EngineState.clone_ticket.Goals as goal
 
 pub invariant_of-self : goal.invariant_of-self

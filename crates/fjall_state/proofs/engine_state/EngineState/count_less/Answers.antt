@@ -1,7 +1,7 @@
 use Rattle.std.proofs.Common.{◌∙◌, ap}
 use Rattle.fjall_trees.specs.Views.{forest_of}
-use Rattle.fjall_state.specs.Machine.{one_less}
-use Rattle.fjall_state.specs.Remembered.{Remembered, journals_of}
+use Rattle.fjall_machine.specs.Machine.{one_less}
+use Rattle.fjall_machine.specs.Remembered.{Remembered, journals_of}
 use Rattle.fjall_state.proofs.engine_state.EngineState.count_less.Goals as goal
 
 pub returns : goal.returns

@@ -1,16 +1,16 @@
 use Rattle.std.proofs.Common.{◌≡◌, ◌+◌, ℕ, ap, arith, refl, subst, rules, ◌∙◌}
 use Rattle.std.specs.FinMap.{insert}
 use Rattle.fjall_catalog.specs.Catalog.{fields, first_of}
-use Rattle.fjall_tree.specs.Records.{view}
+use Rattle.fjall_manifest.specs.Records.{view}
 use Rattle.fjall_meta.specs.Keyspaces.{AreKeyspaces, with_keyspace}
 use Rattle.fjall_history.specs.Tickets.{Tracked}
 use Rattle.fjall_trees.specs.Views.{forest_of}
 use Rattle.fjall_trees.specs.Writes.{with_tree}
-use Rattle.fjall_state.specs.Remembered.{IsLawful, Remembered, journals_of, with_creation}
+use Rattle.fjall_machine.specs.Remembered.{IsLawful, Remembered, journals_of, with_creation}
 use Rattle.fjall_state.proofs.Inside.{memory_in}
-use Rattle.fjall_state.proofs.Counting.{map_of}
-use Rattle.fjall_state.proofs.Lawful.{alike, made_is_lawful}
-use Rattle.fjall_state.proofs.Taking.{unplanted, unrecorded}
+use Rattle.fjall_machine.proofs.Counting.{map_of}
+use Rattle.fjall_machine.proofs.Lawful.{alike, made_is_lawful}
+use Rattle.fjall_machine.proofs.Taking.{unplanted, unrecorded}
 use Rattle.fjall_state.proofs.engine_state.EngineState.create.Goals as goal
 
 pub invariant_of-self-in-Ok : goal.invariant_of-self-in-Ok

@@ -1,8 +1,8 @@
 use Rattle.std.proofs.Common.{◌+◌, ◌∙◌, ap, subst}
 use Rattle.fjall_meta.specs.Keyspaces.{without_keyspace}
 use Rattle.fjall_history.specs.Tickets.{Tracked}
-use Rattle.fjall_state.specs.Remembered.{IsLawful, Remembered, with_deletion}
-use Rattle.fjall_state.proofs.Lawful.{alike, deletion_is_lawful}
+use Rattle.fjall_machine.specs.Remembered.{IsLawful, Remembered, with_deletion}
+use Rattle.fjall_machine.proofs.Lawful.{alike, deletion_is_lawful}
 use Rattle.fjall_state.proofs.engine_state.EngineState.delete.Goals as goal
 
 pub invariant_of-self : goal.invariant_of-self

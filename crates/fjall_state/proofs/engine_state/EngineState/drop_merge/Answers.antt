@@ -1,8 +1,8 @@
 use Rattle.std.proofs.Common.{refl}
-use Rattle.fjall_state.specs.Remembered.{merge_gone}
+use Rattle.fjall_machine.specs.Remembered.{merge_gone}
 use Rattle.fjall_state.proofs.Inside.{memory_in}
-use Rattle.fjall_state.proofs.Lawful.{alike}
-use Rattle.fjall_state.proofs.MergesLawful.{merge_gone_is_lawful}
+use Rattle.fjall_machine.proofs.Lawful.{alike}
+use Rattle.fjall_machine.proofs.MergesLawful.{merge_gone_is_lawful}
 use Rattle.fjall_state.proofs.engine_state.EngineState.drop_merge.Goals as goal
 
 pub invariant_of-self : goal.invariant_of-self

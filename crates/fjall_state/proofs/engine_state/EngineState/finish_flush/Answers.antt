@@ -3,23 +3,23 @@ use Rattle.std.specs.FinMap.{get}
 use Rattle.fjall_base.specs.Disk.{IsNoFolder, LeavesOnly, state_in}
 use Rattle.fjall_files.specs.Calls.{AllServed}
 use Rattle.fjall_files.specs.Names.{table_name}
-use Rattle.fjall_merge.specs.FlushPlans.{HaveFiles, KeepsTables}
-use Rattle.fjall_merge.proofs.Beside.{tables_stay}
-use Rattle.fjall_ingest.proofs.Behind.{nothing_written}
+use Rattle.fjall_compaction.specs.FlushPlans.{HaveFiles, KeepsTables}
+use Rattle.fjall_compaction.proofs.Beside.{tables_stay}
+use Rattle.fjall_compaction.proofs.Behind.{nothing_written}
 use Rattle.fjall_recovery.specs.Halves.{HasTree}
 use Rattle.fjall_recovery.specs.Places.{LiesInTree}
-use Rattle.fjall_tree.specs.Records.{Fields, view}
-use Rattle.fjall_lsm.specs.Jobs.{flush_finished}
+use Rattle.fjall_manifest.specs.Records.{Fields, view}
+use Rattle.fjall_tree.specs.Jobs.{flush_finished}
 use Rattle.fjall_trees.specs.Forests.{Forest, altered_at}
 use Rattle.fjall_trees.specs.Tables.{HasRoomAt, shape_in}
-use Rattle.fjall_state.specs.Finishing.{keyspace_of}
-use Rattle.fjall_state.specs.Remembered.{IsLawful, Remembered, journals_of, with_flush}
+use Rattle.fjall_machine.specs.Finishing.{keyspace_of}
+use Rattle.fjall_machine.specs.Remembered.{IsLawful, Remembered, journals_of, with_flush}
 use Rattle.fjall_state.proofs.Inside.{memory_in}
-use Rattle.fjall_state.proofs.Counting.{map_of}
-use Rattle.fjall_state.proofs.Finishing.{finished, last_is, made_clears, may_finish, none_missing, on_disk, refused}
-use Rattle.fjall_state.proofs.Facts.{living_given}
-use Rattle.fjall_state.proofs.Flushing.{finished_is_lawful}
-use Rattle.fjall_state.proofs.Lawful.{alike}
+use Rattle.fjall_machine.proofs.Counting.{map_of}
+use Rattle.fjall_machine.proofs.Finishing.{finished, last_is, made_clears, may_finish, none_missing, on_disk, refused}
+use Rattle.fjall_machine.proofs.Facts.{living_given}
+use Rattle.fjall_machine.proofs.Flushing.{finished_is_lawful}
+use Rattle.fjall_machine.proofs.Lawful.{alike}
 use Rattle.fjall_state.proofs.engine_state.EngineState.finish_flush.Goals as goal
 
 pub unreachable-requires : goal.unreachable-requires

@@ -2,26 +2,26 @@ use Rattle.std.proofs.Common.{◌⊎◌, ◌+◌, ◌<◌, ◌^◌, ◌∙◌, L
 use Rattle.std.specs.FinMap.{get}
 use Rattle.fjall_base.specs.Disk.{LeavesOnly, state_in}
 use Rattle.fjall_files.specs.Calls.{AllServed}
-use Rattle.fjall_merge.specs.FlushPlans.{HaveFiles}
-use Rattle.fjall_ingest.proofs.Behind.{nothing_written}
+use Rattle.fjall_compaction.specs.FlushPlans.{HaveFiles}
+use Rattle.fjall_compaction.proofs.Behind.{nothing_written}
 use Rattle.fjall_jobs.specs.declared.made_table.MadeTable.{MadeTable}
 use Rattle.fjall_jobs.specs.Merges.{merge_task}
-use Rattle.fjall_loading.specs.Known.{last_known}
-use Rattle.fjall_merge.specs.Merges.{merge_of}
-use Rattle.fjall_merge.specs.Plans.{HasNoTableFolder, KeepsTables}
+use Rattle.fjall_recovery.specs.Known.{last_known}
+use Rattle.fjall_compaction.specs.Merges.{merge_of}
+use Rattle.fjall_compaction.specs.MergePlans.{HasNoTableFolder, MergeKeepsTables}
 use Rattle.fjall_recovery.specs.Halves.{HasTree}
 use Rattle.fjall_recovery.specs.Places.{LiesInTree}
-use Rattle.fjall_tree.specs.Records.{Fields, view}
+use Rattle.fjall_manifest.specs.Records.{Fields, view}
 use Rattle.fjall_trees.specs.Tables.{shape_in}
-use Rattle.fjall_state.specs.Merging.{AreTaken, keyspace_of}
-use Rattle.fjall_state.specs.Remembered.{IsLawful, Remembered, journals_of, with_merge}
-use Rattle.fjall_state.proofs.Counting.{map_of}
-use Rattle.fjall_state.proofs.Facts.{living_given}
-use Rattle.fjall_state.proofs.Finishing.{none_missing}
+use Rattle.fjall_machine.specs.Merging.{AreTaken, keyspace_of}
+use Rattle.fjall_machine.specs.Remembered.{IsLawful, Remembered, journals_of, with_merge}
+use Rattle.fjall_machine.proofs.Counting.{map_of}
+use Rattle.fjall_machine.proofs.Facts.{living_given}
+use Rattle.fjall_machine.proofs.Finishing.{none_missing}
 use Rattle.fjall_state.proofs.Inside.{memory_in}
-use Rattle.fjall_state.proofs.Lawful.{alike}
-use Rattle.fjall_state.proofs.MergeFinishing.{finished, last_is, may_merge, merge_there, on_disk, refused, taken}
-use Rattle.fjall_state.proofs.MergesLawful.{merged_is_lawful}
+use Rattle.fjall_machine.proofs.Lawful.{alike}
+use Rattle.fjall_machine.proofs.MergeFinishing.{finished, last_is, may_merge, merge_there, on_disk, refused, taken}
+use Rattle.fjall_machine.proofs.MergesLawful.{merged_is_lawful}
 use Rattle.fjall_state.proofs.engine_state.EngineState.finish_merge.Goals as goal
 
 pub unreachable-requires : goal.unreachable-requires
@@ -97,7 +97,7 @@ returns-in_err-write_merge-clause-beside g c = λ honest k out at was.
     let before = g.D.Disk.meaning c.args.disk.now in
     let after = g.D.Disk.meaning c.write_merge.new.disk in
     let known = last_is now made last input may k at in
-    subst (λ (x : Fields × List MadeTable). KeepsTables (keyspace_of made) x.0.next_table_id (length x.1) before after) (λ i. (known i, c.tables.ensures.value i))
+    subst (λ (x : Fields × List MadeTable). MergeKeepsTables (keyspace_of made) x.0.next_table_id (length x.1) before after) (λ i. (known i, c.tables.ensures.value i))
     (c.in_err-write_merge.ensures.beside honest (keyspace_of made) (merge_of input made) last (sym c.tables.ensures.value) c.in_ok-planned.ensures.writes)
 
 pub invariant_of-self : goal.invariant_of-self
@@ -216,7 +216,7 @@ returns-clause-beside g c = λ honest k out at was.
     let before = g.D.Disk.meaning c.args.disk.now in
     let after = g.D.Disk.meaning c.write_merge.new.disk in
     let known = last_is now made last input may k at in
-    subst (λ (x : Fields × List MadeTable). KeepsTables (keyspace_of made) x.0.next_table_id (length x.1) before after) (λ i. (known i, c.tables.ensures.value i))
+    subst (λ (x : Fields × List MadeTable). MergeKeepsTables (keyspace_of made) x.0.next_table_id (length x.1) before after) (λ i. (known i, c.tables.ensures.value i))
     (c.in_ok-write_merge.ensures.beside honest (keyspace_of made) (merge_of input made) last (sym c.tables.ensures.value) c.in_ok-planned.ensures.writes)
 
 pub returns-clause-files : goal.returns-clause-files

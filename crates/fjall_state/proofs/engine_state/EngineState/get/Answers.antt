@@ -3,11 +3,11 @@ use Rattle.fjall_base.specs.Pairs.{Pairs, lookup}
 use Rattle.fjall_trees.specs.Tables.{AreReadOn, AreSameTrees, shape_in}
 use Rattle.fjall_trees.specs.Views.{forest_of}
 use Rattle.fjall_trees.proofs.Same.{same_trees}
-use Rattle.fjall_maps.specs.Maps.{pairs_in}
-use Rattle.fjall_maps.specs.Tables.{pairs_with}
-use Rattle.fjall_state.specs.Remembered.{IsLawful, Remembered, instant_in, with_trees}
-use Rattle.fjall_state.proofs.Lawful.{alike, read_is_lawful}
-use Rattle.fjall_state.proofs.Showing.{a_value_shown, none_counted, read_pairs, value_with}
+use Rattle.fjall_trees.specs.Maps.{pairs_in}
+use Rattle.fjall_trees.specs.MapTables.{pairs_with}
+use Rattle.fjall_machine.specs.Remembered.{IsLawful, Remembered, instant_in, with_trees}
+use Rattle.fjall_machine.proofs.Lawful.{alike, read_is_lawful}
+use Rattle.fjall_machine.proofs.Showing.{a_value_shown, none_counted, read_pairs, value_with}
 use Rattle.fjall_state.proofs.engine_state.EngineState.get.Goals as goal
 
 pub returns-in-Some-clause-trees : goal.returns-in-Some-clause-trees

@@ -1,6 +1,6 @@
 use Rattle.std.proofs.Common.{◌≡◌, true, false, take, IfSome}
-use Rattle.fjall_state.specs.Machine.{is_living, some_deleted}
-use Rattle.fjall_state.specs.Remembered.{facts_of}
+use Rattle.fjall_machine.specs.Machine.{is_living, some_deleted}
+use Rattle.fjall_machine.specs.Remembered.{facts_of}
 use Rattle.fjall_state.proofs.engine_state.EngineState.has_deleted.Given as goal
 
 abbrev pub invariant-loop-item : goal.invariant-loop-item

@@ -1,8 +1,8 @@
 use Rattle.std.proofs.Common.{◌≡◌, ◌∙◌, ap, sym, rules}
 use Rattle.std.specs.Option.{is_some}
 use Rattle.fjall_meta.specs.Keyspaces.{keyspace_at}
-use Rattle.fjall_state.proofs.Facts.{living_names}
-use Rattle.fjall_state.specs.Remembered.{Remembered}
+use Rattle.fjall_machine.proofs.Facts.{living_names}
+use Rattle.fjall_machine.specs.Remembered.{Remembered}
 use Rattle.fjall_state.proofs.engine_state.EngineState.is_living.Goals as goal
 
 pub returns : goal.returns

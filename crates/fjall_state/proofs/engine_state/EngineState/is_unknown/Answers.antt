@@ -1,7 +1,7 @@
 use Rattle.std.proofs.Common.{◌∙◌, ap}
 use Rattle.std.proofs.lemmas.Bool.{ne_eqb}
-use Rattle.fjall_state.specs.Remembered.{Remembered}
-use Rattle.fjall_state.proofs.Facts.{unknown_is}
+use Rattle.fjall_machine.specs.Remembered.{Remembered}
+use Rattle.fjall_machine.proofs.Facts.{unknown_is}
 use Rattle.fjall_state.proofs.engine_state.EngineState.is_unknown.Goals as goal
 
 pub returns-else-id-eq0 : goal.returns-else-id-eq0

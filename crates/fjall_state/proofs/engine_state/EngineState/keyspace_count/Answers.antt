@@ -1,6 +1,6 @@
 use Rattle.std.proofs.Common.{◌∙◌, length, ap, sym, subst}
-use Rattle.fjall_state.specs.Remembered.{IsLawful, Remembered}
-use Rattle.fjall_state.proofs.Facts.{counted_is}
+use Rattle.fjall_machine.specs.Remembered.{IsLawful, Remembered}
+use Rattle.fjall_machine.proofs.Facts.{counted_is}
 use Rattle.fjall_state.proofs.engine_state.EngineState.keyspace_count.Goals as goal
 
 pub returns-clause-named : goal.returns-clause-named

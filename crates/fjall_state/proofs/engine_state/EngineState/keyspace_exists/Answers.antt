@@ -1,8 +1,8 @@
 use Rattle.std.proofs.Common.{◌∙◌, ap, sym, subst}
 use Rattle.std.specs.Option.{is_some}
 use Rattle.fjall_meta.specs.Keyspaces.{id_of}
-use Rattle.fjall_state.specs.Remembered.{IsLawful, Remembered}
-use Rattle.fjall_state.proofs.Facts.{named_is}
+use Rattle.fjall_machine.specs.Remembered.{IsLawful, Remembered}
+use Rattle.fjall_machine.proofs.Facts.{named_is}
 use Rattle.fjall_state.proofs.engine_state.EngineState.keyspace_exists.Goals as goal
 
 pub returns : goal.returns

@@ -1,13 +1,13 @@
 use Rattle.std.proofs.Common.{◌∙◌, ap, sym}
 use Rattle.std.specs.Option.{option_copied, option_map}
-use Rattle.fjall_maps.specs.Maps.{store_of}
+use Rattle.fjall_trees.specs.Maps.{store_of}
 use Rattle.fjall_meta.specs.declared.living.LivingKeyspace.{LivingKeyspace}
 use Rattle.fjall_meta.specs.Keyspaces.{keyspace_at}
 use Rattle.fjall_options.specs.declared.options.effective.EffectiveSettings.{EffectiveSettings}
-use Rattle.fjall_state.specs.declared.merges.MergeKind.{MergeKind}
-use Rattle.fjall_state.specs.Machine.{least_of, options_in}
-use Rattle.fjall_state.specs.Remembered.{Remembered}
-use Rattle.fjall_state.proofs.MergeSizes.{held_threshold, said}
+use Rattle.fjall_machine.specs.declared.merge_kind.MergeKind.{MergeKind}
+use Rattle.fjall_machine.specs.Machine.{least_of, options_in}
+use Rattle.fjall_machine.specs.Remembered.{Remembered}
+use Rattle.fjall_machine.proofs.MergeSizes.{held_threshold, said}
 use Rattle.fjall_state.proofs.engine_state.EngineState.least_of.Goals as goal
 
 pub returns-in-Due-Some : goal.returns-in-Due-Some

@@ -2,10 +2,10 @@ use Rattle.std.proofs.Common.{◌≡◌, ◌∙◌, ap, subst, rules}
 use Rattle.std.proofs.lemmas.Fn.{filter_same}
 use Rattle.std.specs.FinMap.{remove}
 use Rattle.fjall_trees.specs.Forests as forests
-use Rattle.fjall_state.specs.Machine.{without}
-use Rattle.fjall_state.specs.Remembered.{IsLawful, Remembered, journals_of, let_go}
-use Rattle.fjall_state.proofs.Counting.{map_of}
-use Rattle.fjall_state.proofs.Lawful.{alike, let_go_is_lawful}
+use Rattle.fjall_machine.specs.Machine.{without}
+use Rattle.fjall_machine.specs.Remembered.{IsLawful, Remembered, journals_of, let_go}
+use Rattle.fjall_machine.proofs.Counting.{map_of}
+use Rattle.fjall_machine.proofs.Lawful.{alike, let_go_is_lawful}
 use Rattle.fjall_state.proofs.engine_state.EngineState.let_go.Goals as goal
 
 pub invariant_of-self : goal.invariant_of-self

@@ -1,7 +1,7 @@
 use Rattle.std.proofs.Common.{◌∙◌, IfOk, IsPermutation, List, ap, map, subst, sym}
 use Rattle.fjall_base.specs.Pairs.{Bytes}
-use Rattle.fjall_state.specs.Remembered.{IsLawful, Remembered}
-use Rattle.fjall_state.proofs.Facts.{names_are}
+use Rattle.fjall_machine.specs.Remembered.{IsLawful, Remembered}
+use Rattle.fjall_machine.proofs.Facts.{names_are}
 use Rattle.fjall_state.proofs.engine_state.EngineState.list_keyspace_names.Goals as goal
 
 pub returns-clause-named : goal.returns-clause-named

@@ -3,8 +3,8 @@ use Rattle.fjall_history.specs.Tickets.{Tracked, collected, no_tickets}
 use Rattle.fjall_history.proofs.Values.{all_none}
 use Rattle.fjall_trees.specs.Views.{forest_of}
 use Rattle.fjall_trees.proofs.Places.{forest_is}
-use Rattle.fjall_state.specs.Remembered.{IsLawful, journals_of, remembered}
-use Rattle.fjall_state.proofs.Lawful.{alike, remembered_is_lawful, still_begun, still_merge_begun}
+use Rattle.fjall_machine.specs.Remembered.{IsLawful, journals_of, remembered}
+use Rattle.fjall_machine.proofs.Lawful.{alike, remembered_is_lawful, still_begun, still_merge_begun}
 use Rattle.fjall_state.proofs.engine_state.EngineState.new.Goals as goal
 
 pub invariant_of-result : goal.invariant_of-result

@@ -1,5 +1,5 @@
 use Rattle.std.proofs.Common.{◌∙◌, ap}
-use Rattle.fjall_state.specs.Remembered.{Remembered}
+use Rattle.fjall_machine.specs.Remembered.{Remembered}
 use Rattle.fjall_state.proofs.engine_state.EngineState.next_id.Goals as goal
 
 pub returns-clause-stored : goal.returns-clause-stored

@@ -1,5 +1,5 @@
 use Rattle.fjall_state.proofs.Inside.{memory_in}
-use Rattle.fjall_state.proofs.Lawful.{opening_is_lawful}
+use Rattle.fjall_machine.proofs.Lawful.{opening_is_lawful}
 use Rattle.fjall_state.proofs.engine_state.EngineState.open_ticket.Goals as goal
 
 pub invariant_of-self : goal.invariant_of-self

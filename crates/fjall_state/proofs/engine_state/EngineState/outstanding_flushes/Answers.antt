@@ -4,8 +4,8 @@ use Rattle.std.proofs.lemmas.List.{take_all}
 use Rattle.std.specs.List.{count_by}
 use Rattle.fjall_meta.specs.declared.living.LivingKeyspace.{LivingKeyspace}
 use Rattle.fjall_meta.specs.Keyspaces.{AreKeyspaces}
-use Rattle.fjall_state.specs.Remembered.{Remembered}
-use Rattle.fjall_state.proofs.Sizes.{waits_in, waits_of_living}
+use Rattle.fjall_machine.specs.Remembered.{Remembered}
+use Rattle.fjall_machine.proofs.Sizes.{waits_in, waits_of_living}
 use Rattle.fjall_state.proofs.engine_state.EngineState.outstanding_flushes.Goals as goal
 
 pub returns : goal.returns

@@ -1,13 +1,13 @@
 use Rattle.std.proofs.Common.{ℕ, ◌<◌, ◌^◌, ap, sym, ◌∙◌, subst, IfErr, IfOk}
 use Rattle.std.specs.FinMap.{get}
-use Rattle.fjall_ingest.specs.Planned.{IsIngestionRefusal, IsPlanOf}
-use Rattle.fjall_lsm.specs.Shapes.{shape_of}
-use Rattle.fjall_lsm.specs.Trees.{Shape}
-use Rattle.fjall_tree.specs.Records.{Fields, view}
+use Rattle.fjall_compaction.specs.Planned.{IsIngestionPlan, IsIngestionRefusal}
+use Rattle.fjall_tree.specs.Shapes.{shape_of}
+use Rattle.fjall_tree.specs.Trees.{Shape}
+use Rattle.fjall_manifest.specs.Records.{Fields, view}
 use Rattle.fjall_trees.specs.Forests.{tree_at}
-use Rattle.fjall_state.specs.Remembered.{IsLawful, Remembered}
-use Rattle.fjall_state.proofs.Finishing.{none_missing}
-use Rattle.fjall_state.proofs.TakenIngestions.{last_found, low, no_tree, shape_found}
+use Rattle.fjall_machine.specs.Remembered.{IsLawful, Remembered}
+use Rattle.fjall_machine.proofs.Finishing.{none_missing}
+use Rattle.fjall_machine.proofs.TakenIngestions.{last_found, low, no_tree, shape_found}
 use Rattle.fjall_state.proofs.engine_state.EngineState.plan_ingestion.Goals as goal
 
 pub unreachable-requires : goal.unreachable-requires
@@ -35,7 +35,7 @@ returns-clause-planned c = λ k at.
     let shape = shape_found now is id (shape_of c.in-Some.tree.now) (c.in-Some.ensures.tree ∙ ap (λ (m : Remembered). tree_at id m.trees) c.self.view_is) in
     let last = last_found now is id (view c.in-Some-get.last.now) (c.in-Some-get.ensures ∙ ap (λ (m : Remembered). get m.records id) c.self.view_is) k at in
     let watermark = c.watermark-watermark.ensures.value ∙ ap (λ (m : Remembered). m.tickets.watermark) c.self.view_is in
-    subst (λ (x : Shape × ℕ × ℕ × Fields). IfOk c.plan_ingestion.result (IsPlanOf x.0 id x.1 x.2 items x.3)) (λ i. (shape i, watermark i, c.seqno.ensures i, last i)) c.plan_ingestion.ensures.planned
+    subst (λ (x : Shape × ℕ × ℕ × Fields). IfOk c.plan_ingestion.result (IsIngestionPlan x.0 id x.1 x.2 items x.3)) (λ i. (shape i, watermark i, c.seqno.ensures i, last i)) c.plan_ingestion.ensures.planned
 
 pub returns-clause-cause : goal.returns-clause-cause
 returns-clause-cause c = λ k at.

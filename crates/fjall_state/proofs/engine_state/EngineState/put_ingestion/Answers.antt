@@ -1,13 +1,13 @@
 use Rattle.std.proofs.Common.{ℕ, ◌<◌, ◌≤◌, ◌^◌, ap, sym, ◌∙◌, refl, subst}
 use Rattle.fjall_history.specs.Tickets.{Tracked}
-use Rattle.fjall_lsm.specs.Ingestions.{ingested}
+use Rattle.fjall_tree.specs.Ingestions.{ingested}
 use Rattle.fjall_trees.specs.Forests.{altered_at}
 use Rattle.fjall_trees.specs.Tables.{shape_in}
-use Rattle.fjall_state.specs.Ingesting.{with_tables}
-use Rattle.fjall_state.specs.Remembered.{Remembered}
+use Rattle.fjall_machine.specs.Ingesting.{with_tables}
+use Rattle.fjall_machine.specs.Remembered.{Remembered}
 use Rattle.fjall_state.proofs.Inside.{memory_in}
-use Rattle.fjall_state.proofs.Lawful.{alike}
-use Rattle.fjall_state.proofs.TakenIngestions.{ends_before, tables_are_lawful}
+use Rattle.fjall_machine.proofs.Lawful.{alike}
+use Rattle.fjall_machine.proofs.TakenIngestions.{ends_before, tables_are_lawful}
 use Rattle.fjall_state.proofs.engine_state.EngineState.put_ingestion.Goals as goal
 
 pub put_ingestion-requires-clause-until : goal.put_ingestion-requires-clause-until

@@ -1,5 +1,5 @@
 use Rattle.std.proofs.Common.{true, false, ◌∙◌, sym}
-use Rattle.fjall_state.proofs.Lawful.{release_is}
+use Rattle.fjall_machine.proofs.Lawful.{release_is}
 use Rattle.fjall_state.proofs.engine_state.EngineState.release.Goals.{then-is_last, else-is_last}
 use Rattle.fjall_state.proofs.engine_state.EngineState.release.Goals as goal
 

@@ -1,9 +1,9 @@
 use Rattle.std.proofs.Common.{◌≡◌, ◌+◌, ◌∙◌, ap, sym}
 use Rattle.std.specs.FinMap.{insert}
 use Rattle.fjall_trees.specs.Views.{forest_of}
-use Rattle.fjall_state.specs.Machine.{handles_of, one_more}
-use Rattle.fjall_state.specs.Remembered.{Remembered, journals_of, retained}
-use Rattle.fjall_state.proofs.Counting.{inserted, map_of}
+use Rattle.fjall_machine.specs.Machine.{handles_of, one_more}
+use Rattle.fjall_machine.specs.Remembered.{Remembered, journals_of, retained}
+use Rattle.fjall_machine.proofs.Counting.{inserted, map_of}
 use Rattle.fjall_state.proofs.engine_state.EngineState.retain.Goals as goal
 
 pub returns-clause-ok : goal.returns-clause-ok

@@ -1,8 +1,8 @@
 use Rattle.std.proofs.Common.{Ok, ap, refl}
 use Rattle.fjall_history.specs.Tickets.{Tracked}
-use Rattle.fjall_state.specs.Remembered.{rotated}
+use Rattle.fjall_machine.specs.Remembered.{rotated}
 use Rattle.fjall_state.proofs.Inside.{memory_in}
-use Rattle.fjall_state.proofs.Lawful.{alike, rotated_is_lawful}
+use Rattle.fjall_machine.proofs.Lawful.{alike, rotated_is_lawful}
 use Rattle.fjall_state.proofs.engine_state.EngineState.rotate_memtable.Goals as goal
 
 pub invariant_of-self-then-is_sealed : goal.invariant_of-self-then-is_sealed

@@ -1,11 +1,11 @@
 use Rattle.std.proofs.Common.{ap, ◌∙◌, refl}
 use Rattle.std.specs.FinMap.{contains_key}
-use Rattle.fjall_tree.specs.Records.{view}
-use Rattle.fjall_state.specs.Ingesting.{with_record}
-use Rattle.fjall_state.specs.Remembered.{Remembered}
+use Rattle.fjall_manifest.specs.Records.{view}
+use Rattle.fjall_machine.specs.Ingesting.{with_record}
+use Rattle.fjall_machine.specs.Remembered.{Remembered}
 use Rattle.fjall_state.proofs.Inside.{memory_in}
-use Rattle.fjall_state.proofs.Lawful.{alike}
-use Rattle.fjall_state.proofs.TakenIngestions.{record_is_lawful}
+use Rattle.fjall_machine.proofs.Lawful.{alike}
+use Rattle.fjall_machine.proofs.TakenIngestions.{record_is_lawful}
 use Rattle.fjall_state.proofs.engine_state.EngineState.swap_record.Goals as goal
 
 pub invariant_of-self : goal.invariant_of-self

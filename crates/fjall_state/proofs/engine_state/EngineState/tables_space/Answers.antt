@@ -5,8 +5,8 @@ use Rattle.std.specs.List.{sum_by}
 use Rattle.fjall_journal.specs.Writer.{counted}
 use Rattle.fjall_meta.specs.declared.living.LivingKeyspace.{LivingKeyspace}
 use Rattle.fjall_meta.specs.Keyspaces.{AreKeyspaces}
-use Rattle.fjall_state.specs.Remembered.{Remembered}
-use Rattle.fjall_state.proofs.Sizes.{space_in, spaces_of_living}
+use Rattle.fjall_machine.specs.Remembered.{Remembered}
+use Rattle.fjall_machine.proofs.Sizes.{space_in, spaces_of_living}
 use Rattle.fjall_state.proofs.engine_state.EngineState.tables_space.Goals as goal
 
 pub returns : goal.returns

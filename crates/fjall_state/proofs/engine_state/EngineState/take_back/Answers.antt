@@ -1,9 +1,9 @@
 use Rattle.std.proofs.Common.{◌≡◌, ◌∙◌, ap}
 use Rattle.fjall_trees.specs.Views.{forest_of}
-use Rattle.fjall_state.specs.Remembered.{Remembered, with_creation}
+use Rattle.fjall_machine.specs.Remembered.{Remembered, with_creation}
 use Rattle.fjall_state.proofs.Inside.{memory_in}
-use Rattle.fjall_state.proofs.Lawful.{alike}
-use Rattle.fjall_state.proofs.Taking.{keyspaces_back, number_back, records_back, tickets_back, trees_back}
+use Rattle.fjall_machine.proofs.Lawful.{alike}
+use Rattle.fjall_machine.proofs.Taking.{keyspaces_back, number_back, records_back, tickets_back, trees_back}
 use Rattle.fjall_state.proofs.engine_state.EngineState.take_back.Goals as goal
 
 pub invariant_of-self : goal.invariant_of-self

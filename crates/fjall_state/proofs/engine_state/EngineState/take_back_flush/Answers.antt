@@ -1,10 +1,10 @@
 use Rattle.std.proofs.Common.{◌≡◌, ◌∙◌, ap}
-use Rattle.fjall_lsm.specs.Jobs.{flush_dropped}
+use Rattle.fjall_tree.specs.Jobs.{flush_dropped}
 use Rattle.fjall_trees.specs.Forests.{altered_at}
-use Rattle.fjall_state.specs.Remembered.{Remembered, flush_out}
+use Rattle.fjall_machine.specs.Remembered.{Remembered, flush_out}
 use Rattle.fjall_state.proofs.Inside.{memory_in}
-use Rattle.fjall_state.proofs.Flushing.{begun_gone, job_back}
-use Rattle.fjall_state.proofs.Lawful.{alike}
+use Rattle.fjall_machine.proofs.Flushing.{begun_gone, job_back}
+use Rattle.fjall_machine.proofs.Lawful.{alike}
 use Rattle.fjall_state.proofs.engine_state.EngineState.take_back_flush.Goals as goal
 
 pub invariant_of-self : goal.invariant_of-self

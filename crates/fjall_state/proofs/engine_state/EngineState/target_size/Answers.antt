@@ -3,8 +3,8 @@ use Rattle.std.specs.Option.{option_copied, option_map}
 use Rattle.fjall_meta.specs.declared.living.LivingKeyspace.{LivingKeyspace}
 use Rattle.fjall_meta.specs.Keyspaces.{keyspace_at}
 use Rattle.fjall_options.specs.declared.options.effective.EffectiveSettings.{EffectiveSettings}
-use Rattle.fjall_state.specs.Remembered.{Remembered}
-use Rattle.fjall_state.proofs.MergeSizes.{held_target, said}
+use Rattle.fjall_machine.specs.Remembered.{Remembered}
+use Rattle.fjall_machine.proofs.MergeSizes.{held_target, said}
 use Rattle.fjall_state.proofs.engine_state.EngineState.target_size.Goals as goal
 
 pub returns-in-Some : goal.returns-in-Some

@@ -5,9 +5,9 @@ use Rattle.fjall_meta.specs.declared.living.LivingKeyspace.{LivingKeyspace}
 use Rattle.fjall_meta.specs.Keyspaces.{keyspace_at}
 use Rattle.fjall_options.specs.Options.{effective_settings}
 use Rattle.fjall_trees.specs.Tables.{shape_in}
-use Rattle.fjall_state.specs.Machine.{active_size}
-use Rattle.fjall_state.specs.Remembered.{Remembered}
-use Rattle.fjall_state.proofs.Sizes.{held_wants, says_too_large}
+use Rattle.fjall_machine.specs.Machine.{active_size}
+use Rattle.fjall_machine.specs.Remembered.{Remembered}
+use Rattle.fjall_machine.proofs.Sizes.{held_wants, says_too_large}
 use Rattle.fjall_state.proofs.engine_state.EngineState.wants_rotation.Goals as goal
 
 pub returns-in-Some : goal.returns-in-Some

@@ -6,9 +6,9 @@ use Rattle.fjall_trees.specs.Views.{forest_of}
 use Rattle.fjall_trees.specs.Writes.{pushed}
 use Rattle.fjall_commit.specs.Journaling.{ForFollowing, LeavesRoot}
 use Rattle.fjall_history.specs.Tickets.{Tracked}
-use Rattle.fjall_state.specs.Remembered.{IsLawful, Remembered, with_change}
-use Rattle.fjall_state.proofs.Lawful.{alike, items_are_lawful}
-use Rattle.fjall_state.proofs.Writing.{untouched_leaves}
+use Rattle.fjall_machine.specs.Remembered.{IsLawful, Remembered, with_change}
+use Rattle.fjall_machine.proofs.Lawful.{alike, items_are_lawful}
+use Rattle.fjall_machine.proofs.Writing.{untouched_leaves}
 use Rattle.fjall_state.proofs.engine_state.EngineState.write.Goals as goal
 
 pub invariant_of-self-2 : goal.invariant_of-self-2

@@ -5,8 +5,8 @@ use Rattle.std.specs.List.{sum_by}
 use Rattle.fjall_journal.specs.Writer.{counted}
 use Rattle.fjall_meta.specs.declared.living.LivingKeyspace.{LivingKeyspace}
 use Rattle.fjall_meta.specs.Keyspaces.{AreKeyspaces}
-use Rattle.fjall_state.specs.Remembered.{Remembered}
-use Rattle.fjall_state.proofs.Sizes.{buffer_of_living, size_in}
+use Rattle.fjall_machine.specs.Remembered.{Remembered}
+use Rattle.fjall_machine.proofs.Sizes.{buffer_of_living, size_in}
 use Rattle.fjall_state.proofs.engine_state.EngineState.write_buffer_size.Goals as goal
 
 pub returns : goal.returns

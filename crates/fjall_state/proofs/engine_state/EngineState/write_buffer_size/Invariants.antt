@@ -1,7 +1,7 @@
 use Rattle.std.proofs.Common.{◌≡◌, take}
 use Rattle.std.specs.List.{sum_by}
 use Rattle.fjall_journal.specs.Writer.{counted}
-use Rattle.fjall_state.proofs.Sizes.{size_in}
+use Rattle.fjall_machine.proofs.Sizes.{size_in}
 use Rattle.fjall_state.proofs.engine_state.EngineState.write_buffer_size.Given as goal
 
 abbrev pub invariant-loop-keyspace : goal.invariant-loop-keyspace

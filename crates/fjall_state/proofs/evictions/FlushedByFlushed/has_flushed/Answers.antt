@@ -1,8 +1,8 @@
 use Rattle.std.proofs.Common.{◌≡◌, ◌∙◌, Some, None, not, true, sym, ap, rules}
 use Rattle.std.specs.Option.{is_some}
 use Rattle.fjall_meta.specs.Keyspaces.{keyspace_at}
-use Rattle.fjall_tree.specs.Records.{view}
-use Rattle.fjall_state.proofs.Evicting.{told_by}
+use Rattle.fjall_manifest.specs.Records.{view}
+use Rattle.fjall_machine.proofs.Evicting.{told_by}
 use Rattle.fjall_state.proofs.evictions.FlushedByFlushed.has_flushed.Goals as goal
 
 pub returns-in-Some : goal.returns-in-Some

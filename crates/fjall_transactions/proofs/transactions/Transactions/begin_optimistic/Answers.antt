@@ -1,4 +1,4 @@
-use Rattle.fjall_core.specs.Shapes.{OfTickets, Open}
+use Rattle.fjall_machine.specs.Shapes.{OfTickets, Open}
 use Rattle.fjall_transactions.specs.Commits.{begun_reply}
 use Rattle.fjall_transactions.proofs.Standing.{owed_stands, served_goes_on}
 use Rattle.fjall_transactions.proofs.transactions.Transactions.begin_optimistic.Goals as goal

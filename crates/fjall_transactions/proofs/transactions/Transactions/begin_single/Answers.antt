@@ -1,6 +1,6 @@
 use Rattle.std.proofs.Common.{rules, Ok, Some, sym, subst}
 use Rattle.fjall_history.specs.declared.reply.Reply.TheVariants.{Opened}
-use Rattle.fjall_core.specs.Shapes.{OfTickets, Open}
+use Rattle.fjall_machine.specs.Shapes.{OfTickets, Open}
 use Rattle.fjall_core.specs.Standing.{Owes, Serves}
 use Rattle.fjall_transactions.specs.Commits.{begun_reply}
 use Rattle.fjall_transactions.specs.Standing.{GoesOn, StandFor, gone_on}

@@ -1,6 +1,6 @@
 use Rattle.std.proofs.Common.{◌≡◌, None, Some, refl, sym, subst, ◌∙◌}
 use Rattle.std.specs.FinMap.{get}
-use Rattle.fjall_core.specs.Shapes.{Close, OfTickets}
+use Rattle.fjall_machine.specs.Shapes.{Close, OfTickets}
 use Rattle.fjall_core.specs.Standing.{Owes, Serves, reply_of}
 use Rattle.fjall_transactions.specs.Transactions.{Tx}
 use Rattle.fjall_base.specs.declared.error.Error.TheVariants.{SnapshotClosed}

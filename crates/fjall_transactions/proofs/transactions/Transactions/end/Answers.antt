@@ -1,6 +1,6 @@
 use Rattle.std.proofs.Common.{sym, ap, subst}
 use Rattle.fjall_tx.specs.declared.outcome.CommitOutcome.TheVariants as outcomes
-use Rattle.fjall_core.specs.Shapes.{ByMode}
+use Rattle.fjall_machine.specs.Shapes.{ByMode}
 use Rattle.fjall_core.specs.Standing.{Owes, Serves}
 use Rattle.fjall_transactions.specs.Commits.{Comes}
 use Rattle.fjall_transactions.specs.Transactions.{Tx}

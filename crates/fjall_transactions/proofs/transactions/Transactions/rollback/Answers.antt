@@ -1,5 +1,5 @@
 use Rattle.std.proofs.Common.{subst}
-use Rattle.fjall_core.specs.Shapes.{Close, OfTickets}
+use Rattle.fjall_machine.specs.Shapes.{Close, OfTickets}
 use Rattle.fjall_core.specs.Standing.{Owes, Serves, reply_of}
 use Rattle.fjall_transactions.specs.Transactions.{Tx}
 use Rattle.fjall_transactions.specs.Standing.{gone_on}

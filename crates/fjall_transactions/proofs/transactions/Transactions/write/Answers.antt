@@ -1,6 +1,6 @@
 use Rattle.std.proofs.Common.{None, Some}
 use Rattle.fjall_journal.specs.Changes.{Items}
-use Rattle.fjall_core.specs.Shapes.{ByMode, OfChange}
+use Rattle.fjall_machine.specs.Shapes.{ByMode, OfChange}
 use Rattle.fjall_core.specs.Standing.{Owes, Serves}
 use Rattle.fjall_transactions.proofs.Asking.{due_told, look_found}
 use Rattle.fjall_transactions.proofs.transactions.Transactions.write.Goals as goal

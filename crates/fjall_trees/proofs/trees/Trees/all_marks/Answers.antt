@@ -1,7 +1,7 @@
 use Rattle.std.proofs.Common.{◌≡◌, ℕ, ◌+◌, List, [], ◌∷◌, ◌++◌, add-one, ap, refl, subst, sym, take, ◌∙◌}
 use Rattle.std.proofs.Math.Seq.{take-suc}
 use Rattle.std.proofs.lemmas.List.{take_all}
-use Rattle.fjall_parts.specs.declared.mark.Mark.{Mark}
+use Rattle.fjall_memtable.specs.declared.mark.Mark.{Mark}
 use Rattle.fjall_trees.specs.declared.trees.KeyspaceTree.{KeyspaceTree}
 use Rattle.fjall_trees.proofs.Marking.{Marked, marked_more}
 use Rattle.fjall_trees.proofs.trees.Trees.all_marks.Goals as goal

@@ -1,9 +1,9 @@
 use Rattle.std.proofs.Common.{◌≡◌, ◌≢◌, ◌⊎◌, List, [], None, inl, refl, sym, subst}
 use Rattle.std.specs.Prelude.{◌↔◌, IfSome}
 use Rattle.std.specs.Result.{IfOk}
-use Rattle.fjall_lsm.specs.Flushes.{flush_task}
-use Rattle.fjall_lsm.specs.Jobs.{IsFlushing, flush_begun, flush_of}
-use Rattle.fjall_lsm.specs.Trees.{Shape}
+use Rattle.fjall_jobs.specs.Flushes.{flush_task}
+use Rattle.fjall_tree.specs.Jobs.{IsFlushing, flush_begun, flush_of}
+use Rattle.fjall_tree.specs.Trees.{Shape}
 use Rattle.fjall_trees.specs.declared.trees.KeyspaceTree.{KeyspaceTree}
 use Rattle.fjall_trees.specs.Forests.{tree_at}
 use Rattle.fjall_trees.specs.Lists.{forest_in}

@@ -1,12 +1,12 @@
 use Rattle.std.proofs.Common.{◌≡◌, List, None, inl, refl, sym, subst}
 use Rattle.std.specs.Prelude.{◌↔◌, IfSome}
 use Rattle.std.specs.Result.{IfErr, IfOk}
-use Rattle.fjall_table.specs.Files.{IsRefused}
-use Rattle.fjall_blocks.specs.Readers.{SomeTableIsWrong}
-use Rattle.fjall_blocks.proofs.Readers.{looks_none}
-use Rattle.fjall_lsm.specs.Merges.{merge_task}
-use Rattle.fjall_lsm.specs.Jobs.{IsMerging, MergesNothing, merge_begun, merge_of}
-use Rattle.fjall_lsm.specs.Trees.{Shape}
+use Rattle.fjall_table_reader.specs.Files.{IsRefused}
+use Rattle.fjall_table_reader.specs.Readers.{SomeTableIsWrong}
+use Rattle.fjall_table_reader.proofs.Readers.{looks_none}
+use Rattle.fjall_jobs.specs.Merges.{merge_task}
+use Rattle.fjall_tree.specs.Jobs.{IsMerging, MergesNothing, merge_begun, merge_of}
+use Rattle.fjall_tree.specs.Trees.{Shape}
 use Rattle.fjall_trees.specs.declared.trees.KeyspaceTree.{KeyspaceTree}
 use Rattle.fjall_trees.specs.Forests.{tree_at}
 use Rattle.fjall_trees.specs.Lists.{forest_in}

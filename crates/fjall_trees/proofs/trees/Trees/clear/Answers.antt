@@ -1,6 +1,6 @@
 use Rattle.std.proofs.Common.{◌≡◌, ◌≤◌, List, [], ◌∷◌, ◌++◌, None, ap, drop, set, subst, sym, ◌∙◌, arith}
-use Rattle.fjall_parts.specs.declared.mark.Mark.{Mark}
-use Rattle.fjall_lsm.specs.Trees.{emptied}
+use Rattle.fjall_memtable.specs.declared.mark.Mark.{Mark}
+use Rattle.fjall_tree.specs.Trees.{emptied}
 use Rattle.fjall_trees.specs.declared.trees.KeyspaceTree.{KeyspaceTree}
 use Rattle.fjall_trees.specs.Forests.{Planted, tree_at}
 use Rattle.fjall_trees.specs.Lists.{AreMarks, forest_from, forest_in}

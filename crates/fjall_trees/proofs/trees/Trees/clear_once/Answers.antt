@@ -1,6 +1,6 @@
 use Rattle.std.proofs.Common.{◌≡◌, List, None, subst, sym}
-use Rattle.fjall_lsm.specs.Puts.{emptied_once}
-use Rattle.fjall_lsm.specs.Shapes.{shape_of}
+use Rattle.fjall_tree.specs.Puts.{emptied_once}
+use Rattle.fjall_tree.specs.Shapes.{shape_of}
 use Rattle.fjall_trees.specs.declared.trees.KeyspaceTree.{KeyspaceTree}
 use Rattle.fjall_trees.specs.Forests.{tree_at}
 use Rattle.fjall_trees.specs.Lists.{forest_in}

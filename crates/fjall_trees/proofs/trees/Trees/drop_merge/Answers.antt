@@ -1,5 +1,5 @@
 use Rattle.std.proofs.Common.{◌≡◌, List, None, subst, sym}
-use Rattle.fjall_lsm.specs.Jobs.{merge_dropped}
+use Rattle.fjall_tree.specs.Jobs.{merge_dropped}
 use Rattle.fjall_trees.specs.declared.trees.KeyspaceTree.{KeyspaceTree}
 use Rattle.fjall_trees.specs.Forests.{tree_at}
 use Rattle.fjall_trees.specs.Lists.{forest_in}

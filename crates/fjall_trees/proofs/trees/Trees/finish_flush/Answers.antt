@@ -1,10 +1,10 @@
 use Rattle.std.proofs.Common.{◌≡◌, ℕ, false, List, length, set, None, refl, sym, subst, ◌∙◌}
 use Rattle.std.specs.Prelude.{IfSome}
 use Rattle.std.specs.Result.{IfOk}
-use Rattle.fjall_lsm.specs.Flushes.{flush_task}
-use Rattle.fjall_lsm.specs.Jobs.{IsFlushing, flush_finished, is_flush_out}
-use Rattle.fjall_lsm.specs.Shapes.{shape_of}
-use Rattle.fjall_lsm.specs.Trees.{Shape}
+use Rattle.fjall_jobs.specs.Flushes.{flush_task}
+use Rattle.fjall_tree.specs.Jobs.{IsFlushing, flush_finished, is_flush_out}
+use Rattle.fjall_tree.specs.Shapes.{shape_of}
+use Rattle.fjall_tree.specs.Trees.{Shape}
 use Rattle.fjall_trees.specs.declared.trees.KeyspaceTree.{KeyspaceTree}
 use Rattle.fjall_trees.specs.Forests.{Forest, altered_at, tree_at}
 use Rattle.fjall_trees.specs.Lists.{forest_in}

@@ -1,5 +1,5 @@
 use Rattle.std.proofs.Common.{true, refl}
-use Rattle.fjall_blocks.proofs.Readers.{looks_none}
+use Rattle.fjall_table_reader.proofs.Readers.{looks_none}
 use Rattle.fjall_trees.specs.Views.{forest_of}
 use Rattle.fjall_trees.proofs.Places.{found_tree, set_forest}
 use Rattle.fjall_trees.proofs.Reading.{read_here, read_set}

@@ -1,12 +1,12 @@
 use Rattle.std.proofs.Common.{◌≡◌, List, None, sym, subst, ◌∙◌}
 use Rattle.std.specs.Result.{IfErr}
 use Rattle.fjall_base.proofs.Codecs.{some_is}
-use Rattle.fjall_table.specs.Files.{IsRefused}
+use Rattle.fjall_table_reader.specs.Files.{IsRefused}
 use Rattle.fjall_views.specs.Views.{IsView}
-use Rattle.fjall_blocks.specs.Readers.{SomeTableIsWrong}
-use Rattle.fjall_blocks.proofs.Readers.{looks_none}
-use Rattle.fjall_lsm.specs.Shapes.{shape_of}
-use Rattle.fjall_lsm.specs.Trees.{Shape, clears_of, versions_of}
+use Rattle.fjall_table_reader.specs.Readers.{SomeTableIsWrong}
+use Rattle.fjall_table_reader.proofs.Readers.{looks_none}
+use Rattle.fjall_tree.specs.Shapes.{shape_of}
+use Rattle.fjall_tree.specs.Trees.{Shape, clears_of, versions_of}
 use Rattle.fjall_trees.specs.declared.trees.KeyspaceTree.{KeyspaceTree}
 use Rattle.fjall_trees.specs.Forests.{tree_at}
 use Rattle.fjall_trees.specs.Lists.{forest_in}

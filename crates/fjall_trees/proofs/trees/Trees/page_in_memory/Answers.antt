@@ -1,8 +1,8 @@
 use Rattle.std.proofs.Common.{[], sym, subst, ◌∙◌}
 use Rattle.fjall_base.proofs.Codecs.{some_is}
 use Rattle.fjall_views.specs.Views.{IsView}
-use Rattle.fjall_lsm.specs.Shapes.{shape_of}
-use Rattle.fjall_lsm.specs.Trees.{Shape, clears_of, versions_of}
+use Rattle.fjall_tree.specs.Shapes.{shape_of}
+use Rattle.fjall_tree.specs.Trees.{Shape, clears_of, versions_of}
 use Rattle.fjall_trees.proofs.Places.{found_tree, tree_here}
 use Rattle.fjall_trees.proofs.trees.Trees.page_in_memory.Goals as goal
 

@@ -2,8 +2,8 @@ use Rattle.std.proofs.Common.{◌<◌, ◌≤◌, ◌^◌, length, All, ap, refl
 use Rattle.fjall_base.specs.Pairs.{Bytes}
 use Rattle.fjall_table.specs.Blocks.{Entry, value_bytes}
 use Rattle.fjall_memtable.specs.Entries.{version}
-use Rattle.fjall_lsm.specs.Puts.{put}
-use Rattle.fjall_lsm.specs.Trees.{Shape}
+use Rattle.fjall_tree.specs.Puts.{put}
+use Rattle.fjall_tree.specs.Trees.{Shape}
 use Rattle.fjall_trees.specs.Forests.{altered_at}
 use Rattle.fjall_trees.specs.Views.{forest_of}
 use Rattle.fjall_trees.proofs.Places.{tree_has}

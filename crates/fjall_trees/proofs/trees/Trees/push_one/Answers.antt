@@ -1,13 +1,13 @@
 use Rattle.std.proofs.Common.{◌≡◌, ◌≤◌, List, [], ◌∷◌, ◌++◌, None, ap, drop, set, subst, sym, ◌∙◌, arith}
 use Rattle.std.specs.Option.{option_map}
-use Rattle.fjall_parts.specs.declared.mark.Mark.{Mark}
+use Rattle.fjall_memtable.specs.declared.mark.Mark.{Mark}
 use Rattle.fjall_table.specs.Blocks.{Entry}
 use Rattle.fjall_memtable.specs.Entries.{version}
-use Rattle.fjall_lsm.specs.Puts.{put}
+use Rattle.fjall_tree.specs.Puts.{put}
 use Rattle.fjall_trees.specs.declared.trees.KeyspaceTree.{KeyspaceTree}
 use Rattle.fjall_trees.specs.Forests.{Planted, altered_at, tree_at}
 use Rattle.fjall_trees.specs.Lists.{AreMarks, forest_from, forest_in}
-use Rattle.fjall_trees.specs.Writes.{entry_of}
+use Rattle.fjall_trees.specs.Writes.{version_of_item}
 use Rattle.fjall_trees.proofs.Marking.{set_one}
 use Rattle.fjall_trees.proofs.Places.{altered_none, err_given, found_tree, place_has, place_within, set_altered, set_forest, set_same}
 use Rattle.fjall_trees.proofs.Pushing.{begun, pushed_one}
@@ -18,7 +18,7 @@ returns-in_default-clause-ok c =
     let item = c.args.item.now in
     let trees = forest_in c.args.self.now.trees.items in
     let none = subst (λ (xs : List KeyspaceTree). tree_at item.0 (forest_in xs) ≡ None) c.as_slice.ensures.value c.in_default.ensures in
-    sym (pushed_one c.args.number item trees ∙ altered_none item.0 (put (entry_of c.args.number item)) trees none)
+    sym (pushed_one c.args.number item trees ∙ altered_none item.0 (put (version_of_item c.args.number item)) trees none)
 
 pub index_mut-requires : goal.index_mut-requires
 index_mut-requires c =

@@ -1,6 +1,6 @@
 use Rattle.std.proofs.Common.{◌≡◌, ◌∙◌, ◌+◌, ◌≤◌, List, None, length, subst, sym, ap, vec_capacity}
-use Rattle.fjall_lsm.specs.Ingestions.{ingested}
-use Rattle.fjall_lsm.specs.Trees.{Shape, clears_of}
+use Rattle.fjall_tree.specs.Ingestions.{ingested}
+use Rattle.fjall_tree.specs.Trees.{Shape, clears_of}
 use Rattle.fjall_trees.specs.declared.trees.KeyspaceTree.{KeyspaceTree}
 use Rattle.fjall_trees.specs.Forests.{tree_at}
 use Rattle.fjall_trees.specs.Lists.{forest_in}

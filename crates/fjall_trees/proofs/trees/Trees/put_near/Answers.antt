@@ -1,8 +1,8 @@
 use Rattle.std.proofs.Common.{◌≡◌, List, None, subst, sym}
 use Rattle.std.specs.Option.{option_map}
 use Rattle.fjall_memtable.specs.Entries.{version}
-use Rattle.fjall_lsm.specs.Puts.{put}
-use Rattle.fjall_lsm.specs.Shapes.{shape_of}
+use Rattle.fjall_tree.specs.Puts.{put}
+use Rattle.fjall_tree.specs.Shapes.{shape_of}
 use Rattle.fjall_trees.specs.declared.trees.KeyspaceTree.{KeyspaceTree}
 use Rattle.fjall_trees.specs.Forests.{tree_at}
 use Rattle.fjall_trees.specs.Lists.{forest_in}

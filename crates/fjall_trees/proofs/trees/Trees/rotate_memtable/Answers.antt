@@ -1,8 +1,8 @@
 use Rattle.std.proofs.Common.{◌≡◌, Bool, false, not, Option, subst, sym, unwrap_or}
 use Rattle.std.specs.Option.{option_map}
 use Rattle.std.specs.Result.{IfOk}
-use Rattle.fjall_parts.specs.Parts.{holds_nothing}
-use Rattle.fjall_lsm.specs.Trees.{Shape, sealed_off}
+use Rattle.fjall_memtable.specs.Parts.{holds_nothing}
+use Rattle.fjall_tree.specs.Trees.{Shape, sealed_off}
 use Rattle.fjall_trees.proofs.Places.{err_so, found_tree, set_altered, set_forest, set_same, tree_here}
 use Rattle.fjall_trees.proofs.trees.Trees.rotate_memtable.Goals as goal
 

@@ -1,7 +1,7 @@
 use Rattle.std.proofs.Common.{◌∙◌, ◌<◌, Ok, ap, arith, length, refl}
 use Rattle.std.proofs.lemmas.List.{length-set}
 use Rattle.std.proofs.lemmas.Option.{slice_get_read}
-use Rattle.fjall_lsm.specs.Shapes.{shape_of}
+use Rattle.fjall_tree.specs.Shapes.{shape_of}
 use Rattle.fjall_trees.specs.Views.{forest_of}
 use Rattle.fjall_trees.proofs.Places.{err_given, set_forest, set_same}
 use Rattle.fjall_trees.proofs.Sealed.{rotated_once, sealed_more}

@@ -1,7 +1,7 @@
 use Rattle.std.proofs.Common.{◌≡◌, ℕ, suc, ◌+◌, ◌<◌, List, ◌∷◌, add-one, ap, drop, drop-cons, length, refl, set, subst, sym, ◌∙◌, arith}
 use Rattle.std.proofs.lemmas.List.{drop_all}
 use Rattle.std.proofs.lemmas.Option.{slice_get_read}
-use Rattle.fjall_parts.specs.declared.mark.Mark.{Mark}
+use Rattle.fjall_memtable.specs.declared.mark.Mark.{Mark}
 use Rattle.fjall_trees.specs.declared.trees.KeyspaceTree.{KeyspaceTree}
 use Rattle.fjall_trees.specs.Lists.{AreMarks, forest_from}
 use Rattle.fjall_trees.proofs.Marking.{mark_here, marks_within, none_left, undone}

@@ -1,5 +1,0 @@
-use Rattle.std.proofs.Common.{◌≡◌, None, length, replicate, take}
-use Rattle.fjall_blocks.proofs.table_reader.clear.Given as goal
-
-abbrev pub invariant-loop-at : goal.invariant-loop-at
-invariant-loop-at l = (take l.at l.blocks.items ≡ replicate l.at None) × (length l.blocks.items ≡ length l.fn.blocks.items)

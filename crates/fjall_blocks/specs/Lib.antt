@@ -1,5 +1,0 @@
-pub mod Places
-pub mod Ahead
-pub mod Readers
-pub mod Spans
-pub mod Finds

@@ -1,0 +1,59 @@
+-- An ingestion that is planned, and for which trees.
+use Rattle.std.specs.Prelude.{◌≡◌, ◌≢◌, ⊤, ℕ, ◌-◌, ◌<◌, ◌≤◌, ◌^◌, true, List, [], None, length}
+use Rattle.fjall_base.specs.declared.error.Error.{Error}
+use Rattle.fjall_base.specs.declared.error.Error.TheVariants.{NumbersUsedUp, OutOfMemory, TooManyItems}
+use Rattle.fjall_base.specs.Disk.{Meaning, state_in}
+use Rattle.fjall_contents.specs.Contents.{is_beyond}
+use Rattle.fjall_compaction.specs.Flushes.{HasAt, record_after}
+use Rattle.fjall_compaction.specs.FlushPlans.{IsFlushPlan}
+use Rattle.fjall_manifest.specs.Homes.{Home}
+use Rattle.fjall_jobs.specs.declared.made_table.MadeTable.{MadeTable}
+use Rattle.fjall_jobs.specs.Sequences.{MakesTables}
+use Rattle.fjall_recovery.specs.Halves.{Tree}
+use Rattle.fjall_recovery.specs.Places.{LiesInTree}
+use Rattle.fjall_table.specs.Blocks.{Entry}
+use Rattle.fjall_manifest.specs.Records.{Fields, body}
+use Rattle.fjall_writes.specs.Ingestions.{KeyOp}
+use Rattle.fjall_compaction.specs.declared.ingestion.plan.IngestPlan.{IngestPlan}
+use Rattle.fjall_compaction.specs.Ingests.{as_flush, tree_with, versions_made}
+
+-- the tables are an ingestion's: one of exactly the versions that it makes, or none where it has no item
+abbrev pub AreIngestionTables : ℕ → List KeyOp → List MadeTable → Type 0
+AreIngestionTables number items tables = MakesTables None tables (versions_made number items)
+
+-- What is planned of an ingestion into the keyspace of this id with that last record: its table, and the record after it with the
+-- names of the files.
+pub record IsIngestPlan (id number : ℕ) (items : List KeyOp) (last : Fields) (plan : IngestPlan) : Type 0 where
+  pub tables : AreIngestionTables number items plan.tables.items
+  pub planned : IsFlushPlan id last (as_flush number plan.tables.items) plan.writes
+
+-- The record after an ingestion has no room for so many tables and clears.
+pub record RecordHasNoRoom (number : ℕ) (items : List KeyOp) (last : Fields) : Type 0 where
+  pub tables : List MadeTable
+  pub are : AreIngestionTables number items tables
+  pub long : 2 ^ 32 ≤ length (body (record_after (as_flush number tables) last))
+
+-- Why an ingestion can't be planned: memory ran out; ids of tables are used up; or the record has no room.
+abbrev pub IsIngestRefusal : ℕ → List KeyOp → Fields → Error → Type 0
+IsIngestRefusal number items last OutOfMemory = ⊤
+IsIngestRefusal number items last NumbersUsedUp = (items ≢ []) × (last.next_table_id ≡ 2 ^ 64 - 1)
+IsIngestRefusal number items last TooManyItems = RecordHasNoRoom number items last
+IsIngestRefusal number items last error = ⊥
+
+-- ---- of whatever ingestion was planned
+
+-- for the keyspace of which a plan is, whatever its last record is
+abbrev pub ForIngest : IngestPlan → (ℕ → Type 0) → Type 0
+ForIngest plan Holds = (id number : ℕ) (items : List KeyOp) (last : Fields) → IsIngestPlan id number items last plan → Holds id
+
+-- the same, and for the number of the table that is made next
+abbrev pub ForIngestNext : IngestPlan → ((id next : ℕ) → Type 0) → Type 0
+ForIngestNext plan Holds = (id number : ℕ) (items : List KeyOp) (last : Fields) → IsIngestPlan id number items last plan → Holds id last.next_table_id
+
+-- for whichever tree lies on the disk, and the tree after an ingestion into one of its keyspaces, under a number below 2^63 and
+-- beyond the keyspace's persisted one
+abbrev pub ForIngestOn : Meaning → IngestPlan → (List Fields → Tree → ℕ → Home → Tree → Type 0) → Type 0
+ForIngestOn disk plan Holds = (records : List Fields) (t : Tree) (id number : ℕ) (items : List KeyOp) (h : Home) (versions : List Entry) → LiesInTree (state_in disk) records t → HasAt t id h versions
+    → number < 2 ^ 63 → is_beyond h.last.persisted number ≡ true
+    → IsIngestPlan id number items h.last plan
+    → Holds records t id h (tree_with id number items plan.tables.items h versions t)

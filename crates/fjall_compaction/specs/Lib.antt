@@ -1,0 +1,12 @@
+pub mod Flushes
+pub mod FlushPlans
+pub mod Covering
+pub mod FlushFinishing
+pub mod Ingests
+pub mod IngestionPlans
+pub mod Commands
+pub mod Whole
+pub mod Planned
+pub mod Merges
+pub mod MergePlans
+pub mod MergeFinishing

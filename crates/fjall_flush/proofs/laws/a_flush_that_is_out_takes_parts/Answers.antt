@@ -1,8 +1,0 @@
-use Rattle.fjall_flush.proofs.Taken as Taken
-use Rattle.fjall_flush.proofs.laws.a_flush_that_is_out_takes_parts.Goals as goal
-
-pub returns-clause-parts : goal.returns-clause-parts
-returns-clause-parts c shape task is = Taken.parts_parted is.out.count shape.memory
-
-pub returns-clause-takes : goal.returns-clause-takes
-returns-clause-takes c = Taken.takes

@@ -1,5 +1,0 @@
-use Rattle.fjall_home.proofs.Meanings as Meanings
-use Rattle.fjall_home.proofs.laws.one_home.Goals as goal
-
-pub returns : goal.returns
-returns c image id records others h other one two = Meanings.one_home image id records others h other one two

@@ -1,3 +1,0 @@
-pub mod Homes
-pub mod Changes
-pub mod Reading

@@ -1,5 +1,0 @@
-use Rattle.fjall_ingest.proofs.Storing.{nothing_to_show}
-use Rattle.fjall_ingest.proofs.laws.all_is_persisted.Goals as goal
-
-pub returns-clause-shown : goal.returns-clause-shown
-returns-clause-shown c = nothing_to_show

@@ -1,6 +1,0 @@
-use Rattle.std.proofs.Common.{◌≡◌, ◌-◌, ◌^◌, min, take}
-use Rattle.std.specs.List.{sum_by}
-use Rattle.fjall_lsm.proofs.counts.bytes_on_disk.Given as goal
-
-abbrev pub invariant-loop-table : goal.invariant-loop-table
-invariant-loop-table l = l.total ≡ min (sum_by (λ t. t.info.file_len) (take l.table-index l.tables)) (2 ^ 64 - 1)

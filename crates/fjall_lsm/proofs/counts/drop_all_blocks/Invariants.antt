@@ -1,6 +1,0 @@
-use Rattle.std.proofs.Common.{◌≡◌}
-use Rattle.fjall_blocks.proofs.Several.{unread_to}
-use Rattle.fjall_lsm.proofs.counts.drop_all_blocks.Given as goal
-
-abbrev pub invariant-loop-at : goal.invariant-loop-at
-invariant-loop-at l = l.tables ≡ unread_to l.at l.initial.tables

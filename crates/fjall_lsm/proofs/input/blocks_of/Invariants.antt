@@ -1,5 +1,0 @@
-use Rattle.fjall_lsm.proofs.Inputs.{Gathering}
-use Rattle.fjall_lsm.proofs.input.blocks_of.Given as goal
-
-abbrev pub invariant-loop-at : goal.invariant-loop-at
-invariant-loop-at g l = Gathering g.D.Disk.honest (g.D.Disk.meaning l.fn.disk) (g.D.Disk.meaning l.disk) l.fn.reader l.reader l.at l.blocks.items

@@ -1,0 +1,5 @@
+use Rattle.fjall_machine.proofs.Standing as Standing
+use Rattle.fjall_machine.proofs.laws.a_deletion_stands.Goals as goal
+
+pub returns : goal.returns
+returns c = Standing.a_deletion_stands

@@ -1,0 +1,5 @@
+use Rattle.fjall_machine.proofs.Standing as Standing
+use Rattle.fjall_machine.proofs.laws.a_journal_rotation_stands.Goals as goal
+
+pub returns : goal.returns
+returns c = Standing.a_journal_rotation_stands

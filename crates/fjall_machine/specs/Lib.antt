@@ -1,0 +1,10 @@
+pub mod Shapes
+pub mod Machine
+pub mod Merging
+pub mod Remembered
+pub mod Allowed
+pub mod Places
+pub mod Reads
+pub mod Finishing
+pub mod Evicting
+pub mod Ingesting

@@ -1,0 +1,4 @@
+pub mod Records
+pub mod Homes
+pub mod Changes
+pub mod Reading

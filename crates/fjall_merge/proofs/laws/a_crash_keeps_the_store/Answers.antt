@@ -1,8 +1,0 @@
-use Rattle.fjall_merge.proofs.SameStore as SameStore
-use Rattle.fjall_merge.proofs.laws.a_crash_keeps_the_store.Goals as goal
-
-pub returns-clause-image : goal.returns-clause-image
-returns-clause-image c = SameStore.crash_stands
-
-pub returns-clause-run : goal.returns-clause-run
-returns-clause-run c = SameStore.run_stands

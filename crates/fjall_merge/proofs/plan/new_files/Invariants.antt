@@ -1,6 +1,0 @@
-use Rattle.std.proofs.Common.{take}
-use Rattle.fjall_merge.specs.Plans.{AreNamed}
-use Rattle.fjall_merge.proofs.plan.new_files.Given as goal
-
-abbrev pub invariant-loop-at : goal.invariant-loop-at
-invariant-loop-at l = AreNamed l.fn.id l.fn.next (take l.at l.fn.tables) l.files.items

@@ -1,6 +1,0 @@
-use Rattle.std.proofs.Common.{◌≡◌, take}
-use Rattle.fjall_merge.specs.Merges.{infos_from}
-use Rattle.fjall_merge.proofs.plan.next_tables.Given as goal
-
-abbrev pub invariant-loop-at : goal.invariant-loop-at
-invariant-loop-at l = l.infos.items ≡ infos_from l.fn.last.next_table_id (take l.at l.fn.tables)

@@ -1,9 +1,0 @@
-use Rattle.std.proofs.Common.{ap, ◌∙◌}
-use Rattle.fjall_meta.specs.Trackers.{is_open}
-use Rattle.fjall_meta.proofs.TrackerEntries.{open-lookup}
-use Rattle.fjall_meta.proofs.instants.Instants.contains.Goals as goal
-
-pub returns : goal.returns
-returns c =
-    c.contains_key.ensures ∙ open-lookup c.args.instant c.self.inside.counts.entries c.self.invariant.0
-    ∙ ap (is_open c.args.instant) c.self.view_is

@@ -1,5 +1,0 @@
-pub mod Parts
-pub mod Runs
-pub mod Pages
-pub mod Tables
-pub mod Leads

@@ -1,7 +1,0 @@
-use Rattle.fjall_parts.specs.Held.{held_of}
-use Rattle.fjall_parts.specs.Shares.{shared}
-use Rattle.fjall_parts.proofs.Apart.{apart_with}
-use Rattle.fjall_parts.proofs.parts.Parts.clear.Goals as goal
-
-pub invariant_of-self : goal.invariant_of-self
-invariant_of-self c = let m = c.args.self.now in record { apart = apart_with (shared m.sealed.items) (held_of m.active) (held_of c.clear.new.self) c.clear.ensures.from m.apart }

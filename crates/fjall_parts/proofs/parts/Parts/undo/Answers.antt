@@ -1,9 +1,0 @@
-use Rattle.std.proofs.Common.{ap}
-use Rattle.fjall_parts.specs.Parts.{Held}
-use Rattle.fjall_parts.specs.Held.{held_of}
-use Rattle.fjall_parts.specs.Shares.{shared}
-use Rattle.fjall_parts.proofs.Apart.{apart_with}
-use Rattle.fjall_parts.proofs.parts.Parts.undo.Goals as goal
-
-pub invariant_of-self : goal.invariant_of-self
-invariant_of-self c = let m = c.args.self.now in record { apart = apart_with (shared m.sealed.items) (held_of m.active) (held_of c.undo.new.self) (ap (λ (h : Held). h.from) c.undo.ensures) m.apart }

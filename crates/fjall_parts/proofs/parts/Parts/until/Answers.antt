@@ -1,9 +1,0 @@
-use Rattle.std.proofs.lemmas.List.Elements.{All-push}
-use Rattle.fjall_parts.specs.Parts.{IsHeld}
-use Rattle.fjall_parts.specs.Held.{held_of}
-use Rattle.fjall_parts.specs.Shares.{shared}
-use Rattle.fjall_parts.proofs.Apart.{all_held}
-use Rattle.fjall_parts.proofs.parts.Parts.until.Goals as goal
-
-pub returns-clause-held : goal.returns-clause-held
-returns-clause-held c = let m = c.args.self.now in All-push IsHeld (shared m.sealed.items) (held_of m.active) (all_held m.sealed.items) m.active.held

@@ -1,4 +1,0 @@
-pub mod Parts
-pub mod Held
-pub mod Shares
-pub mod Memories

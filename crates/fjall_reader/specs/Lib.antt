@@ -1,4 +1,0 @@
-pub mod Alike
-pub mod Leaving
-pub mod Shown
-pub mod Going

@@ -1,4 +1,0 @@
-pub mod Items
-pub mod Serials
-pub mod Growing
-pub mod Resting

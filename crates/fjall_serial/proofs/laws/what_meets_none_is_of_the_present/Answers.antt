@@ -1,5 +1,0 @@
-use Rattle.fjall_serial.proofs.Serials.{present_of}
-use Rattle.fjall_serial.proofs.laws.what_meets_none_is_of_the_present.Goals as goal
-
-pub returns : goal.returns
-returns c = present_of

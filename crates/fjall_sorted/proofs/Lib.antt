@@ -1,9 +1,0 @@
-pub mod Barriers
-pub mod Keeping
-pub mod Orders
-pub mod Paging
-pub mod PagingBack
-pub mod Ranges
-pub mod Sorting
-pub mod Taking
-pub mod Viewing

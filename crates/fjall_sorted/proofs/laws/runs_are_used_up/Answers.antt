@@ -1,5 +1,0 @@
-use Rattle.fjall_sorted.proofs.Barriers as Barriers
-use Rattle.fjall_sorted.proofs.laws.runs_are_used_up.Goals as goal
-
-pub returns : goal.returns
-returns c = Barriers.used_up

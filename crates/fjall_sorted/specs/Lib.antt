@@ -1,3 +1,0 @@
-pub mod Sorted
-pub mod Pages
-pub mod Kept

@@ -1,5 +1,0 @@
-use Rattle.fjall_state.proofs.Flushing as Flushing
-use Rattle.fjall_state.proofs.laws.a_begun_flush_stands.Goals as goal
-
-pub returns : goal.returns
-returns c = Flushing.a_begun_flush_stands

@@ -1,5 +1,0 @@
-use Rattle.fjall_state.proofs.Standing as Standing
-use Rattle.fjall_state.proofs.laws.a_rotation_stands.Goals as goal
-
-pub returns : goal.returns
-returns c = Standing.a_rotation_stands

@@ -1,5 +1,0 @@
-use Rattle.fjall_state.proofs.Moving as Moving
-use Rattle.fjall_state.proofs.laws.a_step_moves.Goals as goal
-
-pub returns : goal.returns
-returns c = Moving.step_moves

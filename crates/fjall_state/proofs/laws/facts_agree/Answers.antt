@@ -1,5 +1,0 @@
-use Rattle.fjall_state.proofs.Standing as Standing
-use Rattle.fjall_state.proofs.laws.facts_agree.Goals as goal
-
-pub returns : goal.returns
-returns c = Standing.facts_agree

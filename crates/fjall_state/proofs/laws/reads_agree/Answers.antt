@@ -1,8 +1,0 @@
-use Rattle.fjall_state.proofs.Standing as Standing
-use Rattle.fjall_state.proofs.laws.reads_agree.Goals as goal
-
-pub returns-clause-shown : goal.returns-clause-shown
-returns-clause-shown c = Standing.pairs_agree
-
-pub returns-clause-bare : goal.returns-clause-bare
-returns-clause-bare c = Standing.bare_agree

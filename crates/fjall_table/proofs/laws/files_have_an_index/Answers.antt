@@ -1,5 +1,0 @@
-use Rattle.fjall_table.proofs.TableFiles.{has_an_index}
-use Rattle.fjall_table.proofs.laws.files_have_an_index.Goals as goal
-
-pub returns : goal.returns
-returns c = has_an_index

@@ -1,0 +1,8 @@
+pub mod TableFiles
+pub mod FileScans
+mod Aheads
+mod Places
+mod Searches
+mod Spans
+pub mod Readers
+pub mod Several

@@ -1,0 +1,226 @@
+-- Readers of tables: what they keep, and what they find.
+use Rattle.std.proofs.Common.{◌≡◌, ℕ, zero, suc, ◌+◌, ◌-◌, ◌<◌, ◌≤◌, Bool, IsTrue, List, [], ◌∷◌, ◌++◌, length, take, drop, map, set, slice_get, Option, Some, None, IfSome, refl, sym, ap, subst, ◌∙◌, arith, ◌⊎◌, inl, inr, ◌&&◌, true, false, get_or, replicate, nat_lt}
+use Rattle.std.proofs.lemmas.List.{append-nil, length-map}
+use Rattle.std.proofs.lemmas.List.Elements.{filter-append}
+use Rattle.fjall_base.specs.Disk as disk
+use Rattle.fjall_base.specs.Disk.{DiskState, IsFile, Meaning, Took, state_in}
+use Rattle.fjall_base.proofs.Codecs.{just, some_is}
+use Rattle.fjall_table.specs.declared.table_info.TableInfo.{TableInfo}
+use Rattle.fjall_table.specs.Blocks.{Entry}
+use Rattle.fjall_table.specs.Tables.{Handle, Ascend, HasIndex, entries_of, handles_of, versions_at}
+use Rattle.fjall_table.specs.TableReading.{blocks_below, blocks_up_to}
+use Rattle.fjall_table_reader.specs.Files.{HoldsBlock, HoldsNoBlock, HoldsTable, IsTableOf, bytes_in, entry_at}
+use Rattle.std.specs.Option.{option_map}
+use Rattle.std.specs.Str.{bytes_eq}
+use Rattle.std.proofs.lemmas.Bool.{cases_Bool}
+use Rattle.std.proofs.lemmas.Slice.Eq.{bytes_eq-Decides}
+use Rattle.fjall_table.proofs.TableReading.{got, got_map}
+use Rattle.fjall_table.proofs.Lookups.{fails, wanted}
+use Rattle.fjall_table.proofs.TableBlocks.{blocks_in, entries_joined, more_taken, one_index, parts_of, read_is, some_at, stands_at, table_has}
+use Rattle.fjall_table_reader.specs.Readers.{HoldsAWrongBlock, IsReader, IsSameTable, IsTableBut, LooksOn, Reader, Reads, ReadsBlocks, keeping, none_kept, unread}
+use Rattle.fjall_table_reader.proofs.Spans.{block_of, versions_before, versions_behind}
+
+-- ---- a table all of whose blocks are right
+
+pub but_none : (entry : disk.DiskEntry) (info : TableInfo) (entries : List Entry) → IsFile entry → IsTableOf info (bytes_in entry) entries → (blocks : List (List Entry)) × (entries ≡ entries_of blocks) × IsTableBut entry info blocks
+but_none entry info entries file is =
+    let t = is.table in
+    let bytes = bytes_in entry in
+    let o = blocks_in bytes entries t in
+    let count : info.entry_count ≡ length (entries_of t.blocks) = is.count ∙ ap length t.all in
+    let index = table_has bytes t.blocks t.are t.text t.fits in (
+      t.blocks,
+      t.all,
+      record {
+        file = file;
+        len = is.len;
+        are = t.are;
+        count = count;
+        index = subst (λ (n : ℕ). HasIndex bytes (handles_of 0 t.blocks) n) (sym count) index;
+        right = λ at h block vs hh hb holds. some_is vs block (sym (read_is bytes t.blocks at h vs o (stands_at bytes (handles_of 0 t.blocks) (length (entries_of t.blocks)) t.blocks at h index o hh) holds) ∙ hb);
+      },
+    )
+
+-- ---- a call that only looks at a disk
+
+pub still : (honest : Bool) (old new : Meaning) → LooksOn honest old new → IsTrue honest → state_in new ≡ state_in old
+still honest old new looks t = (looks.same t).state
+
+took_none : (old mid new : Meaning) → Took old mid [] → Took mid new [] → Took old new []
+took_none old mid new a b = record { state = b.state ∙ a.state; steps = b.steps ∙ append-nil mid.steps ∙ a.steps }
+
+pub looks_none : (honest : Bool) (old : Meaning) → LooksOn honest old old
+looks_none honest old = record { same = λ t. record { state = refl; steps = sym (append-nil old.steps) }; served = λ t. refl; later = le_itself old.faults }
+  where
+    le_itself : (n : ℕ) → n ≤ n
+    le_itself n = omega arith
+
+pub looks_again : (honest : Bool) (old mid new : Meaning) → LooksOn honest old mid → LooksOn honest mid new → LooksOn honest old new
+looks_again honest old mid new a b = record {
+  same = λ t. took_none old mid new (a.same t) (b.same t);
+  served = λ t. b.served t ∙ a.served t;
+  later = let l = a.later in let m = b.later in omega arith;
+}
+
+pub same_none : (t : Reader) → IsSameTable t t
+same_none t = record { name = refl; info = refl; handles = refl }
+
+pub same_again : (s t u : Reader) → IsSameTable s t → IsSameTable t u → IsSameTable s u
+same_again s t u a b = record { name = b.name ∙ a.name; info = b.info ∙ a.info; handles = b.handles ∙ a.handles }
+
+-- ---- what a reader keeps
+
+pub reads_later : (old new : Meaning) (t : Reader) (blocks : List (List Entry)) → state_in new ≡ state_in old → ReadsBlocks old t blocks → ReadsBlocks new t blocks
+reads_later old new t blocks same r = record { table = subst (λ (s : DiskState). IsTableBut (s t.name).now t.info blocks) (sym same) r.table; index = r.index; kept = r.kept }
+
+pub reads_on : (honest : Bool) (old new : Meaning) (t : Reader) (blocks : List (List Entry)) → LooksOn honest old new → IsTrue honest → ReadsBlocks old t blocks → ReadsBlocks new t blocks
+reads_on honest old new t blocks looks honestly r = reads_later old new t blocks (still honest old new looks honestly) r
+
+-- a right block is the table's
+pub read_right : (disk : Meaning) (t : Reader) (blocks : List (List Entry)) (at : ℕ) (vs : List Entry) → ReadsBlocks disk t blocks → at < length t.handles → IfSome (slice_get t.handles at) (HoldsBlock (entry_at disk t.name) vs) → slice_get blocks at ≡ Some vs
+read_right disk t blocks at vs r lt is =
+    let g = some_at t.handles at lt in
+    let here = ap (λ (hs : List Handle). slice_get hs at) (sym r.index) ∙ g.1 in
+    let b = block_of 0 blocks at g.0 here in
+    let holds = subst (λ (o : Option Handle). IfSome o (HoldsBlock (entry_at disk t.name) vs)) g.1 is in
+    b.here ∙ ap (λ (v : List Entry). just v) (sym (r.table.right at g.0 b.block vs here b.here holds))
+
+set_got : {A : Type 0} (xs : List A) (i : ℕ) (y : A) (j : ℕ) (z : A) → slice_get (set xs i y) j ≡ Some z → ((i ≡ j) × (y ≡ z)) ⊎ (slice_get xs j ≡ Some z)
+set_got [] i y j z e = inr e
+set_got (x ∷ xs) zero y zero z e = inl (refl, some_is y z e)
+set_got (x ∷ xs) zero y (suc j) z e = inr e
+set_got (x ∷ xs) (suc i) y zero z e = inr e
+set_got (x ∷ xs) (suc i) y (suc j) z e = elim (set_got xs i y j z e) [ inl h ↦ inl (ap suc h.0, h.1) | inr h ↦ inr h ]
+
+pub kept_too : (disk : Meaning) (t : Reader) (blocks : List (List Entry)) (at : ℕ) (block : List Entry) → ReadsBlocks disk t blocks → slice_get blocks at ≡ Some block → ReadsBlocks disk (keeping at block t) blocks
+kept_too disk t blocks at block r here = record {
+  table = r.table;
+  index = r.index;
+  kept = λ j vs e. elim (set_got t.kept at (just block) j (just vs) e) [
+    | inl h ↦ ap (slice_get blocks) (sym h.0) ∙ here ∙ ap (λ (v : List Entry). just v) (some_is block vs h.1)
+    | inr h ↦ r.kept j vs h
+  ];
+}
+
+-- ---- what a look-up goes through
+
+-- The blocks before some place hold no version of the key; and the reader reads the table that it read at first.
+pub record Finding (honest : Bool) (old new : Meaning) (before after : Reader) (key : List ℕ) (instant at : ℕ) : Type 0 where
+  pub table : IsSameTable before after
+  pub disk : LooksOn honest old new
+  pub reads : IsTrue honest → (blocks : List (List Entry)) → ReadsBlocks old before blocks → ReadsBlocks new after blocks
+  pub none : IsTrue honest → (blocks : List (List Entry)) → ReadsBlocks old before blocks → versions_at key instant (entries_of (take at blocks)) ≡ []
+
+pub finding_none : (honest : Bool) (old : Meaning) (t : Reader) (key : List ℕ) (instant at : ℕ) → Ascend t.handles → at ≡ blocks_below key t.handles - 1 → Finding honest old old t t key instant at
+finding_none honest old t key instant at up e = record {
+  table = same_none t;
+  disk = looks_none honest old;
+  reads = λ h blocks r. r;
+  none = λ h blocks r. versions_before key instant t.handles at blocks r.table.are r.index up (omega arith);
+}
+
+-- the versions in some blocks and one more
+one_more : (key : List ℕ) (instant at : ℕ) (blocks : List (List Entry)) (b : List Entry) → versions_at key instant (entries_of (take at blocks)) ≡ [] → slice_get blocks at ≡ Some b → versions_at key instant (entries_of (take (at + 1) blocks)) ≡ versions_at key instant b
+one_more key instant at blocks b none here =
+    ap (λ (bs : List (List Entry)). versions_at key instant (entries_of bs)) (more_taken blocks at b here)
+    ∙ ap (versions_at key instant) (entries_joined (take at blocks) b)
+    ∙ filter-append (wanted key instant) (entries_of (take at blocks)) b
+    ∙ ap (λ (v : List Entry). v ++ versions_at key instant b) none
+
+first_of : (vs ws : List Entry) (e : Entry) → slice_get vs 0 ≡ Some e → slice_get (vs ++ ws) 0 ≡ Some e
+first_of [] ws e h = absurd cc
+first_of (v ∷ vs) ws e h = h
+
+none_first : (vs : List Entry) → slice_get vs 0 ≡ None → vs ≡ []
+none_first [] h = refl
+none_first (v ∷ vs) h = absurd cc
+
+-- the block was read that stands there, and has no version
+pub finding_more : (honest : Bool) (old mid new : Meaning) (before mid_reader after : Reader) (key : List ℕ) (instant at : ℕ) (b : List Entry) → Finding honest old mid before mid_reader key instant at
+    → IsSameTable mid_reader after → LooksOn honest mid new
+    → (IsTrue honest → (blocks : List (List Entry)) → ReadsBlocks mid mid_reader blocks → ReadsBlocks new after blocks)
+    → (IsTrue honest → (blocks : List (List Entry)) → ReadsBlocks mid mid_reader blocks → slice_get blocks at ≡ Some b)
+    → slice_get (versions_at key instant b) 0 ≡ None
+    → Finding honest old new before after key instant (at + 1)
+finding_more honest old mid new before mid_reader after key instant at b f same looks reads block miss = record {
+  table = same_again before mid_reader after f.table same;
+  disk = looks_again honest old mid new f.disk looks;
+  reads = λ h blocks r. reads h blocks (f.reads h blocks r);
+  none = λ h blocks r. one_more key instant at blocks b (f.none h blocks r) (block h blocks (f.reads h blocks r)) ∙ none_first (versions_at key instant b) miss;
+}
+
+-- the block has one
+pub found_here : (key : List ℕ) (instant at : ℕ) (blocks : List (List Entry)) (b entries : List Entry) (e : Entry) → entries ≡ entries_of blocks → versions_at key instant (entries_of (take at blocks)) ≡ [] → slice_get blocks at ≡ Some b → slice_get (versions_at key instant b) 0 ≡ Some e → slice_get (versions_at key instant entries) 0 ≡ Some e
+found_here key instant at blocks b entries e all none here hit =
+    let more = entries_of (drop (at + 1) blocks) in
+    ap (λ (v : List Entry). slice_get (versions_at key instant v) 0) (all ∙ parts_of blocks (at + 1))
+    ∙ ap (λ (v : List Entry). slice_get v 0) (filter-append (wanted key instant) (entries_of (take (at + 1) blocks)) more ∙ ap (λ (v : List Entry). v ++ versions_at key instant more) (one_more key instant at blocks b none here))
+    ∙ first_of (versions_at key instant b) (versions_at key instant more) e hit
+
+-- no block has one
+pub found_nowhere : (disk : Meaning) (t : Reader) (key : List ℕ) (instant at : ℕ) (blocks : List (List Entry)) (entries : List Entry) → Ascend t.handles → ReadsBlocks disk t blocks → entries ≡ entries_of blocks → versions_at key instant (entries_of (take at blocks)) ≡ [] → blocks_up_to key t.handles ≤ at → slice_get (versions_at key instant entries) 0 ≡ None
+found_nowhere disk t key instant at blocks entries up r all none le =
+    ap (λ (v : List Entry). slice_get (versions_at key instant v) 0) (all ∙ parts_of blocks at)
+    ∙ ap (λ (v : List Entry). slice_get v 0) (filter-append (wanted key instant) (entries_of (take at blocks)) (entries_of (drop at blocks)) ∙ ap (λ (v : List Entry). v ++ versions_at key instant (entries_of (drop at blocks))) none ∙ versions_behind key instant t.handles at blocks r.table.are r.index up le)
+
+-- a block that is wrong is one of the table's
+pub wrong_at : (old mid : Meaning) (before after : Reader) (at : ℕ) → state_in mid ≡ state_in old → IsSameTable before after → at < length after.handles → IfSome (slice_get after.handles at) (HoldsNoBlock (entry_at mid after.name)) → HoldsAWrongBlock (entry_at old before.name) before.handles
+wrong_at old mid before after at same table lt none =
+    let g = some_at after.handles at lt in
+    let holds = subst (λ (o : Option Handle). IfSome o (HoldsNoBlock (entry_at mid after.name))) g.1 none in
+    let there : entry_at mid after.name ≡ entry_at old before.name = ap (λ (s : DiskState). (s after.name).now) same ∙ ap (λ (n : disk.Name). entry_at old n) table.name in
+    (at, g.0, ap (λ (hs : List Handle). slice_get hs at) (sym table.handles) ∙ g.1, subst (λ (e : disk.DiskEntry). HoldsNoBlock e g.0) there holds)
+
+-- ---- what is kept at a place
+
+pub kept_here : {A : Type 0} (f : A → List Entry) (t : Reader) (items : List (Option A)) (at : ℕ) (o : Option A) (x : A) → map (option_map f) items ≡ t.kept → length t.kept ≡ length t.handles → at < length t.handles → o ≡ get_or items at o → o ≡ Some x → slice_get t.kept at ≡ Some (Some (f x))
+kept_here f t items at o x view count lt here is =
+    ap (λ (k : List (Option (List Entry))). slice_get k at) (sym view)
+    ∙ got_map (option_map f) items at o (got items at o (omega (arith, lt, count, ap length view, length-map items (option_map f))) here)
+    ∙ ap (λ (p : Option _). just (option_map f p)) is
+
+pub none_is : {A : Type 0} (f : A → List Entry) (hs : List Handle) (n : ℕ) → n ≡ length hs → map (option_map f) (replicate n None) ≡ none_kept hs
+none_is f hs n e = ap (λ (k : ℕ). map (option_map f) (replicate k None)) e ∙ go hs
+  where
+    go : (hs : List Handle) → map (option_map f) (replicate (length hs) None) ≡ none_kept hs
+    go [] = refl
+    go (h ∷ hs) = ap (λ (k : List (Option (List Entry))). None ∷ k) (go hs)
+
+none_got : (hs : List Handle) (at : ℕ) (vs : List Entry) → slice_get (none_kept hs) at ≡ Some (Some vs) → ⊥
+none_got [] at vs e = absurd cc
+none_got (h ∷ hs) zero vs e = absurd cc
+none_got (h ∷ hs) (suc at) vs e = none_got hs at vs e
+
+-- a table that was opened is read
+pub reads_new : (disk : Meaning) (t : Reader) (entries : List Entry) → t ≡ unread t.name t.info t.handles → HoldsTable (entry_at disk t.name) t.info t.handles → IsTableOf t.info (bytes_in (entry_at disk t.name)) entries → Reads disk t entries
+reads_new disk t entries is holds table =
+    let b = but_none (entry_at disk t.name) t.info entries holds.file table in
+    record {
+      blocks = b.0;
+      all = b.1;
+      reads = record {
+        table = b.2;
+        index = (one_index (bytes_in (entry_at disk t.name)) t.handles (handles_of 0 b.0) t.info.entry_count t.info.entry_count holds.is.index b.2.index).0;
+        kept = λ at vs e. absurd (none_got t.handles at vs (ap (λ (u : Reader). slice_get u.kept at) (sym is) ∙ e));
+      };
+    }
+
+-- the first version of a key has that key
+pub key_found : (key : List ℕ) (instant : ℕ) (es : List Entry) (e : Entry) → slice_get (versions_at key instant es) 0 ≡ Some e → e.key ≡ key
+key_found key instant [] e h = absurd cc
+key_found key instant (x ∷ xs) e h =
+    elim (cases_Bool (wanted key instant x)) [
+      | inr f ↦ key_found key instant xs e (ap (λ (v : List Entry). slice_get v 0) (sym (fails (wanted key instant) x xs f)) ∙ h)
+      | inl t ↦
+          let head : versions_at key instant (x ∷ xs) ≡ x ∷ versions_at key instant xs = rw t refl in
+          let same : x ≡ e = some_is x e (ap (λ (v : List Entry). slice_get v 0) (sym head) ∙ h) in
+          ap (λ (y : Entry). y.key) (sym same) ∙ (bytes_eq-Decides x.key key).0 (left (bytes_eq x.key key) (nat_lt x.number instant) t)
+    ]
+  where
+    left : (b c : Bool) → (b && c) ≡ true → b ≡ true
+    left true c t = refl
+    left false c t = absurd cc
+
+-- a reader that keeps nothing is one
+pub is_unread : (name : disk.Name) (info : TableInfo) (handles : List Handle) → Ascend handles → IsReader (unread name info handles)
+is_unread name info handles up = record { count = length-map handles (λ h. let o : Option (List Entry) = None in o); ascend = up }

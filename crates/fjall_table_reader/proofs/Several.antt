@@ -1,0 +1,116 @@
+-- Lists of readers, one of which changes.
+use Rattle.std.proofs.Common.{◌≡◌, ℕ, zero, suc, ◌+◌, ◌<◌, ◌≤◌, Bool, IsTrue, List, [], ◌∷◌, length, set, slice_get, get_or, Some, refl, sym, ap, subst, ◌∙◌, add-one, arith}
+use Rattle.fjall_base.specs.Disk.{Meaning}
+use Rattle.fjall_base.proofs.Codecs.{some_is}
+use Rattle.fjall_table.specs.Blocks.{Entry, IsOrdered}
+use Rattle.fjall_table.specs.Tables.{Handle}
+use Rattle.fjall_table_reader.specs.Readers.{AreRead, AreSameTables, IsSameTable, LooksOn, Reader, Reads, all_unread, none_kept, unread}
+use Rattle.fjall_table_reader.proofs.Readers.{reads_on, same_again, same_none}
+
+-- ---- the first ones with no block kept
+
+abbrev pub unread_to : ℕ → List Reader → List Reader
+unread_to zero ts = ts
+unread_to (suc n) [] = []
+unread_to (suc n) (t ∷ ts) = unread t.name t.info t.handles ∷ unread_to n ts
+
+-- one more
+pub unread_more : (n : ℕ) (ts : List Reader) (t u d : Reader) → n < length ts → t ≡ get_or (unread_to n ts) n d → u ≡ unread t.name t.info t.handles → set (unread_to n ts) n u ≡ unread_to (n + 1) ts
+unread_more n ts t u d lt is e = next n ts lt is ∙ ap (λ (k : ℕ). unread_to k ts) (sym (add-one n))
+  where
+    next : (n : ℕ) (ts : List Reader) → n < length ts → t ≡ get_or (unread_to n ts) n d → set (unread_to n ts) n u ≡ unread_to (suc n) ts
+    next n [] lt is = absurd (omega arith)
+    next zero (x ∷ ts) lt is = ap (λ (y : Reader). y ∷ ts) (e ∙ ap (λ (y : Reader). unread y.name y.info y.handles) is)
+    next (suc n) (x ∷ ts) lt is = ap (λ (ys : List Reader). unread x.name x.info x.handles ∷ ys) (next n ts (omega arith) is)
+
+-- all of them
+pub unread_all : (n : ℕ) (ts : List Reader) → length ts ≤ n → unread_to n ts ≡ all_unread ts
+unread_all zero [] le = refl
+unread_all zero (t ∷ ts) le = absurd (omega arith)
+unread_all (suc n) [] le = refl
+unread_all (suc n) (t ∷ ts) le = ap (λ (ys : List Reader). unread t.name t.info t.handles ∷ ys) (unread_all n ts (omega arith))
+
+-- ---- places
+
+pub got : {A : Type 0} (xs : List A) (i : ℕ) (x d : A) → i < length xs → x ≡ get_or xs i d → slice_get xs i ≡ Some x
+got [] i x d lt is = absurd (omega arith)
+got (y ∷ xs) zero x d lt is = ap (λ z. Some z) (sym is)
+got (y ∷ xs) (suc i) x d lt is = got xs i x d (omega arith) is
+
+-- what the reader at a place reads
+pub read_at : (disk : Meaning) (ts : List Reader) (ess : List (List Entry)) (at : ℕ) (t : Reader) → AreRead disk ts ess → slice_get ts at ≡ Some t
+    → (es : List Entry) × (slice_get ess at ≡ Some es) × Reads disk t es
+read_at disk [] ess at t r is = absurd cc
+read_at disk (x ∷ ts) [] at t r is = absurd r
+read_at disk (x ∷ ts) (es ∷ ess) zero t r is = (es, refl, subst (λ (u : Reader). Reads disk u es) (some_is x t is) r.0)
+read_at disk (x ∷ ts) (es ∷ ess) (suc at) t r is = read_at disk ts ess at t r.1 is
+
+-- and with another reader of the same entries there
+pub read_set : (disk : Meaning) (ts : List Reader) (ess : List (List Entry)) (at : ℕ) (t : Reader) (es : List Entry) → AreRead disk ts ess → slice_get ess at ≡ Some es → Reads disk t es
+    → AreRead disk (set ts at t) ess
+read_set disk [] ess at t es r is new = r
+read_set disk (x ∷ ts) [] at t es r is new = absurd r
+read_set disk (x ∷ ts) (fs ∷ ess) zero t es r is new = (subst (λ (gs : List Entry). Reads disk t gs) (sym (some_is fs es is)) new, r.1)
+read_set disk (x ∷ ts) (fs ∷ ess) (suc at) t es r is new = (r.0, read_set disk ts ess at t es r.1 is new)
+
+-- there are as many readers as lists of entries
+pub length_read : (disk : Meaning) (ts : List Reader) (ess : List (List Entry)) → AreRead disk ts ess → length ts ≡ length ess
+length_read disk [] [] r = refl
+length_read disk [] (es ∷ ess) r = absurd r
+length_read disk (t ∷ ts) [] r = absurd r
+length_read disk (t ∷ ts) (es ∷ ess) r = let e = length_read disk ts ess r.1 in omega arith
+
+-- readers of a disk that was only looked at read the same
+pub all_read_on : (honest : Bool) (old new : Meaning) (ts : List Reader) (ess : List (List Entry)) → LooksOn honest old new → IsTrue honest → AreRead old ts ess → AreRead new ts ess
+all_read_on honest old new [] [] looks h r = tt
+all_read_on honest old new [] (es ∷ ess) looks h r = r
+all_read_on honest old new (t ∷ ts) [] looks h r = r
+all_read_on honest old new (t ∷ ts) (es ∷ ess) looks h r = (
+  record { blocks = r.0.blocks; all = r.0.all; reads = reads_on honest old new t r.0.blocks looks h r.0.reads },
+  all_read_on honest old new ts ess looks h r.1,
+)
+
+-- the entries that a reader reads are in order
+pub read_ordered : (disk : Meaning) (t : Reader) (es : List Entry) → Reads disk t es → IsOrdered es
+read_ordered disk t es r = subst IsOrdered (sym r.all) r.reads.table.are.ordered
+
+-- ---- the same tables
+
+pub all_same_none : (ts : List Reader) → AreSameTables ts ts
+all_same_none [] = tt
+all_same_none (t ∷ ts) = (same_none t, all_same_none ts)
+
+pub same_at : (old new : List Reader) (at : ℕ) (u : Reader) → AreSameTables old new → slice_get new at ≡ Some u → (t : Reader) × (slice_get old at ≡ Some t) × IsSameTable t u
+same_at [] [] at u same is = absurd cc
+same_at [] (y ∷ new) at u same is = absurd same
+same_at (x ∷ old) [] at u same is = absurd same
+same_at (x ∷ old) (y ∷ new) zero u same is = (x, refl, subst (λ (z : Reader). IsSameTable x z) (some_is y u is) same.0)
+same_at (x ∷ old) (y ∷ new) (suc at) u same is = same_at old new at u same.1 is
+
+pub same_set : (old new : List Reader) (at : ℕ) (u v : Reader) → AreSameTables old new → slice_get new at ≡ Some u → IsSameTable u v → AreSameTables old (set new at v)
+same_set [] [] at u v same is next = tt
+same_set [] (y ∷ new) at u v same is next = absurd same
+same_set (x ∷ old) [] at u v same is next = absurd same
+same_set (x ∷ old) (y ∷ new) zero u v same is next = (same_again x y v same.0 (subst (λ (z : Reader). IsSameTable z v) (sym (some_is y u is)) next), same.1)
+same_set (x ∷ old) (y ∷ new) (suc at) u v same is next = (same.0, same_set old new at u v same.1 is next)
+
+-- ---- readers that keep nothing
+
+none_got : (hs : List Handle) (at : ℕ) (vs : List Entry) → slice_get (none_kept hs) at ≡ Some (Some vs) → ⊥
+none_got [] at vs e = absurd cc
+none_got (h ∷ hs) zero vs e = absurd cc
+none_got (h ∷ hs) (suc at) vs e = none_got hs at vs e
+
+unread_reads : (disk : Meaning) (t : Reader) (es : List Entry) → Reads disk t es → Reads disk (unread t.name t.info t.handles) es
+unread_reads disk t es r = record {
+  blocks = r.blocks;
+  all = r.all;
+  reads = record { table = r.reads.table; index = r.reads.index; kept = λ at vs e. absurd (none_got t.handles at vs e) };
+}
+
+-- read what they read before
+pub all_unread_read : (disk : Meaning) (ts : List Reader) (ess : List (List Entry)) → AreRead disk ts ess → AreRead disk (all_unread ts) ess
+all_unread_read disk [] [] r = tt
+all_unread_read disk [] (es ∷ ess) r = r
+all_unread_read disk (t ∷ ts) [] r = r
+all_unread_read disk (t ∷ ts) (es ∷ ess) r = (unread_reads disk t es r.0, all_unread_read disk ts ess r.1)

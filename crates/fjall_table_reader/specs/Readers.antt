@@ -1,0 +1,95 @@
+-- Opened tables some of whose blocks are kept in memory, and what they read on a disk.
+use Rattle.std.specs.Prelude.{◌≡◌, ℕ, ◌≤◌, Bool, IsTrue, List, [], ◌∷◌, Option, Some, None, length, map, set, slice_get}
+use Rattle.fjall_base.specs.Disk as disk
+use Rattle.fjall_base.specs.Disk.{IsFile, Name, Meaning, Took}
+use Rattle.fjall_table.specs.declared.table_info.TableInfo.{TableInfo}
+use Rattle.fjall_table.specs.Blocks.{Entry}
+use Rattle.fjall_table.specs.Tables.{Handle, entries_of, handles_of, AreBlocks, Ascend, HasIndex}
+use Rattle.fjall_table_reader.specs.Files.{AllServed, HoldsBlock, HoldsNoBlock, bytes_in, entry_at}
+
+-- a table by its name and by what its record and its index say, and the entries of each block that is kept
+pub record Reader : Type 0 where
+  pub name : Name
+  pub info : TableInfo
+  pub handles : List Handle
+  pub kept : List (Option (List Entry))
+
+-- no block of these is kept
+abbrev pub none_kept : List Handle → List (Option (List Entry))
+none_kept handles = map (λ h. None) handles
+
+-- the reader of a table with no block kept
+abbrev pub unread : Name → TableInfo → List Handle → Reader
+unread name info handles = record { name = name; info = info; handles = handles; kept = none_kept handles }
+
+-- the same with this block kept too
+abbrev pub keeping : ℕ → List Entry → Reader → Reader
+keeping at block t = record { name = t.name; info = t.info; handles = t.handles; kept = set t.kept at (Some block) }
+
+-- There is a place for each block, and the index's keys ascend.
+pub record IsReader (t : Reader) : Type 0 where
+  pub count : length t.kept ≡ length t.handles
+  pub ascend : Ascend t.handles
+
+-- A table's file some of whose blocks may be wrong: its length, its footer and its index are those of the table that has
+-- these blocks, and where a right block stands it is the table's.
+pub record IsTableBut (entry : disk.DiskEntry) (info : TableInfo) (blocks : List (List Entry)) : Type 0 where
+  pub file : IsFile entry
+  pub len : length (bytes_in entry) ≡ info.file_len
+  pub are : AreBlocks blocks
+  pub count : info.entry_count ≡ length (entries_of blocks)
+  pub index : HasIndex (bytes_in entry) (handles_of 0 blocks) info.entry_count
+  pub right : (at : ℕ) (h : Handle) (block vs : List Entry) → slice_get (handles_of 0 blocks) at ≡ Some h → slice_get blocks at ≡ Some block → HoldsBlock entry vs h → vs ≡ block
+
+-- On this disk the reader reads the table that has these blocks: its file is that table but for wrong blocks, its index is
+-- the table's, and each block that is kept is the table's.
+pub record ReadsBlocks (disk : Meaning) (t : Reader) (blocks : List (List Entry)) : Type 0 where
+  pub table : IsTableBut (entry_at disk t.name) t.info blocks
+  pub index : t.handles ≡ handles_of 0 blocks
+  pub kept : (at : ℕ) (vs : List Entry) → slice_get t.kept at ≡ Some (Some vs) → slice_get blocks at ≡ Some vs
+
+-- On this disk the reader reads the table of these entries.
+pub record Reads (disk : Meaning) (t : Reader) (entries : List Entry) : Type 0 where
+  pub blocks : List (List Entry)
+  pub all : entries ≡ entries_of blocks
+  pub reads : ReadsBlocks disk t blocks
+
+-- A call that only looks at a disk: an honest one went on by no step and served it, and no count of faults falls.
+pub record LooksOn (honest : Bool) (old new : Meaning) : Type 0 where
+  pub same : IsTrue honest → Took old new []
+  pub served : IsTrue honest → AllServed old new
+  pub later : old.faults ≤ new.faults
+
+-- The same table, whatever is kept of it.
+pub record IsSameTable (old new : Reader) : Type 0 where
+  pub name : new.name ≡ old.name
+  pub info : new.info ≡ old.info
+  pub handles : new.handles ≡ old.handles
+
+-- where some block of these should stand, none stands that begins with the handle's key
+abbrev pub HoldsAWrongBlock : disk.DiskEntry → List Handle → Type 0
+HoldsAWrongBlock entry handles = (at : ℕ) × (h : Handle) × (slice_get handles at ≡ Some h) × HoldsNoBlock entry h
+
+-- ---- several tables
+
+-- On this disk each reader reads the table of the entries at its place.
+abbrev pub AreRead : Meaning → List Reader → List (List Entry) → Type 0
+AreRead disk [] [] = Unit {0}
+AreRead disk [] (es ∷ entries) = ⊥
+AreRead disk (t ∷ tables) [] = ⊥
+AreRead disk (t ∷ tables) (es ∷ entries) = Reads disk t es × AreRead disk tables entries
+
+-- The same tables, whatever is kept of them.
+abbrev pub AreSameTables : List Reader → List Reader → Type 0
+AreSameTables [] [] = Unit {0}
+AreSameTables [] (t ∷ new) = ⊥
+AreSameTables (t ∷ old) [] = ⊥
+AreSameTables (t ∷ old) (u ∷ new) = IsSameTable t u × AreSameTables old new
+
+-- some table has a wrong block, or none, where one of its blocks should stand
+abbrev pub SomeTableIsWrong : Meaning → List Reader → Type 0
+SomeTableIsWrong disk tables = (at : ℕ) × (t : Reader) × (slice_get tables at ≡ Some t) × HoldsAWrongBlock (entry_at disk t.name) t.handles
+
+-- the tables with no block kept
+abbrev pub all_unread : List Reader → List Reader
+all_unread tables = map (λ t. unread t.name t.info t.handles) tables

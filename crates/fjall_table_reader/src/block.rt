@@ -1,0 +1,199 @@
+//! A data block in one buffer, checked and decoded.
+
+ghost use Rattle.std.specs.Prelude.{◌≡◌, ◌-◌, ◌<◌, ◌≤◌, length, slice_get, take, drop, filter, Some, None, IfOk, IfErr, IfSome};
+ghost use Rattle.std.specs.Option.{option_map};
+ghost use Rattle.std.specs.Range.Bound.{bound_map};
+ghost use Rattle.fjall_base.specs.declared.error.StorageError.TheVariants.{TableDamaged};
+ghost use Rattle.fjall_base.specs.Pairs.{key_range};
+ghost use Rattle.fjall_table.specs.Reading.{DamagedWhere};
+ghost use Rattle.fjall_table.specs.Blocks.{seen, IsOrdered};
+ghost use Rattle.fjall_table.specs.Tables.{entries_within, versions_at};
+ghost use Rattle.fjall_table.specs.TableReading.{IsBlockFrom, IsNoBlockFrom};
+ghost use Rattle.fjall_table_reader.specs.Ahead.{before_start, stands_ahead, up_to_end};
+ghost use Rattle.fjall_table_reader.specs.Places.{entries_in, ArePlaced};
+
+use crate::place::{EntryPlace, places_of};
+use fjall_base::{KeyBounds, Result};
+use fjall_table::{BlockHandle, TableEntry};
+use std::alloc::Global;
+use std::marker::Model;
+use std::ops::{Bound, Range};
+
+/// How many bytes stand before a block's first entry: the length of its payload.
+const LENGTH_LEN: usize = 8;
+
+/// For how many bytes a place of an entry counts.
+const PLACE_BYTES: u64 = 32;
+
+/// A data block that was checked and decoded, in one buffer: reading an entry checks nothing again. Contracts see it as
+/// its entries.
+#[derive(Drop)]
+pub struct Block {
+    text: Vec<u8>,
+    places: Vec<EntryPlace>,
+}
+
+impl Model for Block {
+    ghost use Rattle.std.specs.Prelude.{List};
+    ghost use Rattle.fjall_table.specs.Blocks.{Entry};
+    ghost use Rattle.fjall_table_reader.specs.Places.{entries_in, ArePlaced};
+
+    ghost Value = { List Entry };
+
+    ghost view = { λ b. entries_in b.text.items b.places.items };
+
+    ghost invariant = { λ b. ArePlaced b.text.items b.places.items };
+}
+
+/// A version of a key, to be compared with others.
+fn version(key: &[u8], number: u64) -> TableEntry<'_>
+    ensures { seen result ≡ record { key = key.now; number = number; value = None } }
+{
+    TableEntry {
+        key,
+        number,
+        value: None,
+    }
+}
+
+/// Whether an entry stands before all those of a key that are numbered below an instant, or, with none, before all of the
+/// key: it doesn't come behind the one at the instant.
+fn stands_ahead(entry: &TableEntry<'_>, key: &[u8], instant: Option<u64>) -> bool
+    ensures { result ≡ stands_ahead key.now instant (seen entry.now) }
+{
+    match instant {
+        Some(instant) => !version(key, instant).is_before(entry),
+        None => version(entry.key, 0).is_before(&version(key, 0)),
+    }
+}
+
+impl Block {
+    /// Checks and decodes the bytes of a block, and keeps them. Other bytes than a block's whose first key is the handle's
+    /// are `Storage(TableDamaged)`.
+    pub fn read(alloc: Global, handle: &BlockHandle<'_>, framed: Vec<u8>) -> Result<Block>
+        ensures block { IfOk result (IsBlockFrom handle.now.first_key.now framed.items) }
+        ensures damaged { IfErr result (DamagedWhere TableDamaged (IsNoBlockFrom handle.now.first_key.now framed.items)) }
+    {
+        let places = read_places(alloc, handle, &framed)?;
+        Ok(Block {
+            text: framed,
+            places,
+        })
+    }
+
+    /// How many entries it has: one at least.
+    pub fn len(&self) -> usize
+        ensures len { result ≡ length self.now }
+        ensures some { 0 < result }
+        ensures ordered { IsOrdered self.now }
+    {
+        self.places.len()
+    }
+
+    /// For how many bytes of memory it counts: those of its text, and 32 for each entry. It is at most the greatest u64.
+    pub fn size(&self) -> u64 {
+        (self.places.len() as u64)
+            .saturating_mul(PLACE_BYTES)
+            .saturating_add(self.text.len() as u64)
+    }
+
+    /// An entry, counted from 0 on. Key and value are parts of the block's text.
+    pub fn entry(&self, at: usize) -> TableEntry<'_>
+        requires { at < length self.now }
+        ensures { slice_get self.now at ≡ Some (seen result) }
+    {
+        let place = &self.places[at];
+        TableEntry {
+            key: place.key_in(&self.text),
+            number: place.number,
+            value: place.value_in(&self.text),
+        }
+    }
+
+    /// The newest version of a key that is numbered below an instant, by binary search; None where no version is.
+    pub fn newest(&self, key: &[u8], instant: u64) -> Option<TableEntry<'_>>
+        ensures { option_map seen result ≡ slice_get (versions_at key.now instant self.now) 0 }
+    {
+        let at = self.count_ahead(key, Some(instant));
+        if at >= self.len() {
+            return None;
+        }
+        let entry = self.entry(at);
+        if entry.key != key {
+            return None;
+        }
+        Some(entry)
+    }
+
+    /// The numbers of the entries whose keys lie between the bounds, by two binary searches; reversed bounds have none
+    /// between them.
+    pub fn within(&self, range: KeyBounds<'_>) -> Range<usize>
+        ensures entries { take (result.end - result.start) (drop result.start self.now) ≡ entries_within (key_range range.entry) self.now }
+        ensures start { result.start ≤ result.end }
+        ensures end { result.end ≤ length self.now }
+    {
+        let start = self.count_before(range.0);
+        let end = self.count_up_to(range.1);
+        start..end.max(start)
+    }
+
+    /// How many entries stand before a range that begins there.
+    fn count_before(&self, start: Bound<&[u8]>) -> usize
+        ensures { result ≡ length (filter (before_start (bound_map (λ key. key.now) start.entry)) self.now) }
+    {
+        match start {
+            Bound::Included(key) => self.count_ahead(key, None),
+            Bound::Excluded(key) => self.count_ahead(key, Some(0)),
+            Bound::Unbounded => 0,
+        }
+    }
+
+    /// How many entries aren't past a range that ends there.
+    fn count_up_to(&self, end: Bound<&[u8]>) -> usize
+        ensures count { result ≡ length (filter (up_to_end (bound_map (λ key. key.now) end.entry)) self.now) }
+        ensures ordered { IsOrdered self.now }
+    {
+        match end {
+            Bound::Included(key) => self.count_ahead(key, Some(0)),
+            Bound::Excluded(key) => self.count_ahead(key, None),
+            Bound::Unbounded => self.len(),
+        }
+    }
+
+    /// Whether an entry stands before all those of a key that are numbered below an instant; with no instant, before all
+    /// of the key.
+    fn is_ahead(&self, at: usize, key: &[u8], instant: Option<u64>) -> bool
+        requires { at < length self.now }
+        ensures { IfSome (slice_get self.now at) (λ e. result ≡ stands_ahead key.now instant e) }
+    {
+        stands_ahead(&self.entry(at), key, instant)
+    }
+
+    /// How many entries stand so before those of a key.
+    fn count_ahead(&self, key: &[u8], instant: Option<u64>) -> usize
+        ensures count { result ≡ length (filter (stands_ahead key.now instant) self.now) }
+        ensures ordered { IsOrdered self.now }
+    {
+        let mut low = 0;
+        let mut high = self.len();
+        while low < high {
+            let middle = low + (high - low) / 2;
+            if self.is_ahead(middle, key, instant) {
+                low = middle + 1;
+            } else {
+                high = middle;
+            }
+        }
+        low
+    }
+}
+
+/// Where the entries of a block stand in its bytes.
+fn read_places(alloc: Global, handle: &BlockHandle<'_>, framed: &[u8]) -> Result<Vec<EntryPlace>>
+    ensures block { IfOk result (λ ps. IsBlockFrom handle.now.first_key.now framed.now (entries_in framed.now ps.items)) }
+    ensures placed { IfOk result (λ ps. ArePlaced framed.now ps.items) }
+    ensures damaged { IfErr result (DamagedWhere TableDamaged (IsNoBlockFrom handle.now.first_key.now framed.now)) }
+{
+    let entries = handle.read(alloc, framed)?;
+    places_of(alloc, LENGTH_LEN, &entries)
+}

@@ -1,5 +1,0 @@
-use Rattle.fjall_tree.proofs.Currents as Currents
-use Rattle.fjall_tree.proofs.laws.no_records_with_a_contradiction.Goals as goal
-
-pub returns : goal.returns
-returns c = Currents.contradiction_has_no_reading

@@ -1,4 +1,0 @@
-pub mod Laid
-pub mod Seeing
-pub mod Going
-pub mod Updating

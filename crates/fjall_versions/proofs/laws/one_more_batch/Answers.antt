@@ -1,5 +1,0 @@
-use Rattle.fjall_versions.proofs.Replaying as Replaying
-use Rattle.fjall_versions.proofs.laws.one_more_batch.Goals as goal
-
-pub returns : goal.returns
-returns c = Replaying.one_more_batch
