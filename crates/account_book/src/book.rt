@@ -6,10 +6,10 @@ ghost use Rattle.account_book.specs.Balances.{balance_in};
 use crate::balance::{Balances, Refusal, from_bytes, moved, to_bytes};
 use anyhow::{Context, Result};
 use fjall_base::{Disk, Slice, UserValue};
-use fjall_core::{Config, Core, Ticket, View};
+use fjall_core::{Config, Ticket, View};
 use fjall_options::KeyspaceCreateOptions;
 use fjall_reading::Readable;
-use fjall_transactions::{CommitOutcome, Transaction, TransactionReader, Transactions};
+use fjall_transactions::{CommitOutcome, Core, Transaction, TransactionReader};
 use std::alloc::Global;
 use std::ops::Bound;
 
@@ -31,7 +31,6 @@ pub enum Outcome {
 pub struct AccountBook<D: Disk> {
     alloc: Global,
     core: Box<Core<D>>,
-    transactions: Transactions,
     accounts: u64,
 }
 
@@ -52,7 +51,6 @@ impl<D: Disk + Drop> AccountBook<D> {
         Ok(AccountBook {
             alloc,
             core,
-            transactions: Transactions::new(alloc),
             accounts,
         })
     }
@@ -92,7 +90,7 @@ impl<D: Disk + Drop> AccountBook<D> {
 
     /// Begins a transaction: it reads the book as it is now, and nobody sees what it writes before it is finished.
     pub fn begin(&mut self) -> Result<Transaction> {
-        Ok(self.transactions.begin_optimistic(&mut self.core)?)
+        Ok(self.core.begin_optimistic()?)
     }
 
     /// Finishes a transaction: commits what was entered, or takes it back after an error.
@@ -104,11 +102,11 @@ impl<D: Disk + Drop> AccountBook<D> {
         let outcome = match entered {
             Ok(outcome) => outcome,
             Err(error) => {
-                self.transactions.rollback(&mut self.core, transaction)?;
+                self.core.rollback(transaction)?;
                 return Err(error);
             }
         };
-        match self.transactions.commit(&mut self.core, transaction) {
+        match self.core.commit(transaction) {
             CommitOutcome::Ok => Ok(outcome),
             CommitOutcome::Conflicted => Ok(Outcome::Conflicted),
             CommitOutcome::Aborted(error) => Err(error.into()),

@@ -3,7 +3,7 @@
 use crate::data::{VALUE_LEN, is_value_of, key_behind, key_of};
 use crate::rows::PAIRS_TOGETHER;
 use fjall_base::{Disk, KvPair, Result, Slice};
-use fjall_core::{Core, View};
+use fjall_core::{Engine, View};
 use std::alloc::Global;
 use std::ops::Bound;
 
@@ -11,7 +11,7 @@ use std::ops::Bound;
 const PAGE_PAIRS: usize = 128;
 
 /// Looks each number's key up, and says how many pairs were found.
-pub fn count_hits<D: Disk>(core: &mut Core<D>, id: u64, numbers: &[u64]) -> Result<u64> {
+pub fn count_hits<D: Disk>(core: &mut Engine<D>, id: u64, numbers: &[u64]) -> Result<u64> {
     let mut hits = 0u64;
     for number in numbers {
         let found = core.get_at(View::Present, id, &key_of(*number))?;
@@ -22,7 +22,7 @@ pub fn count_hits<D: Disk>(core: &mut Core<D>, id: u64, numbers: &[u64]) -> Resu
 }
 
 /// Looks the key behind each number's up, and says how many were not there.
-pub fn count_misses<D: Disk>(core: &mut Core<D>, id: u64, numbers: &[u64]) -> Result<u64> {
+pub fn count_misses<D: Disk>(core: &mut Engine<D>, id: u64, numbers: &[u64]) -> Result<u64> {
     let mut misses = 0u64;
     for number in numbers {
         let found = core.get_at(View::Present, id, &key_behind(*number))?;
@@ -40,7 +40,7 @@ fn count_whole(pairs: &[KvPair]) -> u64 {
 }
 
 /// Goes over all pairs, a page after another, from the start or from behind, and says how many there are.
-pub fn scan<D: Disk>(core: &mut Core<D>, id: u64, back: bool) -> Result<u64> {
+pub fn scan<D: Disk>(core: &mut Engine<D>, id: u64, back: bool) -> Result<u64> {
     let mut found = 0u64;
     let mut range = (Bound::Unbounded, Bound::Unbounded);
     for _ in 0..u64::MAX {
@@ -63,7 +63,7 @@ pub fn scan<D: Disk>(core: &mut Core<D>, id: u64, back: bool) -> Result<u64> {
 /// Reads a range from each number's key on, and says how many pairs all had.
 pub fn count_ranges<D: Disk>(
     alloc: Global,
-    core: &mut Core<D>,
+    core: &mut Engine<D>,
     id: u64,
     numbers: &[u64],
 ) -> Result<u64> {

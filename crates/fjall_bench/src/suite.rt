@@ -9,7 +9,7 @@ use crate::rows::{Action, GROUPS, Group, Workload};
 use crate::writes::{write_batches, write_each};
 use anyhow::{Result, bail};
 use fjall_base::Disk;
-use fjall_core::Core;
+use fjall_core::Engine;
 use fjall_folder::FolderDisk;
 use fjall_memory::MemoryDisk;
 use fjall_options::KeyspaceCreateOptions;
@@ -101,11 +101,11 @@ fn run_group<D: Disk + Drop>(
 fn run_workload<D: Disk + Drop>(
     rt: &HostRuntime,
     alloc: Global,
-    core: Box<Core<D>>,
+    core: Box<Engine<D>>,
     id: u64,
     workload: &Workload,
     numbers: &[u64],
-) -> Result<Box<Core<D>>> {
+) -> Result<Box<Engine<D>>> {
     let Workload(name, action, _) = *workload;
     let count = numbers.len() as u64;
     let mut core = core;
@@ -128,10 +128,10 @@ fn run_workload<D: Disk + Drop>(
 fn restart<D: Disk + Drop>(
     rt: &HostRuntime,
     alloc: Global,
-    core: Box<Core<D>>,
+    core: Box<Engine<D>>,
     workload: &Workload,
     count: u64,
-) -> Result<Box<Core<D>>> {
+) -> Result<Box<Engine<D>>> {
     let watch = Stopwatch::start(rt)?;
     let disk = closed(core)?;
     let closing = watch.spent(rt)?;
@@ -148,7 +148,7 @@ fn restart<D: Disk + Drop>(
 // Does something with each number, and says how many operations were done, or how many pairs were found.
 fn serve<D: Disk>(
     alloc: Global,
-    core: &mut Core<D>,
+    core: &mut Engine<D>,
     id: u64,
     action: Action,
     numbers: &[u64],
@@ -184,7 +184,7 @@ fn tell(rt: &HostRuntime, workload: &Workload, count: u64, spent: Spent) -> Resu
 }
 
 // Says what a workload did and what the database holds then.
-fn say<D: Disk>(rt: &HostRuntime, core: &Core<D>, id: u64, name: &str, done: u64) -> Result<()> {
+fn say<D: Disk>(rt: &HostRuntime, core: &Engine<D>, id: u64, name: &str, done: u64) -> Result<()> {
     let (seqno, versions) = (core.visible_seqno(), core.approximate_len(id));
     let (journal, tables) = (core.journal_disk_space(), core.disk_space(Some(id)));
     println!(rt;

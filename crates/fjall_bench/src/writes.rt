@@ -4,7 +4,7 @@ use crate::data::{key_of, value_of};
 use crate::database::flush;
 use crate::rows::{Action, PAIRS_TOGETHER};
 use fjall_base::{Disk, KvPair, Result, Slice};
-use fjall_core::{BatchItem, Core, Op, PersistMode};
+use fjall_core::{BatchItem, Engine, Op, PersistMode};
 use std::alloc::Global;
 
 // The pair of a number.
@@ -15,7 +15,7 @@ fn pair_of(alloc: Global, number: u64) -> Result<KvPair> {
 }
 
 // Flushes a keyspace whose memtable is full.
-fn flush_full<D: Disk>(alloc: Global, core: &mut Core<D>, id: u64) -> Result<()> {
+fn flush_full<D: Disk>(alloc: Global, core: &mut Engine<D>, id: u64) -> Result<()> {
     if core.wants_rotation(id) {
         return flush(alloc, core, id);
     }
@@ -25,7 +25,7 @@ fn flush_full<D: Disk>(alloc: Global, core: &mut Core<D>, id: u64) -> Result<()>
 // Inserts the pair of a number into a keyspace, or deletes it there.
 fn write<D: Disk>(
     alloc: Global,
-    core: &mut Core<D>,
+    core: &mut Engine<D>,
     id: u64,
     action: Action,
     number: u64,
@@ -44,7 +44,7 @@ fn write<D: Disk>(
 /// Writes each number's pair into a keyspace, which is flushed whenever its memtable is full, and hands all of it to the system.
 pub fn write_each<D: Disk>(
     alloc: Global,
-    core: &mut Core<D>,
+    core: &mut Engine<D>,
     id: u64,
     action: Action,
     numbers: &[u64],
@@ -69,7 +69,7 @@ fn batch(alloc: Global, id: u64, numbers: &[u64]) -> Result<Vec<BatchItem>> {
 /// Writes the numbers' pairs in batches, each handed to the system, into a keyspace that is flushed whenever its memtable is full.
 pub fn write_batches<D: Disk>(
     alloc: Global,
-    core: &mut Core<D>,
+    core: &mut Engine<D>,
     id: u64,
     numbers: &[u64],
 ) -> Result<()> {

@@ -19,7 +19,7 @@ ghost use Rattle.fjall_calls.specs.declared.call.Within.TheVariants as calls;
 
 use crate::call::Within;
 use fjall_base::{Disk, KvPair, Result, UserKey, UserValue};
-use fjall_core::{Core, Op, Reply, View, pairs_reply, reply_of, value_reply};
+use fjall_core::{Engine, Op, Reply, View, pairs_reply, reply_of, value_reply};
 use fjall_reading::{KeyRange, bounds_of};
 use fjall_transactions::Transaction;
 
@@ -39,7 +39,7 @@ fn seen(
 
 // The value of a key as the transaction sees it, and no mark yet.
 fn look<D: Disk>(
-    core: &mut Core<D>,
+    core: &mut Engine<D>,
     transaction: &Transaction,
     id: u64,
     key: &UserKey,
@@ -54,7 +54,7 @@ fn look<D: Disk>(
 
 // The value of a key.
 fn get<D: Disk>(
-    core: &mut Core<D>,
+    core: &mut Engine<D>,
     transaction: &mut Transaction,
     id: u64,
     key: UserKey,
@@ -93,7 +93,7 @@ fn seen_page(
 
 // The first or last pairs of a range.
 fn page<D: Disk>(
-    core: &mut Core<D>,
+    core: &mut Engine<D>,
     transaction: &mut Transaction,
     id: u64,
     range: KeyRange,
@@ -140,7 +140,7 @@ fn put_back(
 
 // Gives a key this value or none, and answers the one of before: `fetch_update`, or `take` where it is none.
 fn fetch_update<D: Disk>(
-    core: &mut Core<D>,
+    core: &mut Engine<D>,
     transaction: &mut Transaction,
     id: u64,
     key: UserKey,
@@ -193,7 +193,7 @@ fn put_new(
 
 // Gives a key this value or none, and answers it.
 fn update_fetch<D: Disk>(
-    core: &mut Core<D>,
+    core: &mut Engine<D>,
     transaction: &mut Transaction,
     id: u64,
     key: UserKey,
@@ -221,7 +221,7 @@ fn write(transaction: &mut Transaction, id: u64, key: UserKey, op: Op) -> Result
 }
 
 // Makes a call within a transaction that leaves it where it is.
-fn make<D: Disk>(core: &mut Core<D>, transaction: &mut Transaction, call: Within) -> Reply
+fn make<D: Disk>(core: &mut Engine<D>, transaction: &mut Transaction, call: Within) -> Reply
     requires { (mode : Option PersistMode) → call ≡ calls.Durability mode → ⊥ }
     ensures { ActsOn D.honest core.old transaction.old call result core.new transaction.new }
 {
@@ -244,7 +244,7 @@ fn make<D: Disk>(core: &mut Core<D>, transaction: &mut Transaction, call: Within
 
 /// Makes a call within a transaction.
 pub(crate) fn act<D: Disk>(
-    core: &mut Core<D>,
+    core: &mut Engine<D>,
     mut transaction: Transaction,
     call: Within,
 ) -> (Reply, Transaction)

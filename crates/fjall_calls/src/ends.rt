@@ -8,7 +8,7 @@ ghost use Rattle.fjall_history.specs.declared.reply.Reply.{Reply as Told};
 ghost use Rattle.fjall_core.specs.declared.jobs.Jobs.{Jobs};
 ghost use Rattle.fjall_machine.specs.Shapes.{OfTickets, Open};
 ghost use Rattle.fjall_transactions.specs.Commits.{begun_reply};
-ghost use Rattle.fjall_transactions.specs.Transactions.{Kept, begun};
+ghost use Rattle.fjall_transactions.specs.Transactions.{begun};
 ghost use Rattle.fjall_calls.specs.Steps.{first_marks, reply_to, writer_after};
 ghost use Rattle.fjall_calls.specs.Serving.{ServesTx, may_begin};
 ghost use Rattle.fjall_calls.specs.declared.call.TxCall.TheVariants as calls;
@@ -18,44 +18,39 @@ use crate::call::{Kind, Within};
 use crate::lookup::take_named;
 use crate::named::Named;
 use fjall_base::{Disk, Error, Result};
-use fjall_core::{Core, Reply, reply_of};
-use fjall_transactions::{CommitOutcome, Transaction, Transactions};
+use fjall_core::{Reply, reply_of};
+use fjall_transactions::{CommitOutcome, Core, Transaction};
 
 // Begins a transaction of this kind.
-fn begun<D: Disk>(
-    core: &mut Core<D>,
-    transactions: &mut Transactions,
-    kind: Kind,
-) -> Result<Transaction>
-    ensures due { may_begin core.old transactions.old kind ≡ false → (result ≡ Err TransactionOpen) × (core.new ≡ core.old) }
-    ensures serves { may_begin core.old transactions.old kind ≡ true → IsTrue D.honest → Serves core.old (OfTickets Open) (begun_reply result) core.new }
-    ensures owes { may_begin core.old transactions.old kind ≡ true → Owes core.old (OfTickets Open) (begun_reply result) core.new }
+fn begun<D: Disk>(core: &mut Core<D>, kind: Kind) -> Result<Transaction>
+    ensures due { may_begin core.old.engine core.old.transactions kind ≡ false → (result ≡ Err TransactionOpen) × (core.new.engine ≡ core.old.engine) }
+    ensures serves { may_begin core.old.engine core.old.transactions kind ≡ true → IsTrue D.honest → Serves core.old.engine (OfTickets Open) (begun_reply result) core.new.engine }
+    ensures owes { may_begin core.old.engine core.old.transactions kind ≡ true → Owes core.old.engine (OfTickets Open) (begun_reply result) core.new.engine }
     ensures begun { IfOk result (λ tx. (tx ≡ begun (first_marks kind) tx.ticket)
-        × (transactions.new ≡ record transactions.old { writer = writer_after kind tx.ticket transactions.old.writer })) }
-    ensures unchanged { OnErr result (transactions.new ≡ transactions.old) }
+        × (core.new.transactions ≡ record core.old.transactions { writer = writer_after kind tx.ticket core.old.transactions.writer })) }
+    ensures unchanged { OnErr result (core.new.transactions ≡ core.old.transactions) }
 {
     match kind {
-        Kind::Optimistic => transactions.begin_optimistic(core),
-        Kind::Single => transactions.begin_single(core),
+        Kind::Optimistic => core.begin_optimistic(),
+        Kind::Single => core.begin_single(),
     }
 }
 
 /// Begins a transaction of this kind, under the place of the call that does.
 pub(crate) fn begin<D: Disk>(
     core: &mut Core<D>,
-    transactions: &mut Transactions,
     kind: Kind,
     place: u64,
     listed: &mut Vec<Named>,
 ) -> Reply
     requires room { vec_len listed.old < vec_capacity listed.old }
     ensures serves { (before : List Told) → place ≡ length before
-        → ServesTx D.honest core.old transactions.old listed.old.items before (calls.Begin kind) result core.new transactions.new listed.new.items }
-    ensures keeps { (jobs : Jobs) (before : List Told) → KeepsJobs core.old.memory jobs before → KeepsJobs core.new.memory jobs (before ++ result ∷ []) }
+        → ServesTx D.honest core.old.engine core.old.transactions listed.old.items before (calls.Begin kind) result core.new.engine core.new.transactions listed.new.items }
+    ensures keeps { (jobs : Jobs) (before : List Told) → KeepsJobs core.old.engine.memory jobs before → KeepsJobs core.new.engine.memory jobs (before ++ result ∷ []) }
     ensures room { vec_capacity listed.old ≤ vec_capacity listed.new }
     ensures len { vec_len listed.new ≤ vec_len listed.old + 1 }
 {
-    match begun(core, transactions, kind) {
+    match begun(core, kind) {
         Ok(transaction) => {
             listed.push(Named { place, transaction }).unwrap();
             Reply::Done
@@ -71,9 +66,9 @@ pub(crate) fn within<D: Disk>(
     call: Within,
     listed: &mut Vec<Named>,
 ) -> Reply
-    ensures serves { (kept : Kept) (before : List Told)
-        → ServesTx D.honest core.old kept listed.old.items before (calls.Within name call) result core.new kept listed.new.items }
-    ensures keeps { (jobs : Jobs) (before : List Told) → KeepsJobs core.old.memory jobs before → KeepsJobs core.new.memory jobs (before ++ result ∷ []) }
+    ensures serves { (before : List Told)
+        → ServesTx D.honest core.old.engine core.old.transactions listed.old.items before (calls.Within name call) result core.new.engine core.new.transactions listed.new.items }
+    ensures keeps { (jobs : Jobs) (before : List Told) → KeepsJobs core.old.engine.memory jobs before → KeepsJobs core.new.engine.memory jobs (before ++ result ∷ []) }
     ensures room { vec_capacity listed.old ≤ vec_capacity listed.new }
     ensures len { vec_len listed.new ≤ vec_len listed.old }
 {
@@ -100,14 +95,13 @@ fn told(outcome: CommitOutcome<Error>) -> Reply
 /// Commits the transaction of this name, which is of this kind.
 pub(crate) fn commit<D: Disk>(
     core: &mut Core<D>,
-    transactions: &mut Transactions,
     kind: Kind,
     name: u64,
     listed: &mut Vec<Named>,
 ) -> Reply
     ensures serves { (before : List Told)
-        → ServesTx D.honest core.old transactions.old listed.old.items before (calls.Commit kind name) result core.new transactions.new listed.new.items }
-    ensures keeps { (jobs : Jobs) (before : List Told) → KeepsJobs core.old.memory jobs before → KeepsJobs core.new.memory jobs (before ++ result ∷ []) }
+        → ServesTx D.honest core.old.engine core.old.transactions listed.old.items before (calls.Commit kind name) result core.new.engine core.new.transactions listed.new.items }
+    ensures keeps { (jobs : Jobs) (before : List Told) → KeepsJobs core.old.engine.memory jobs before → KeepsJobs core.new.engine.memory jobs (before ++ result ∷ []) }
     ensures room { vec_capacity listed.new ≡ vec_capacity listed.old }
     ensures len { vec_len listed.new ≤ vec_len listed.old }
 {
@@ -116,24 +110,19 @@ pub(crate) fn commit<D: Disk>(
     };
     // (its own writes fit into one list)
     let _written = named.transaction.own().len();
-    told(transactions.commit(core, named.transaction))
+    told(core.commit(named.transaction))
 }
 
 /// Ends the transaction of this name without its own writes.
-pub(crate) fn roll_back<D: Disk>(
-    core: &mut Core<D>,
-    transactions: &mut Transactions,
-    name: u64,
-    listed: &mut Vec<Named>,
-) -> Reply
+pub(crate) fn roll_back<D: Disk>(core: &mut Core<D>, name: u64, listed: &mut Vec<Named>) -> Reply
     ensures serves { (before : List Told)
-        → ServesTx D.honest core.old transactions.old listed.old.items before (calls.Rollback name) result core.new transactions.new listed.new.items }
-    ensures keeps { (jobs : Jobs) (before : List Told) → KeepsJobs core.old.memory jobs before → KeepsJobs core.new.memory jobs (before ++ result ∷ []) }
+        → ServesTx D.honest core.old.engine core.old.transactions listed.old.items before (calls.Rollback name) result core.new.engine core.new.transactions listed.new.items }
+    ensures keeps { (jobs : Jobs) (before : List Told) → KeepsJobs core.old.engine.memory jobs before → KeepsJobs core.new.engine.memory jobs (before ++ result ∷ []) }
     ensures room { vec_capacity listed.new ≡ vec_capacity listed.old }
     ensures len { vec_len listed.new ≤ vec_len listed.old }
 {
     let Some(named) = take_named(core, listed, name, None) else {
         return Reply::Refused(Error::SnapshotClosed);
     };
-    reply_of(transactions.rollback(core, named.transaction))
+    reply_of(core.rollback(named.transaction))
 }

@@ -6,8 +6,7 @@ ghost use Rattle.fjall_calls.specs.Names.{Takes, is_of_kind, is_wanted};
 use crate::call::Kind;
 use crate::named::Named;
 use fjall_base::Disk;
-use fjall_core::Core;
-use fjall_transactions::Transaction;
+use fjall_transactions::{Core, Transaction};
 
 // Whether a transaction is of this kind, or any kind will do.
 fn is_of_kind(transaction: &Transaction, kind: Option<Kind>) -> bool
@@ -22,7 +21,7 @@ fn is_of_kind(transaction: &Transaction, kind: Option<Kind>) -> bool
 
 // Whether it is the transaction of this name and kind, and open.
 fn is_wanted<D: Disk>(core: &Core<D>, named: &Named, name: u64, kind: Option<Kind>) -> bool
-    ensures { result ≡ is_wanted core.now.memory.tickets name kind named.now }
+    ensures { result ≡ is_wanted core.now.engine.memory.tickets name kind named.now }
 {
     named.place == name
         && is_of_kind(&named.transaction, kind)
@@ -36,7 +35,7 @@ fn place_of<D: Disk>(
     name: u64,
     kind: Option<Kind>,
 ) -> Option<usize>
-    ensures { result ≡ position (λ named. is_wanted core.now.memory.tickets name kind named) listed.now }
+    ensures { result ≡ position (λ named. is_wanted core.now.engine.memory.tickets name kind named) listed.now }
 {
     listed
         .iter()
@@ -50,7 +49,7 @@ pub(crate) fn take_named<D: Disk>(
     name: u64,
     kind: Option<Kind>,
 ) -> Option<Named>
-    ensures takes { Takes (is_wanted core.now.memory.tickets name kind) listed.old.items result listed.new.items }
+    ensures takes { Takes (is_wanted core.now.engine.memory.tickets name kind) listed.old.items result listed.new.items }
     ensures room { vec_capacity listed.new ≡ vec_capacity listed.old }
     ensures len { vec_len listed.new ≤ vec_len listed.old }
     ensures less { result ≢ None → vec_len listed.new + 1 ≡ vec_len listed.old }

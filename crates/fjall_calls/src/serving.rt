@@ -8,15 +8,14 @@ use crate::call::TxCall;
 use crate::ends::{begin, commit, roll_back, within};
 use crate::named::Named;
 use fjall_base::{Disk, Error, Result};
-use fjall_core::{Core, Jobs, Reply};
-use fjall_transactions::Transactions;
+use fjall_core::{Jobs, Reply};
+use fjall_transactions::Core;
 use std::alloc::Global;
 
 // Serves one call of a list, where the calls before it got these replies. The transactions and the jobs that are out are kept in
 // lists, each of which has room for one more.
 fn serve<D: Disk>(
     core: &mut Core<D>,
-    transactions: &mut Transactions,
     call: TxCall,
     replies: &[Reply],
     listed: &mut Vec<Named>,
@@ -25,9 +24,9 @@ fn serve<D: Disk>(
     requires listed_room { vec_len listed.old < vec_capacity listed.old }
     requires flush_room { vec_len jobs.old.flushes < vec_capacity jobs.old.flushes }
     requires merge_room { vec_len jobs.old.merges < vec_capacity jobs.old.merges }
-    requires keeps { KeepsJobs core.old.memory jobs.old replies.now }
-    ensures serves { ServesListed D.honest jobs.old.merges.items jobs.new.merges.items core.old transactions.old listed.old.items replies.now call result core.new transactions.new listed.new.items }
-    ensures keeps { KeepsJobs core.new.memory jobs.new (replies.now ++ result ∷ []) }
+    requires keeps { KeepsJobs core.old.engine.memory jobs.old replies.now }
+    ensures serves { ServesListed D.honest jobs.old.merges.items jobs.new.merges.items core.old.engine core.old.transactions listed.old.items replies.now call result core.new.engine core.new.transactions listed.new.items }
+    ensures keeps { KeepsJobs core.new.engine.memory jobs.new (replies.now ++ result ∷ []) }
     ensures listed_room { vec_capacity listed.old ≤ vec_capacity listed.new }
     ensures listed_len { vec_len listed.new ≤ vec_len listed.old + 1 }
     ensures flush_room { vec_capacity jobs.old.flushes ≤ vec_capacity jobs.new.flushes }
@@ -37,10 +36,10 @@ fn serve<D: Disk>(
 {
     match call {
         TxCall::Core(call) => core.serve(call, replies, jobs),
-        TxCall::Begin(kind) => begin(core, transactions, kind, replies.len() as u64, listed),
+        TxCall::Begin(kind) => begin(core, kind, replies.len() as u64, listed),
         TxCall::Within(name, call) => within(core, name, call, listed),
-        TxCall::Commit(kind, name) => commit(core, transactions, kind, name, listed),
-        TxCall::Rollback(name) => roll_back(core, transactions, name, listed),
+        TxCall::Commit(kind, name) => commit(core, kind, name, listed),
+        TxCall::Rollback(name) => roll_back(core, name, listed),
     }
 }
 
@@ -51,21 +50,16 @@ fn serve<D: Disk>(
 /// A call names a ticket, a job and a transaction by the place in the list of the call that opened or began it; a place whose
 /// call began none that is open and of its kind is refused with `SnapshotClosed`. What is open at the list's end stays open, and
 /// no later list can name it. Only where the lists that it keeps find no memory is the whole list refused, before its first call.
-pub fn run<D: Disk>(
-    alloc: Global,
-    core: &mut Core<D>,
-    transactions: &mut Transactions,
-    calls: Vec<TxCall>,
-) -> Result<Vec<Reply>>
-    ensures runs { IfOk result (λ replies. RunsTx D.honest core.old transactions.old calls.items replies.items core.new transactions.new) }
-    ensures err { OnErr result ((core.new ≡ core.old) × (transactions.new ≡ transactions.old)) }
+pub fn run<D: Disk>(alloc: Global, core: &mut Core<D>, calls: Vec<TxCall>) -> Result<Vec<Reply>>
+    ensures runs { IfOk result (λ replies. RunsTx D.honest core.old.engine core.old.transactions calls.items replies.items core.new.engine core.new.transactions) }
+    ensures err { OnErr result (core.new ≡ core.old) }
     ensures only { IsOkUnless result Error.OutOfMemory }
 {
     let mut replies = Vec::with_capacity(alloc, calls.len())?;
     let mut listed = Vec::with_capacity(alloc, calls.len())?;
     let mut jobs = Jobs::with_capacity(alloc, calls.len())?;
     for call in calls {
-        let reply = serve(core, transactions, call, &replies, &mut listed, &mut jobs);
+        let reply = serve(core, call, &replies, &mut listed, &mut jobs);
         replies.push(reply).unwrap();
     }
     Ok(replies)

@@ -14,6 +14,7 @@ pub mod SameNumber
 mod Taken
 pub mod FlushFinishing
 mod Tables
+pub mod Room
 mod Refusing
 pub mod Right
 mod Silence

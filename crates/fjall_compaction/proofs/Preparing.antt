@@ -1,15 +1,20 @@
 -- A whole ingestion as it is planned.
-use Rattle.std.proofs.Common.{◌≡◌, inl, inr, ℕ, ◌+◌, ◌-◌, ◌<◌, ◌≤◌, ◌^◌, ◌==◌, ◌&&◌, not, nat_lt, Bool, true, false, cond, List, [], ◌∷◌, ◌++◌, length, length-append, map, Some, None, refl, sym, ap, subst, ◌∙◌, arith}
+use Rattle.std.proofs.Common.{◌≡◌, ℕ, ◌+◌, ◌-◌, ◌<◌, ◌≤◌, ◌^◌, ◌==◌, ◌&&◌, not, nat_lt, Bool, true, false, cond, List, [], ◌∷◌, ◌++◌, length, length-append, map, min, Some, None, refl, sym, ap, subst, ◌∙◌, arith}
 use Rattle.std.proofs.lemmas.Bool.{or_parts, true≢false}
 use Rattle.std.proofs.lemmas.Bool.Decides.{nat_tests}
 use Rattle.fjall_base.specs.declared.error.Error.{Error}
 use Rattle.fjall_base.specs.declared.error.Error.TheVariants.{NumbersUsedUp, OutOfMemory, TooManyItems}
 use Rattle.fjall_table_reader.specs.Readers.{Reader}
 use Rattle.fjall_compaction.specs.declared.flush.plan.FlushPlan.{FlushPlan}
-use Rattle.fjall_compaction.specs.Flushes.{Flush, flush_with, record_after}
-use Rattle.fjall_compaction.specs.FlushPlans.{AreReadersOf, IsFlushPlan, IsFlushPlanRefusal, IsNamed}
+use Rattle.fjall_compaction.specs.Flushes.{Flush, flush_with, infos_from, record_after}
+use Rattle.fjall_compaction.specs.FlushPlans.{AreReadersOf, IsFlushPlan, IsNamed}
+use Rattle.fjall_compaction.specs.Ingests.{as_flush}
+use Rattle.fjall_compaction.specs.Room.{HasPlace, IsPlaceRefusal, IsRecordRefusal, body_len}
+use Rattle.fjall_compaction.proofs.FlushAfterHomes.{infos_count}
 use Rattle.fjall_compaction.proofs.NewTables.{few_made}
 use Rattle.fjall_compaction.proofs.FlushReading.{readers_both}
+use Rattle.fjall_compaction.proofs.Refusing.{as_counted}
+use Rattle.fjall_compaction.proofs.Room.{flush_len, refused_by_count}
 use Rattle.fjall_jobs.specs.declared.made_table.MadeTable.{MadeTable}
 use Rattle.fjall_jobs.specs.Tasks.{IsFlushed, Task}
 use Rattle.fjall_tree.specs.Ingestions.{has_memory, memory_task}
@@ -17,14 +22,14 @@ use Rattle.fjall_tree.specs.Trees.{Shape}
 use Rattle.fjall_memtable.specs.Parts.{HeldPart, Memory, clears_in, holds_nothing, parts_of}
 use Rattle.fjall_memtable.specs.Sorted.{flat}
 use Rattle.fjall_table.specs.Blocks.{Entry}
-use Rattle.fjall_manifest.specs.Records.{Fields, body, view}
+use Rattle.fjall_manifest.specs.Records.{Fields, Fits, body, view}
 use Rattle.fjall_views.specs.Jobs.{Same}
 use Rattle.fjall_views.specs.Jobs as jobs
 use Rattle.fjall_writes.specs.Ingestions.{KeyOp}
 use Rattle.fjall_compaction.specs.declared.ingestion.plan.IngestPlan.{IngestPlan}
-use Rattle.fjall_compaction.specs.IngestionPlans.{IsIngestPlan, IsIngestRefusal}
+use Rattle.fjall_compaction.specs.IngestionPlans.{IsIngestPlan, IsIngestRefusal, OnceIngested}
 use Rattle.fjall_compaction.specs.Planned.{IsIngestionRefusal, IsMemoryPlan}
-use Rattle.fjall_compaction.specs.Whole.{last_flushed, memory_flush}
+use Rattle.fjall_compaction.specs.Whole.{last_flushed, last_ingested, memory_flush}
 
 -- ---- memory of nothing
 
@@ -132,35 +137,57 @@ all_fit tree id n items last flushes own none is =
 
 -- ---- why none is planned
 
+-- the record behind the ingestion, where memory is flushed, by counting
+module _ (tree : Shape) (n : ℕ) (flushes made : List MadeTable) (last : Fields) (some : has_memory tree.memory ≡ true) where
+  pub whole_len : length (body (last_ingested n tree flushes made last)) ≡ body_len (length last.tables + (length flushes + length made)) (length last.clears + length (clears_in (parts_of tree.memory)))
+  whole_len =
+      let f = memory_flush tree flushes in
+      let all = flush_len (as_flush n made) (record_after f last) in
+      let tables = length-append last.tables (infos_from last.next_table_id flushes) in
+      let new = infos_count last.next_table_id flushes in
+      let clears = length-append last.clears (clears_in (parts_of tree.memory)) in
+      subst (λ (b : Bool). length (body (record_after (as_flush n made) (cond b (record_after f last) last)))
+      ≡ body_len (length last.tables + (length flushes + length made)) (length last.clears + length (clears_in (parts_of tree.memory)))) (sym some)
+      (omega (arith, all, tables, new, clears))
+
+  pub whole_next : (last_ingested n tree flushes made last).next_table_id ≡ last.next_table_id + (length flushes + length made)
+  whole_next = let next = next_flushed tree flushes last (λ none. absurd (true≢false (sym some ∙ none))) in omega (arith, next)
+
 module _ (tree : Shape) (id watermark n : ℕ) (items : List KeyOp) (last : Fields) (flushes : List MadeTable)
     (flushed : IsFlushed (memory_task id watermark tree.memory) flushes (clears_in (parts_of tree.memory))) where
-  -- the flush of memory, which holds something
-  pub flush_refused : has_memory tree.memory ≡ true → (error : Error) → IsFlushPlanRefusal last (memory_flush tree flushes) error → IsIngestionRefusal tree id watermark n items last error
-  flush_refused some OutOfMemory is = tt
-  flush_refused some NumbersUsedUp is = let few = is.0 in let at = is.1 in record { flushes = flushes; flushed = flushed; few = omega (arith, few, at) }
-  flush_refused some TooManyItems is = record {
-    flushes = flushes;
-    made = [];
-    flushed = flushed;
-    long = inl (subst (λ (b : Bool). 2 ^ 32 ≤ length (body (cond b (record_after (memory_flush tree flushes) last) last))) (sym some) is);
-  }
-  flush_refused some error is = absurd is
+  so : has_memory tree.memory ≡ true → (len at : ℕ) → len ≡ body_len (length last.tables + (length flushes + min (length items) 1)) (length last.clears + length (clears_in (parts_of tree.memory)))
+      → at ≡ last.next_table_id + (length flushes + min (length items) 1) → (made : List MadeTable) → length made ≡ min (length items) 1 → (error : Error) → IsPlaceRefusal len at error
+      → IsRecordRefusal (last_ingested n tree flushes made last) error
+  so some len at long next made counted error is =
+      let l = whole_len tree n flushes made last some in
+      let k = whole_next tree n flushes made last some in
+      refused_by_count (last_ingested n tree flushes made last) len at (omega (arith, l, long, counted)) (omega (arith, k, next, counted)) error is
+
+  -- once the flush of memory, which holds something, is made
+  pub memory_refused : has_memory tree.memory ≡ true → (len at : ℕ) → len ≡ body_len (length last.tables + (length flushes + min (length items) 1)) (length last.clears + length (clears_in (parts_of tree.memory)))
+      → at ≡ last.next_table_id + (length flushes + min (length items) 1) → (error : Error) → IsPlaceRefusal len at error → IsIngestionRefusal tree id watermark n items last error
+  memory_refused some len at long next TooManyItems is = record { flushes = flushes; flushed = flushed; holds = λ made counted. so some len at long next made counted TooManyItems is }
+  memory_refused some len at long next NumbersUsedUp is = record { flushes = flushes; flushed = flushed; holds = λ made counted. so some len at long next made counted NumbersUsedUp is }
+  memory_refused some len at long next error is = absurd is
 
   -- the ingestion behind it
   pub own_refused : (has_memory tree.memory ≡ false → flushes ≡ []) → (error : Error) → IsIngestRefusal n items (last_flushed tree flushes last) error
       → IsIngestionRefusal tree id watermark n items last error
-  own_refused none OutOfMemory is = tt
-  own_refused none NumbersUsedUp is =
-      let at = is.1 in
-      let next = next_flushed tree flushes last none in
-      record { flushes = flushes; flushed = flushed; few = omega (arith, at, next) }
-  own_refused none TooManyItems is = record { flushes = flushes; made = is.tables; flushed = flushed; long = inr (is.are, is.long) }
+  own_refused none OutOfMemory is =
+      λ nothing. subst (λ (b : Bool). OnceIngested n items (cond b (record_after (memory_flush tree flushes) last) last) HasPlace) nothing is
+  own_refused none NumbersUsedUp is = record { flushes = flushes; flushed = flushed; holds = is }
+  own_refused none TooManyItems is = record { flushes = flushes; flushed = flushed; holds = is }
   own_refused none error is = absurd is
 
--- where what was planned of the flush of memory is refused
-pub memory_refused : (tree : Shape) (id watermark n : ℕ) (items : List KeyOp) (last : Fields) (number : ℕ) (read made : List MadeTable) (clears_read clears : List ℕ) (error : Error)
-    → has_memory tree.memory ≡ true → number ≡ tree.memory.active.until - 1 → read ≡ made → clears_read ≡ clears → clears ≡ clears_in (parts_of tree.memory)
-    → IsFlushed (memory_task id watermark tree.memory) made clears → IsFlushPlanRefusal last (flush_with number read clears_read) error → IsIngestionRefusal tree id watermark n items last error
-memory_refused tree id watermark n items last number read made clears_read clears error some at same same_clears are flushed is =
-    flush_refused tree id watermark n items last made (subst (λ (l : List ℕ). IsFlushed (memory_task id watermark tree.memory) made l) are flushed) some error
-    (subst (λ (f : Flush). IsFlushPlanRefusal last f error) (λ i. flush_with (at i) (same i) ((same_clears ∙ are) i)) is)
+-- where the ingestion was planned behind that record, there was a place, and memory alone refuses what comes behind it
+pub placed_whole : (tree : Shape) (id watermark n : ℕ) (items : List KeyOp) (last : Fields) (flushes : List MadeTable) (own : IngestPlan) (mid : Fields) → mid ≡ last_flushed tree flushes last
+    → IsIngestPlan id n items mid own → IsIngestionRefusal tree id watermark n items last OutOfMemory
+placed_whole tree id watermark n items last flushes own mid says is = λ nothing tables counted.
+    let same : mid ≡ last = subst (λ (b : Bool). mid ≡ cond b (record_after (memory_flush tree flushes) last) last) nothing says in
+    let here : Fits (record_after (as_flush n own.tables.items) last) = subst (λ (l : Fields). Fits (record_after (as_flush n own.tables.items) l)) same is.planned.fits in
+    let room = here.len in
+    let left = here.room.next_table_id in
+    let many = as_counted n items own.tables.items is.tables in
+    let a = flush_len (as_flush n own.tables.items) last in
+    let b = flush_len (as_flush n tables) last in
+    (omega (arith, room, a, b, many, counted), omega (arith, left, many, counted))

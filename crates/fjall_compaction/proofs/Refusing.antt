@@ -1,24 +1,37 @@
 -- Why an ingestion can't be planned.
-use Rattle.std.proofs.Common.{◌≡◌, ℕ, List, subst}
+use Rattle.std.proofs.Common.{◌≡◌, ℕ, ◌+◌, ◌<◌, ◌^◌, List, length, min, arith}
 use Rattle.fjall_base.specs.declared.error.Error.{Error}
-use Rattle.fjall_base.specs.declared.error.Error.TheVariants.{NumbersUsedUp, OutOfMemory, TooManyItems}
-use Rattle.fjall_compaction.specs.FlushPlans.{IsFlushPlanRefusal}
+use Rattle.fjall_base.specs.declared.error.Error.TheVariants.{NumbersUsedUp, TooManyItems}
 use Rattle.fjall_jobs.specs.declared.made_table.MadeTable.{MadeTable}
-use Rattle.fjall_manifest.specs.Records.{Fields}
+use Rattle.fjall_manifest.specs.Records.{Fields, body}
 use Rattle.fjall_writes.specs.Ingestions.{KeyOp}
+use Rattle.fjall_compaction.specs.Flushes.{record_after}
 use Rattle.fjall_compaction.specs.Ingests.{as_flush}
-use Rattle.fjall_compaction.specs.IngestionPlans.{AreIngestionTables, IsIngestRefusal}
-use Rattle.fjall_compaction.proofs.Tables.{some_item}
+use Rattle.fjall_compaction.specs.IngestionPlans.{AreIngestionTables, IsIngestRefusal, OnceIngested}
+use Rattle.fjall_compaction.specs.Room.{HasPlace, IsPlaceRefusal, LacksNextId, body_len}
+use Rattle.fjall_compaction.proofs.Room.{flush_len, ids_by_count, placed_by_count, refused_by_count}
+use Rattle.fjall_compaction.proofs.Tables.{table_count}
 
-as_refused : (number : ℕ) (items : List KeyOp) (tables : List MadeTable) (last : Fields) → AreIngestionTables number items tables → (e : Error) → IsFlushPlanRefusal last (as_flush number tables) e
-    → IsIngestRefusal number items last e
-as_refused number items tables last are OutOfMemory is = tt
-as_refused number items tables last are NumbersUsedUp is = (some_item tables are.0 number items are.1 are.2 are.3 is.0, is.1)
-as_refused number items tables last are TooManyItems is = record { tables = tables; are = are; long = is }
-as_refused number items tables last are e is = absurd is
+-- there are as many tables as are counted on
+pub as_counted : (number : ℕ) (items : List KeyOp) (tables : List MadeTable) → AreIngestionTables number items tables → length tables ≡ min (length items) 1
+as_counted number items tables are = table_count tables are.0 number items are.1 are.2 are.3
 
--- where the tables can't be planned
-pub refused : (number : ℕ) (items : List KeyOp) (tables read : List MadeTable) (last : Fields) (e : Error) → read ≡ tables → AreIngestionTables number items tables
-    → IsFlushPlanRefusal last (as_flush number read) e → IsIngestRefusal number items last e
-refused number items tables read last e same are is =
-    as_refused number items tables last are e (subst (λ (l : List MadeTable). IsFlushPlanRefusal last (as_flush number l) e) same is)
+-- where so many tables and clears stay
+module _ (number : ℕ) (items : List KeyOp) (last : Fields) (tables made clears : ℕ) (some : tables ≡ length last.tables) (one : made ≡ min (length items) 1) (more : clears ≡ length last.clears) where
+  is_long : (new : List MadeTable) → length new ≡ min (length items) 1 → length (body (record_after (as_flush number new) last)) ≡ body_len (tables + made) (clears + 0)
+  is_long new counted = let all = flush_len (as_flush number new) last in omega (arith, all, some, one, more, counted)
+
+  is_next : (new : List MadeTable) → length new ≡ min (length items) 1 → (record_after (as_flush number new) last).next_table_id ≡ last.next_table_id + made
+  is_next new counted = omega (arith, one, counted)
+
+  pub refused : (error : Error) → IsPlaceRefusal (body_len (tables + made) (clears + 0)) (last.next_table_id + made) error → IsIngestRefusal number items last error
+  refused TooManyItems is = λ new counted. refused_by_count (record_after (as_flush number new) last) _ _ (is_long new counted) (is_next new counted) TooManyItems is
+  refused NumbersUsedUp is = λ new counted. refused_by_count (record_after (as_flush number new) last) _ _ (is_long new counted) (is_next new counted) NumbersUsedUp is
+  refused error is = absurd is
+
+  pub placed : body_len (tables + made) (clears + 0) < 2 ^ 32 → last.next_table_id + made < 2 ^ 64 → OnceIngested number items last HasPlace
+  placed room left = λ new counted. placed_by_count (record_after (as_flush number new) last) _ _ (is_long new counted) (is_next new counted) room left
+
+  pub ids_first : (error : Error) → IsPlaceRefusal (body_len (tables + made) (clears + 0)) (last.next_table_id + made) error → (new : List MadeTable) → length new ≡ min (length items) 1
+      → LacksNextId (record_after (as_flush number new) last) → error ≡ NumbersUsedUp
+  ids_first error is new counted lacks = ids_by_count (record_after (as_flush number new) last) _ _ (is_long new counted) (is_next new counted) error is lacks

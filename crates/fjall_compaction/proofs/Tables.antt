@@ -1,5 +1,5 @@
 -- The versions of items stand in a table's order, and none is refused for its length.
-use Rattle.std.proofs.Common.{◌≡◌, ℕ, zero, suc, ◌<◌, List, [], ◌∷◌, ◌++◌, get_or, length, map, take, None, IfNone, refl, sym, ap, subst, arith, ◌∙◌, ◌+◌}
+use Rattle.std.proofs.Common.{◌≡◌, ℕ, zero, suc, ◌<◌, List, [], ◌∷◌, ◌++◌, get_or, length, map, min, take, None, IfNone, refl, sym, ap, subst, arith, ◌∙◌, ◌+◌}
 use Rattle.std.specs.declared.cmp.Ordering.{Ordering}
 use Rattle.std.specs.declared.cmp.Ordering.TheVariants.{Less}
 use Rattle.fjall_base.specs.Limits.{item_refusal}
@@ -8,7 +8,7 @@ use Rattle.fjall_journal.specs.Ops.{bytes_in, value_in}
 use Rattle.fjall_journal.specs.declared.op.Op.{Op}
 use Rattle.fjall_journal.specs.declared.op.Op.TheVariants.{Put, Remove, RemoveWeak}
 use Rattle.std.specs.List.{AllByRecursion}
-use Rattle.std.proofs.lemmas.List.{append-nil, map_more}
+use Rattle.std.proofs.lemmas.List.{append-nil, length-map, map_more}
 use Rattle.fjall_jobs.specs.declared.made_table.MadeTable.{MadeTable}
 use Rattle.fjall_jobs.specs.Sequences.{AreMadeTables, AreParted}
 use Rattle.fjall_memtable.specs.Sorted.{flat}
@@ -76,6 +76,24 @@ some_item [] lists number items made parted all some none = omega (arith, some)
 some_item (t ∷ tables) [] number items made parted all some none = made
 some_item (t ∷ tables) (l ∷ []) number items made parted all some none = parted (sym (append-nil l) ∙ all ∙ ap (versions_made number) none)
 some_item (t ∷ tables) (l ∷ k ∷ lists) number items made parted all some none = parted
+
+-- so there is one where there is an item, and else none
+one_at_most : (items : List KeyOp) → (items ≡ [] → ⊥) → min (length items) 1 ≡ 1
+one_at_most [] some = absurd (some refl)
+one_at_most (item ∷ items) some = omega arith
+
+pub table_count : (tables : List MadeTable) (lists : List (List Entry)) (number : ℕ) (items : List KeyOp) → AreMadeTables tables lists → AreParted None lists
+    → flat lists ≡ versions_made number items → length tables ≡ min (length items) 1
+table_count [] [] number items made parted all =
+    let none : 0 ≡ length (map (version_of number) items) = ap (λ (l : List Entry). length l) all in
+    let same = length-map items (version_of number) in
+    omega (arith, none, same)
+table_count [] (l ∷ lists) number items made parted all = absurd made
+table_count (t ∷ tables) [] number items made parted all = absurd made
+table_count (t ∷ []) (l ∷ []) number items made parted all = sym (one_at_most items (some_item (t ∷ []) (l ∷ []) number items made parted all (omega arith)))
+table_count (t ∷ []) (l ∷ k ∷ lists) number items made parted all = absurd made.1
+table_count (t ∷ u ∷ tables) (l ∷ []) number items made parted all = absurd made.1
+table_count (t ∷ u ∷ tables) (l ∷ k ∷ lists) number items made parted all = absurd parted
 
 -- what was made of a writer with all versions
 pub one_table : (tables : List MadeTable) (table : MadeTable) (number : ℕ) (items : List KeyOp) (writer : List Entry) → tables ≡ table ∷ [] → IsTable table.bytes.items writer

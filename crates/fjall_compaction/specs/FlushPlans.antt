@@ -1,8 +1,7 @@
 -- A flush that is planned: all that is to be written of it, and for which trees.
-use Rattle.std.specs.Prelude.{◌≡◌, ◌≢◌, ⊤, ℕ, ◌+◌, ◌-◌, ◌<◌, ◌≤◌, ◌^◌, false, List, [], ◌∷◌, length, map, String, string_bytes, Option, Some, None}
+use Rattle.std.specs.Prelude.{◌≡◌, ◌≢◌, ℕ, ◌+◌, ◌-◌, ◌<◌, ◌^◌, false, List, [], ◌∷◌, map, String, string_bytes, Option, Some, None}
 use Rattle.std.specs.declared.alloc.Global.{Global}
 use Rattle.fjall_base.specs.declared.error.Error.{Error}
-use Rattle.fjall_base.specs.declared.error.Error.TheVariants.{NumbersUsedUp, OutOfMemory, TooManyItems}
 use Rattle.fjall_base.specs.Disk.{DiskState, IsFile, Meaning, Name, state_in}
 use Rattle.fjall_table_reader.specs.Readers.{AreRead, Reader}
 use Rattle.fjall_files.specs.Names.{IsNameOf, current_name, keyspace_folder, table_name}
@@ -12,12 +11,13 @@ use Rattle.fjall_table_reader.specs.Files.{bytes_in, entry_at}
 use Rattle.fjall_jobs.specs.declared.flush_made.FlushMade.{FlushMade}
 use Rattle.fjall_jobs.specs.declared.made_table.MadeTable.{MadeTable}
 use Rattle.fjall_jobs.specs.Sequences.{AreMadeTables}
-use Rattle.fjall_manifest.specs.Records.{Fields, Fits, body, record_text, view}
+use Rattle.fjall_manifest.specs.Records.{Fields, Fits, record_text, view}
 use Rattle.fjall_manifest.specs.Homes.{AreSafe, Home, Rests}
 use Rattle.fjall_recovery.specs.Halves.{Tree}
 use Rattle.fjall_recovery.specs.Places.{LiesInTree}
 use Rattle.fjall_compaction.specs.declared.flush.plan.FlushPlan.{FlushPlan}
 use Rattle.fjall_compaction.specs.Flushes.{Flush, Follows, HasAt, flush_of, flush_with, home_after, infos_from, record_after, tree_after}
+use Rattle.fjall_compaction.specs.Room.{IsRecordRefusal}
 
 -- where a table was made, its file has the name of this id's, which isn't the greatest; where none was made, there is no name
 abbrev pub IsNamed : (id next : ℕ) → List MadeTable → Option (String Global) → Type 0
@@ -35,12 +35,9 @@ pub record IsFlushPlan (id : ℕ) (last : Fields) (f : Flush) (plan : FlushPlan)
   pub text : plan.record_text.items ≡ record_text (record_after f last)
   pub fits : Fits (record_after f last)
 
--- Why a flush can't be planned: memory ran out; ids of tables are used up; or the record has no room for so many tables and clears.
+-- Why a flush can't be planned: the record after it is refused, as for its room, for ids, and for memory, in this order.
 abbrev pub IsFlushPlanRefusal : Fields → Flush → Error → Type 0
-IsFlushPlanRefusal last f OutOfMemory = ⊤
-IsFlushPlanRefusal last f NumbersUsedUp = (0 < length f.tables) × (last.next_table_id ≡ 2 ^ 64 - 1)
-IsFlushPlanRefusal last f TooManyItems = 2 ^ 32 ≤ length (body (record_after f last))
-IsFlushPlanRefusal last f error = ⊥
+IsFlushPlanRefusal last f error = IsRecordRefusal (record_after f last) error
 
 -- The home rests as before, and beside it the tables of the next one are safe.
 pub record IsPut (state : DiskState) (id : ℕ) (records : List Fields) (h next : Home) : Type 0 where

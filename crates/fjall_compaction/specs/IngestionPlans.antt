@@ -1,5 +1,5 @@
 -- An ingestion that is planned, and for which trees.
-use Rattle.std.specs.Prelude.{◌≡◌, ◌≢◌, ⊤, ℕ, ◌-◌, ◌<◌, ◌≤◌, ◌^◌, true, List, [], None, length}
+use Rattle.std.specs.Prelude.{◌≡◌, ℕ, ◌<◌, ◌^◌, true, List, None, length, min}
 use Rattle.fjall_base.specs.declared.error.Error.{Error}
 use Rattle.fjall_base.specs.declared.error.Error.TheVariants.{NumbersUsedUp, OutOfMemory, TooManyItems}
 use Rattle.fjall_base.specs.Disk.{Meaning, state_in}
@@ -12,10 +12,11 @@ use Rattle.fjall_jobs.specs.Sequences.{MakesTables}
 use Rattle.fjall_recovery.specs.Halves.{Tree}
 use Rattle.fjall_recovery.specs.Places.{LiesInTree}
 use Rattle.fjall_table.specs.Blocks.{Entry}
-use Rattle.fjall_manifest.specs.Records.{Fields, body}
+use Rattle.fjall_manifest.specs.Records.{Fields}
 use Rattle.fjall_writes.specs.Ingestions.{KeyOp}
 use Rattle.fjall_compaction.specs.declared.ingestion.plan.IngestPlan.{IngestPlan}
 use Rattle.fjall_compaction.specs.Ingests.{as_flush, tree_with, versions_made}
+use Rattle.fjall_compaction.specs.Room.{HasPlace, IsTooLong, LacksNextId}
 
 -- the tables are an ingestion's: one of exactly the versions that it makes, or none where it has no item
 abbrev pub AreIngestionTables : ℕ → List KeyOp → List MadeTable → Type 0
@@ -27,17 +28,15 @@ pub record IsIngestPlan (id number : ℕ) (items : List KeyOp) (last : Fields) (
   pub tables : AreIngestionTables number items plan.tables.items
   pub planned : IsFlushPlan id last (as_flush number plan.tables.items) plan.writes
 
--- The record after an ingestion has no room for so many tables and clears.
-pub record RecordHasNoRoom (number : ℕ) (items : List KeyOp) (last : Fields) : Type 0 where
-  pub tables : List MadeTable
-  pub are : AreIngestionTables number items tables
-  pub long : 2 ^ 32 ≤ length (body (record_after (as_flush number tables) last))
+-- what is so of the record after an ingestion of these items, whichever its table is; it has none where it has no item
+abbrev pub OnceIngested : ℕ → List KeyOp → Fields → (Fields → Type 0) → Type 0
+OnceIngested number items last Holds = (tables : List MadeTable) → length tables ≡ min (length items) 1 → Holds (record_after (as_flush number tables) last)
 
--- Why an ingestion can't be planned: memory ran out; ids of tables are used up; or the record has no room.
+-- Why an ingestion can't be planned: the record after it is refused, as for its room, for ids, and for memory, in this order.
 abbrev pub IsIngestRefusal : ℕ → List KeyOp → Fields → Error → Type 0
-IsIngestRefusal number items last OutOfMemory = ⊤
-IsIngestRefusal number items last NumbersUsedUp = (items ≢ []) × (last.next_table_id ≡ 2 ^ 64 - 1)
-IsIngestRefusal number items last TooManyItems = RecordHasNoRoom number items last
+IsIngestRefusal number items last TooManyItems = OnceIngested number items last IsTooLong
+IsIngestRefusal number items last NumbersUsedUp = OnceIngested number items last LacksNextId
+IsIngestRefusal number items last OutOfMemory = OnceIngested number items last HasPlace
 IsIngestRefusal number items last error = ⊥
 
 -- ---- of whatever ingestion was planned

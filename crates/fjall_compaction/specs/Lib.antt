@@ -1,4 +1,5 @@
 pub mod Flushes
+pub mod Room
 pub mod FlushPlans
 pub mod Covering
 pub mod FlushFinishing

@@ -1,8 +1,7 @@
 -- A merge that is planned: all that is to be written of it, and for which trees.
-use Rattle.std.specs.Prelude.{◌≡◌, ◌⊎◌, ⊤, ℕ, ◌+◌, ◌-◌, ◌<◌, ◌≤◌, ◌^◌, List, [], ◌∷◌, length, map, String, string_bytes, take}
+use Rattle.std.specs.Prelude.{◌≡◌, ◌⊎◌, ℕ, ◌+◌, ◌-◌, ◌<◌, ◌≤◌, ◌^◌, List, [], ◌∷◌, map, String, string_bytes, take}
 use Rattle.std.specs.declared.alloc.Global.{Global}
 use Rattle.fjall_base.specs.declared.error.Error.{Error}
-use Rattle.fjall_base.specs.declared.error.Error.TheVariants.{NumbersUsedUp, OutOfMemory, TooManyItems}
 use Rattle.fjall_base.specs.Disk.{IsNoFolder, Meaning, state_in}
 use Rattle.fjall_table_reader.specs.Readers.{AreRead, Reader}
 use Rattle.fjall_files.specs.Names.{IsNameOf, current_name, keyspace_folder, table_name}
@@ -16,9 +15,10 @@ use Rattle.fjall_recovery.specs.Halves.{Tree}
 use Rattle.fjall_recovery.specs.Places.{LiesInTree}
 use Rattle.fjall_memtable.specs.Sorted.{flat}
 use Rattle.fjall_table.specs.Blocks.{Entry}
-use Rattle.fjall_manifest.specs.Records.{Fields, Fits, IsRecord, body, record_text, view}
+use Rattle.fjall_manifest.specs.Records.{Fields, Fits, IsRecord, record_text, view}
 use Rattle.fjall_compaction.specs.declared.merge.plan.MergePlan.{MergePlan}
 use Rattle.fjall_compaction.specs.Merges.{Merge, MergesTables, home_after, infos_from, record_after, tree_after}
+use Rattle.fjall_compaction.specs.Room.{IsRecordRefusal}
 
 -- the files of tables that were made have these names, of ids that follow one another from this one on, of which none is the greatest
 abbrev pub AreNamed : (id next : ℕ) → List MadeTable → List (String Global) → Type 0
@@ -37,12 +37,9 @@ pub record IsMergePlan (id : ℕ) (last : Fields) (m : Merge) (plan : MergePlan)
   pub text : plan.record_text.items ≡ record_text (record_after m last)
   pub fits : Fits (record_after m last)
 
--- Why a merge can't be planned: memory ran out; too few ids of tables are left; or the record has no room for so many tables and clears.
+-- Why a merge can't be planned: the record after it is refused, as for its room, for ids, and for memory, in this order.
 abbrev pub IsMergePlanRefusal : Fields → Merge → Error → Type 0
-IsMergePlanRefusal last m OutOfMemory = ⊤
-IsMergePlanRefusal last m NumbersUsedUp = 2 ^ 64 ≤ last.next_table_id + length m.tables
-IsMergePlanRefusal last m TooManyItems = 2 ^ 32 ≤ length (body (record_after m last))
-IsMergePlanRefusal last m error = ⊥
+IsMergePlanRefusal last m error = IsRecordRefusal (record_after m last) error
 
 -- Readers of tables that a merge made of the keyspace of this id: of the files that are to have them, under ids that follow one another
 -- from this one on. On a disk that has these files they read what the tables hold.

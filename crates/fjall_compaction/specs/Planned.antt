@@ -1,5 +1,5 @@
 -- A whole ingestion that is planned: all that is written of it and what memory takes of it then; and for which trees it is written.
-use Rattle.std.specs.Prelude.{◌≡◌, ⊤, ℕ, ◌+◌, ◌<◌, ◌≤◌, ◌^◌, Bool, true, false, List, [], ◌++◌, length, vec_capacity, Option, Some, None}
+use Rattle.std.specs.Prelude.{◌≡◌, ℕ, ◌+◌, ◌<◌, ◌≤◌, ◌^◌, Bool, true, false, List, [], ◌++◌, length, vec_capacity, Option, Some, None}
 use Rattle.fjall_base.specs.Disk.{Meaning, state_in}
 use Rattle.fjall_base.specs.declared.error.Error.{Error}
 use Rattle.fjall_base.specs.declared.error.Error.TheVariants.{NumbersUsedUp, OutOfMemory, TooManyItems}
@@ -18,9 +18,10 @@ use Rattle.fjall_manifest.specs.Records.{Fields}
 use Rattle.fjall_writes.specs.Ingestions.{KeyOp}
 use Rattle.fjall_compaction.specs.declared.ingestion.whole.MemoryPlan.{MemoryPlan}
 use Rattle.fjall_compaction.specs.declared.ingestion.whole.PlannedIngestion.{PlannedIngestion}
-use Rattle.fjall_compaction.specs.IngestionPlans.{IsIngestPlan}
+use Rattle.fjall_compaction.specs.IngestionPlans.{IsIngestPlan, OnceIngested}
 pub use Rattle.fjall_compaction.specs.MergePlans.{HasNoTableFolder}
 use Rattle.fjall_compaction.specs.Whole.{LacksIds, LacksRecordRoom, MakesIngestion, last_flushed, memory_flush, tree_behind, tree_between, tree_flushed}
+use Rattle.fjall_compaction.specs.Room.{HasPlace}
 
 -- ---- what is planned
 
@@ -46,11 +47,12 @@ pub record IsIngestionPlan (tree : Shape) (id watermark n : ℕ) (items : List K
   pub empty : p.room.items ≡ []
   pub room : length tree.tables + length p.readers.items ≤ vec_capacity p.room
 
--- Why an ingestion isn't planned: memory ran out, ids of tables are used up, or a record has no room.
+-- Why an ingestion isn't planned: the record behind it has no room; else ids of tables are used up; else memory ran out, which the flush of
+-- memory asks for before it is known whether it makes a table: so it is told that there was a place only where memory holds nothing.
 abbrev pub IsIngestionRefusal : Shape → (id watermark n : ℕ) → List KeyOp → Fields → Error → Type 0
-IsIngestionRefusal tree id watermark n items last OutOfMemory = ⊤
-IsIngestionRefusal tree id watermark n items last NumbersUsedUp = LacksIds tree id watermark last
 IsIngestionRefusal tree id watermark n items last TooManyItems = LacksRecordRoom tree id watermark n items last
+IsIngestionRefusal tree id watermark n items last NumbersUsedUp = LacksIds tree id watermark n items last
+IsIngestionRefusal tree id watermark n items last OutOfMemory = has_memory tree.memory ≡ false → OnceIngested n items last HasPlace
 IsIngestionRefusal tree id watermark n items last error = ⊥
 
 -- ---- the disk

@@ -1,5 +1,5 @@
 -- A whole ingestion into a keyspace: the flush of all that its tree has in memory, and behind it the items.
-use Rattle.std.specs.Prelude.{◌≡◌, ◌⊎◌, ℕ, ◌-◌, ◌+◌, ◌<◌, ◌≤◌, ◌^◌, Bool, true, false, List, [], ◌++◌, None, Some, length, map, if◌then◌else◌}
+use Rattle.std.specs.Prelude.{◌≡◌, ℕ, ◌-◌, ◌<◌, ◌≤◌, ◌^◌, Bool, true, false, List, [], ◌++◌, None, Some, map, if◌then◌else◌}
 use Rattle.fjall_table_reader.specs.Readers.{Reader}
 use Rattle.fjall_compaction.specs.FlushFinishing.{AreTreesKnown}
 use Rattle.fjall_compaction.specs.Flushes.{Flush, home_after, infos_from, record_after, tree_after}
@@ -20,12 +20,13 @@ use Rattle.fjall_recovery.specs.Journals.{batches_in}
 use Rattle.fjall_recovery.specs.Places.{Journaling, contents_with, journals_with}
 use Rattle.fjall_memtable.specs.Sorted.{flat}
 use Rattle.fjall_table.specs.Blocks.{Entry}
-use Rattle.fjall_manifest.specs.Records.{Fields, body}
+use Rattle.fjall_manifest.specs.Records.{Fields}
 use Rattle.fjall_trees.specs.Forests.{AreBefore, Forest, IsForest}
 use Rattle.fjall_contents.specs.Replays.{first_fault}
 use Rattle.fjall_writes.specs.Ingestions.{KeyOp}
 use Rattle.fjall_compaction.specs.Ingests.{as_flush, tree_with}
-use Rattle.fjall_compaction.specs.IngestionPlans.{AreIngestionTables}
+use Rattle.fjall_compaction.specs.IngestionPlans.{AreIngestionTables, OnceIngested}
+use Rattle.fjall_compaction.specs.Room.{IsTooLong, LacksNextId}
 
 -- ---- what is made
 
@@ -51,18 +52,19 @@ pub record MakesIngestion (tree : Shape) (id watermark n : ℕ) (items : List Ke
 
 -- ---- why none is made
 
--- A record has no room for the table and the clears of the flush of memory, or for the ingestion's table behind them.
-pub record LacksRecordRoom (tree : Shape) (id watermark n : ℕ) (items : List KeyOp) (last : Fields) : Type 0 where
+-- What is so of the record behind a whole ingestion, with what some flush of memory makes, and whichever its own table is.
+pub record OnceWhole (tree : Shape) (id watermark n : ℕ) (items : List KeyOp) (last : Fields) (Holds : Fields → Type 0) : Type 0 where
   pub flushes : List MadeTable
-  pub made : List MadeTable
   pub flushed : IsFlushed (memory_task id watermark tree.memory) flushes (clears_in (parts_of tree.memory))
-  pub long : (2 ^ 32 ≤ length (body (last_flushed tree flushes last))) ⊎ (AreIngestionTables n items made × (2 ^ 32 ≤ length (body (last_ingested n tree flushes made last))))
+  pub holds : OnceIngested n items (last_flushed tree flushes last) Holds
 
--- No id of a table is left, for that of the flush of memory or for the ingestion's.
-pub record LacksIds (tree : Shape) (id watermark : ℕ) (last : Fields) : Type 0 where
-  pub flushes : List MadeTable
-  pub flushed : IsFlushed (memory_task id watermark tree.memory) flushes (clears_in (parts_of tree.memory))
-  pub few : 2 ^ 64 - 1 ≤ last.next_table_id + length flushes
+-- It has no room for the table and the clears of the flush of memory and the ingestion's table behind them.
+abbrev pub LacksRecordRoom : Shape → (id watermark n : ℕ) → List KeyOp → Fields → Type 0
+LacksRecordRoom tree id watermark n items last = OnceWhole tree id watermark n items last IsTooLong
+
+-- It has room, and no id of a table is left, for that of the flush of memory or for the ingestion's.
+abbrev pub LacksIds : Shape → (id watermark n : ℕ) → List KeyOp → Fields → Type 0
+LacksIds tree id watermark n items last = OnceWhole tree id watermark n items last LacksNextId
 
 -- ---- the tree on the disk
 

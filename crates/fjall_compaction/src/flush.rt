@@ -11,6 +11,7 @@ pub use laws::{
     a_crash_keeps_what_was_synced, a_flush_keeps_the_store, a_flush_of_memory_may_count,
     a_flush_that_is_out_takes_parts, a_flushed_home_is_right,
 };
+pub(crate) use plan::plan_in_place;
 pub use plan::{FlushPlan, plan_flush, plan_tables};
 pub use readers::table_readers;
 pub use writing::{put_record, write_flush, write_tables};

@@ -5,6 +5,7 @@
 mod flush;
 mod ingestion;
 mod merge;
+mod place;
 
 pub use flush::{
     FlushPlan, a_crash_keeps_what_was_synced, a_finished_flush_is_known, a_flush_keeps_the_store,

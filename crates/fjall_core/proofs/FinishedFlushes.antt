@@ -11,12 +11,14 @@ use Rattle.fjall_base.specs.declared.error.Error.TheVariants.{Io, NumbersUsedUp,
 use Rattle.fjall_files.specs.Tidy.{IsTidy, StaysTidy}
 use Rattle.fjall_files.proofs.Tidying.{stays_both, stays_start}
 use Rattle.fjall_compaction.specs.Flushes.{record_after}
+use Rattle.fjall_compaction.specs.Room.{IsTooLong, LacksNextId}
 use Rattle.fjall_compaction.proofs.NewTables.{at_most_one}
 use Rattle.fjall_history.specs.declared.job.JobId.{JobId}
 use Rattle.fjall_history.specs.declared.reply.Reply.{Reply}
 use Rattle.fjall_history.specs.declared.reply.Reply.TheVariants.{Flag, Refused}
 use Rattle.fjall_jobs.specs.declared.flush_made.FlushMade.{FlushMade}
 use Rattle.fjall_jobs.specs.Flushes.{flush_task}
+use Rattle.fjall_jobs.specs.Tasks.{Task}
 use Rattle.fjall_journal.specs.Writer.{Journal}
 use Rattle.fjall_recovery.specs.Known.{GoesOnFrom, last_known}
 use Rattle.fjall_tree.specs.Ingestions.{is_flush_due}
@@ -35,7 +37,7 @@ use Rattle.fjall_manifest.specs.Records.{Fields, body}
 use Rattle.fjall_trees.specs.Forests.{altered_at}
 use Rattle.fjall_trees.specs.Tables.{shape_in}
 use Rattle.fjall_machine.specs.Finishing.{IsFlushFinished, keyspace_of}
-use Rattle.fjall_machine.specs.Machine.{FinishesFlush, Flushed, LacksRoom, Parts, State, StepOf, WorkFails, flush_with, is_flushing, is_living}
+use Rattle.fjall_machine.specs.Machine.{FinishesFlush, FlushMeets, Flushed, Parts, State, StepOf, WorkFails, flush_with, is_flushing, is_living}
 use Rattle.fjall_machine.specs.Machine as machine
 use Rattle.fjall_machine.specs.Remembered.{KnowsTask, Remembered, flush_gone, with_flush}
 use Rattle.fjall_machine.specs.Remembered as memory
@@ -47,7 +49,7 @@ use Rattle.fjall_core.specs.Holding.{Held}
 use Rattle.fjall_core.specs.CallParts.{Evicts, Finishes, PutInMemory, Puts, WentAway, WroteFlush}
 use Rattle.fjall_core.specs.Crashes.{BlamesDevice, IsSync, attempt, is_io}
 use Rattle.fjall_core.specs.Durables.{Durable, Knows, Passes}
-use Rattle.fjall_core.specs.Standing.{Becomes, EvictsInMemory, FlushTook, FlushedInMemory, IsDueToFinish, LeadsOn, Owes, OwesFinish, Poisons, ReadsOn, Serves, StandsFor, StandsOn, evicted_in_memory, job_of, store_in, store_with_tables, AreRecorded, takes_effect}
+use Rattle.fjall_core.specs.Standing.{Becomes, EvictsInMemory, FinishMeets, FlushTook, FlushedInMemory, IsDueToFinish, KnowsIfDue, LeadsOn, Owes, OwesFinish, Poisons, ReadsOn, Serves, StandsFor, StandsOn, evicted_in_memory, job_of, store_in, store_with_tables, AreRecorded, takes_effect}
 use Rattle.fjall_core.proofs.BegunFlushes.{one_at}
 use Rattle.fjall_core.proofs.CrashesInRuns.{passes_on}
 use Rattle.fjall_core.proofs.Evictions.{evicted_keeps, evicted_leads, evicted_served, unevicted_keeps, unevicted_leads}
@@ -209,12 +211,25 @@ may_finish core made known (out, takes) well =
     let both = both_of (is_living (store_in core) job.keyspace_id) (nat_lt 0 (count_out flush)) takes in
     record { well = well; living = both.0; out = known.1 (due_takes job.number flush out ∙ both.1); some = known.2 }
 
--- so where it was looked for by its job's name, and nothing has changed
-pub may_go_on : (old mid : Held) (made : FlushMade) (number id : ℕ) → number ≡ (flush_task made.job).id → id ≡ keyspace_of made → KnowsTask old.memory (flush_task made.job)
-    → IsDueToFinish old (record { number = number; keyspace_id = id }) × (old.memory.poisoned ≡ false) × (mid ≡ old) → MayPut mid made
-may_go_on old mid made number id numbered at known (due, well, same) =
-    subst (λ (h : Held). MayPut h made) (sym same)
-    (may_finish old made known (subst (λ (job : JobId). IsDueToFinish old job) (λ i. record { number = numbered i; keyspace_id = at i }) due) well)
+-- where it was looked for by its job's name, and nothing has changed, it is out of a keyspace that lives
+module _ (old mid : Held) (made : FlushMade) (number id : ℕ) (numbered : number ≡ (flush_task made.job).id) (at : id ≡ keyspace_of made)
+    (found : IsDueToFinish old (record { number = number; keyspace_id = id }) × (old.memory.poisoned ≡ false) × (mid ≡ old)) where
+  named : IsDueToFinish old (job_of (flush_task made.job))
+  named = subst (λ (job : JobId). IsDueToFinish old job) (λ i. record { number = numbered i; keyspace_id = at i }) found.0
+
+  pub due_there : (is_living (store_in mid) (keyspace_of made) ≡ true) × (is_flushing mid.memory.trees (job_of (flush_task made.job)) ≡ true)
+  due_there =
+      let here = keyspace_of made in
+      let both = both_of (is_living (store_in old) here) (nat_lt 0 (count_out (shape_in here old.memory.trees).flush)) named.1 in
+      subst (λ (h : Held). (is_living (store_in h) here ≡ true) × (is_flushing h.memory.trees (job_of (flush_task made.job)) ≡ true)) (sym found.2) (both.0, named.0)
+
+  -- and may be put, where memory knows it
+  pub may_go_on : KnowsIfDue old (flush_task made.job) → MayPut mid made
+  may_go_on known = subst (λ (h : Held). MayPut h made) (sym found.2) (may_finish old made (known named) named found.1)
+
+-- what was made of a job is known, where the job is
+pub made_known : (old mid : Held) (job made : Task) → mid ≡ old → made ≡ job → KnowsTask old.memory job → KnowsIfDue mid made
+made_known old mid job made same is known due = subst (λ (x : Held × Task). KnowsTask x.0.memory x.1) (λ i. (sym same i, sym is i)) known
 
 false_behind : (b : Bool) → (b && false) ≡ false
 false_behind true = refl
@@ -286,19 +301,25 @@ module _ (honest : Type 0) (old new : Held) (made : FlushMade) (may : MayPut old
     is = fin.is;
   }
 
-  -- no room in the record
-  lacks_room : 2 ^ 32 ≤ length (body (record_after (flush_with (shape_in id old.memory.trees) may.out.out made.tables.items) (last_known old.memory.records (living_there old made may))))
-      → LacksRoom (shape_in id old.memory.trees) (shape_in id old.memory.trees).flush (last_known old.memory.records (living_there old made may))
-  lacks_room long =
-      subst (λ (o : Option Flushing). LacksRoom (shape_in id old.memory.trees) o (last_known old.memory.records (living_there old made may))) (sym may.out.is) (made.tables.items, at_most_one made, long)
+  -- what is so of the record after it
+  meets : (Meets : Fields → Type 0) → Meets (record_after (flush_with (shape_in id old.memory.trees) may.out.out made.tables.items) (last_known old.memory.records (living_there old made may)))
+      → FinishMeets old job Meets
+  meets Meets so =
+      let last = last_known old.memory.records (living_there old made may) in (
+        due,
+        may.well,
+        (
+          living_there old made may,
+          lives_there old made may,
+          subst (λ (o : Option Flushing). FlushMeets (shape_in id old.memory.trees) o last Meets) (sym may.out.is) (made.tables.items, at_most_one made, so),
+        ),
+      )
 
   unput_owes : (error : Error) → Puts honest old made (Err error) new → Owes old (finishing made) (Refused error) new
   unput_owes (Io kind) (fault, wrote) = inr (inr (due, may.well, inl fault))
   unput_owes OutOfMemory (same, why) = ((due, may.well), same)
-  unput_owes NumbersUsedUp (same, why) =
-      ((due, may.well, (living_there old made may, lives_there old made may, (why (living_there old made may) may.out.out (lives_there old made may) may.out.is).1)), same)
-  unput_owes TooManyItems (same, why) =
-      ((due, may.well, (living_there old made may, lives_there old made may, lacks_room (why (living_there old made may) may.out.out (lives_there old made may) may.out.is))), same)
+  unput_owes NumbersUsedUp (same, why) = (meets LacksNextId (why (living_there old made may) may.out.out (lives_there old made may) may.out.is), same)
+  unput_owes TooManyItems (same, why) = (meets IsTooLong (why (living_there old made may) may.out.out (lives_there old made may) may.out.is), same)
   unput_owes error (same, why) = absurd (why (living_there old made may) may.out.out (lives_there old made may) may.out.is)
 
   unevicted_owes : (error : Error) (mid : Held) → Puts honest old made (Ok tt) mid → Evicts honest mid (Err error) new → Owes old (finishing made) (Refused error) new

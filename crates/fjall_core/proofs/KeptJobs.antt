@@ -243,10 +243,14 @@ module _ (Knows : Remembered → Type 0) (stays : StaysTrue Knows) (old new : He
 
 -- ---- a job that is known
 
+-- what is known of a flush stays known
+pub flush_known : (old new : Held) (shape : CallShape) (reply : Reply) → Owes old shape reply new → (task : Task) → KnowsTask old.memory task → KnowsTask new.memory task
+flush_known old new shape reply owes task = owed_stays (λ m. KnowsTask m task) (task_stays task) old new shape reply owes
+
 module _ (old new : Held) (shape : CallShape) (reply : Reply) (owes : Owes old shape reply new) where
-  -- what is known of tasks stays known
+  -- so with all that are kept
   pub all_known : (jobs : List FlushJob) → All (λ kept. KnowsTask old.memory (flush_task kept)) jobs → All (λ kept. KnowsTask new.memory (flush_task kept)) jobs
-  all_known jobs known i d lt = owed_stays (λ m. KnowsTask m (flush_task (get_or jobs i d))) (task_stays (flush_task (get_or jobs i d))) old new shape reply owes (known i d lt)
+  all_known jobs known i d lt = flush_known old new shape reply owes (flush_task (get_or jobs i d)) (known i d lt)
 
   -- a flush that isn't out before a call isn't out behind it, and no merge is
   gone_on : (job : JobId) → job.number < old.memory.next_job → is_flushing old.memory.trees job ≡ false → is_flushing new.memory.trees job ≡ true → ⊥

@@ -10,6 +10,7 @@ use Rattle.fjall_history.specs.declared.job.JobId.{JobId}
 use Rattle.fjall_history.specs.declared.reply.Reply.{Reply}
 use Rattle.fjall_history.specs.declared.reply.Reply.TheVariants.{Began, Flag, Refused}
 use Rattle.fjall_jobs.specs.declared.merge_job.MergeJob.{MergeJob}
+use Rattle.fjall_jobs.specs.declared.merge_made.MergeMade.{MergeMade}
 use Rattle.fjall_jobs.specs.Keeping.{AreSorted}
 use Rattle.fjall_jobs.specs.Merges.{merge_task}
 use Rattle.fjall_jobs.specs.Tasks.{Task}
@@ -30,7 +31,7 @@ use Rattle.fjall_core.specs.Crashes.{BlamesDevice, IsSync, attempt}
 use Rattle.fjall_core.specs.Holding.{Held}
 use Rattle.fjall_core.specs.Jobs.{Finds, KeepsMerges, KeepsOtherMerges, KnowsMerges, is_merge_named}
 use Rattle.fjall_core.specs.Durables.{Passes}
-use Rattle.fjall_core.specs.Standing.{IsDueToMerge, MergeTook, OnDisk, Owes, OwesMerge, ReadsOn, Serves, ServesWhere, StandsFor, job_of, store_in}
+use Rattle.fjall_core.specs.Standing.{IsDueToMerge, KnowsMergeIfDue, MergeTook, OnDisk, Owes, OwesMerge, ReadsOn, Serves, ServesWhere, StandsFor, job_of, store_in}
 use Rattle.fjall_core.proofs.CrashesInRuns.{passes_still}
 use Rattle.fjall_core.proofs.FoundJobs.{at_place, without_one}
 use Rattle.fjall_core.proofs.KeptJobs.{merge_gave_back}
@@ -144,13 +145,25 @@ merge_sorted core s stands reads target task knows out =
     let all = tree_under (λ (k : Planted). ReadsAll core.disk k.shape (s.parts.entries k.id)) core.memory.trees id (shape_in id core.memory.trees) (trees_read core s stands reads) has in
     input_sorted core.disk (shape_in id core.memory.trees) (s.parts.entries id) task all begun
 
--- what is served of a merge is so of another of the same task and target
+-- what is served of a merge is so, from states that know it, of another of the same task and target
 pub same_merge : (job other : MergeJob) (old new : Held) (reply : Reply) → merge_task other ≡ merge_task job → other.target ≡ job.target
-    → ServesWhere (λ s. KnowsMerge s other.target (merge_task other)) old (OfMergeFinish (job_of (merge_task other))) reply new
+    → ServesWhere (KnowsMergeIfDue old other.target (merge_task other)) old (OfMergeFinish (job_of (merge_task other))) reply new
     → ServesWhere (λ s. KnowsMerge s job.target (merge_task job)) old (OfMergeFinish (job_of (merge_task job))) reply new
 same_merge job other old new reply task target serves =
+    let known = serves_fewer (KnowsMergeIfDue old other.target (merge_task other)) (λ (s : State). KnowsMerge s other.target (merge_task other)) old new (OfMergeFinish (job_of (merge_task other))) reply
+    (λ s knows due. knows) serves in
     subst (λ (t : Task). ServesWhere (λ s. KnowsMerge s job.target t) old (OfMergeFinish (job_of t)) reply new) task
-    (subst (λ (n : ℕ). ServesWhere (λ s. KnowsMerge s n (merge_task other)) old (OfMergeFinish (job_of (merge_task other))) reply new) target serves)
+    (subst (λ (n : ℕ). ServesWhere (λ s. KnowsMerge s n (merge_task other)) old (OfMergeFinish (job_of (merge_task other))) reply new) target known)
+
+-- What is served from states that know the merge of what was made is so from those that know it if it would take effect, where it does.
+pub if_due : (old mid new : Held) (made : MergeMade) (reply : Reply) → mid ≡ old → IsDueToMerge mid (job_of (merge_task made.job))
+    → ServesWhere (λ s. KnowsMerge s made.job.target (merge_task made.job)) mid (OfMergeFinish (job_of (merge_task made.job))) reply new
+    → ServesWhere (KnowsMergeIfDue old made.job.target (merge_task made.job)) old (OfMergeFinish (job_of (merge_task made.job))) reply new
+if_due old mid new made reply same due serves =
+    let task = merge_task made.job in
+    let shape = OfMergeFinish (job_of task) in
+    subst (λ (h : Held). ServesWhere (KnowsMergeIfDue h made.job.target task) h shape reply new) same
+    (serves_fewer (λ (s : State). KnowsMerge s made.job.target task) (KnowsMergeIfDue mid made.job.target task) mid new shape reply (λ s knows. knows due) serves)
 
 -- it was refused for want of memory, or not
 is_memory : (error : Error) → (error ≡ OutOfMemory) ⊎ (error ≢ OutOfMemory)

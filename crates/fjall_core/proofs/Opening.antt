@@ -163,6 +163,7 @@ pub opens_on : (old new : Meaning) (o : Opened) → repair.IsLawfulOpening o →
 opens_on old new o lawful writes from = record {
   folder = from.folder;
   is = from.is;
+  left = from.left;
   opens = λ entries have damaged all.
       let reads = from.reads entries have in
       let next = number_held from.folder in

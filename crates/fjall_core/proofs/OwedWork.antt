@@ -17,8 +17,9 @@ use Rattle.fjall_jobs.specs.declared.made_table.MadeTable.{MadeTable}
 use Rattle.fjall_recovery.specs.Known.{last_known}
 use Rattle.fjall_meta.specs.declared.living.LivingKeyspace.{LivingKeyspace}
 use Rattle.fjall_meta.specs.Keyspaces.{keyspace_at}
-use Rattle.fjall_compaction.specs.IngestionPlans.{AreIngestionTables}
-use Rattle.fjall_compaction.specs.Whole.{LacksIds, LacksRecordRoom, last_flushed, last_ingested}
+use Rattle.fjall_compaction.specs.IngestionPlans.{OnceIngested}
+use Rattle.fjall_compaction.specs.Room.{IsTooLong, LacksNextId}
+use Rattle.fjall_compaction.specs.Whole.{OnceWhole, last_flushed}
 use Rattle.fjall_jobs.specs.Tasks.{IsFlushed}
 use Rattle.fjall_tree.specs.Ingestions.{memory_task}
 use Rattle.fjall_tree.specs.Jobs.{count_out}
@@ -26,7 +27,7 @@ use Rattle.fjall_tree.specs.Trees as lsm
 use Rattle.fjall_memtable.specs.Parts.{Memory, clears_in, parts_of}
 use Rattle.fjall_trees.specs.Tables.{shape_in}
 use Rattle.fjall_machine.specs.Shapes.{CallShape, OfChange, OfCount, OfCreation, OfDeletion, OfFlushBegin, OfFlushFinish, OfHandle, OfIngestion, OfJournalRotation, OfMaintenance, OfMergeBegin, OfMergeFinish, OfPersist, OfRead, OfRotation, OfTickets}
-use Rattle.fjall_machine.specs.Machine.{BeginsFlush, EvictsSome, FinishesFlush, Flushed, IngestionFails, Ingests, IngestsInto, IsPoisoned, LacksRoom, MayIngest, Parts, State, WorkFails, begins_flush, is_flushing, is_living, present, written_out}
+use Rattle.fjall_machine.specs.Machine.{BeginsFlush, EvictsSome, FinishesFlush, Flushed, IngestionFails, Ingests, IngestsInto, IsPoisoned, FlushMeets, MayIngest, Parts, State, WorkFails, begins_flush, is_flushing, is_living, present, written_out}
 use Rattle.fjall_machine.specs.Machine as machine
 use Rattle.fjall_machine.specs.Remembered.{Remembered, facts_of}
 use Rattle.fjall_machine.specs.Remembered as memory
@@ -38,7 +39,7 @@ use Rattle.fjall_machine.proofs.Sizes.{beginning_agrees, out_agrees}
 use Rattle.fjall_machine.proofs.Standing as law
 use Rattle.fjall_writes.specs.Ingestions.{KeyOp}
 use Rattle.fjall_core.specs.Holding.{Held}
-use Rattle.fjall_core.specs.Standing.{AsksMemory, Becomes, BeginsAt, EvictsInMemory, FinishesLate, FlushedInMemory, HasNoRoom, IngestedInMemory, IngestionPoisons, IsDueToFinish, OwesBegin, OwesFinish, OwesIngestion, Poisons, RestsOnTables, StandsFor, UsesUp, WorkPoisons, are_jobs_used_up, are_journals_used_up, evicted_in_memory, held_due, is_long, journal_synced, next_name, store_in, takes_effect}
+use Rattle.fjall_core.specs.Standing.{AsksMemory, Becomes, BeginsAt, EvictsInMemory, FinishesLate, FinishMeets, FlushedInMemory, HasNoRoom, IngestedInMemory, IngestionPoisons, IsDueToFinish, OwesBegin, OwesFinish, OwesIngestion, Poisons, RestsOnTables, StandsFor, UsesUp, WorkPoisons, are_jobs_used_up, are_journals_used_up, evicted_in_memory, held_due, is_long, journal_synced, next_name, store_in, takes_effect}
 use Rattle.fjall_core.proofs.OwedMerges.{merge_begins_there, merge_due_there, merge_number_there}
 use Rattle.fjall_core.proofs.OwedStates.{Answered, Steps, looked_stands, none_more, poisoned_stands, poisoned_state, same_due, still}
 
@@ -317,10 +318,6 @@ module _ (old new : Held) (s : State) (stands : StandsFor old s) where
 
 -- ---- what is wanting
 
--- the record behind an ingestion is too long, or the one behind the flush before it
-abbrev IsTooLong : ℕ → lsm.Shape → List KeyOp → (flushes made : List MadeTable) → Fields → Type 0
-IsTooLong n tree items flushes made last = (2 ^ 32 ≤ length (body (last_flushed tree flushes last))) ⊎ (AreIngestionTables n items made × (2 ^ 32 ≤ length (body (last_ingested n tree flushes made last))))
-
 module _ (old : Held) (s : State) (stands : StandsFor old s) where
   abbrev at : ℕ
   at = old.catalog.next_table_id
@@ -365,43 +362,43 @@ module _ (old : Held) (s : State) (stands : StandsFor old s) where
   same_late (OfCount count) late = absurd late
 
   -- the memory of a keyspace's tree, the watermark and the last record are the state's
-  same_ids : (id : ℕ) (k : LivingKeyspace) → keyspace_at id old.memory.keyspaces.living ≡ Some k → LacksIds (shape_in id old.memory.trees) id old.memory.tickets.watermark (last_known old.memory.records k)
-      → LacksIds (shape_in id s.parts.trees) id s.tickets.watermark (s.parts.records id)
-  same_ids id k lives lacks =
-      let alike = same_in id s.parts.trees old.memory.trees stands.remembered.trees in
-      let record_is = known_record old.memory at s stands.remembered id k lives in
-      let few = lacks.few in
-      let same : (s.parts.records id).next_table_id ≡ (last_known old.memory.records k).next_table_id = ap (λ (r : Fields). r.next_table_id) record_is in
-      record {
-        flushes = lacks.flushes;
-        flushed = subst (λ (x : ℕ × Memory). IsFlushed (memory_task id x.0 x.1) lacks.flushes (clears_in (parts_of x.1))) (λ i. ((sym stands.remembered.tickets i).watermark, alike.memory i)) lacks.flushed;
-        few = omega (arith, few, same);
-      }
-
-  same_record_room : (id : ℕ) (items : List KeyOp) (k : LivingKeyspace) → keyspace_at id old.memory.keyspaces.living ≡ Some k
-      → LacksRecordRoom (shape_in id old.memory.trees) id old.memory.tickets.watermark old.memory.next items (last_known old.memory.records k)
-      → LacksRecordRoom (shape_in id s.parts.trees) id s.tickets.watermark (number s.history) items (s.parts.records id)
-  same_record_room id items k lives lacks =
+  same_whole : (Meets : Fields → Type 0) (id : ℕ) (items : List KeyOp) (k : LivingKeyspace) → keyspace_at id old.memory.keyspaces.living ≡ Some k
+      → OnceWhole (shape_in id old.memory.trees) id old.memory.tickets.watermark old.memory.next items (last_known old.memory.records k) Meets
+      → OnceWhole (shape_in id s.parts.trees) id s.tickets.watermark (number s.history) items (s.parts.records id) Meets
+  same_whole Meets id items k lives once =
       let tree = shape_in id s.parts.trees in
       let alike = same_in id s.parts.trees old.memory.trees stands.remembered.trees in
       let record_is = known_record old.memory at s stands.remembered id k lives in
       record {
-        flushes = lacks.flushes;
-        made = lacks.made;
-        flushed = subst (λ (x : ℕ × Memory). IsFlushed (memory_task id x.0 x.1) lacks.flushes (clears_in (parts_of x.1))) (λ i. ((sym stands.remembered.tickets i).watermark, alike.memory i)) lacks.flushed;
-        long = subst (λ (x : ℕ × Memory × Fields). IsTooLong x.0 (record tree { memory = x.1 }) items lacks.flushes lacks.made x.2) (λ i. (sym stands.remembered.number i, alike.memory i, sym record_is i)) lacks.long;
+        flushes = once.flushes;
+        flushed = subst (λ (x : ℕ × Memory). IsFlushed (memory_task id x.0 x.1) once.flushes (clears_in (parts_of x.1))) (λ i. ((sym stands.remembered.tickets i).watermark, alike.memory i)) once.flushed;
+        holds = subst (λ (x : ℕ × Memory × Fields). OnceIngested x.0 items (last_flushed (record tree { memory = x.1 }) once.flushes x.2) Meets)
+            (λ i. (sym stands.remembered.number i, alike.memory i, sym record_is i)) once.holds;
       }
+
+  -- and so is a flush that is to be finished
+  same_finish : (Meets : Fields → Type 0) (job : JobId) → FinishMeets old job Meets → machine.FinishMeets s job Meets
+  same_finish Meets job (due, well, (k, lives, meets)) =
+      let id = job.keyspace_id in
+      let alike = same_in id s.parts.trees old.memory.trees stands.remembered.trees in
+      let tree = shape_in id s.parts.trees in
+      let record_is = known_record old.memory at s stands.remembered id k lives in
+      let there : FlushMeets (record tree { memory = (shape_in id old.memory.trees).memory; flush = (shape_in id old.memory.trees).flush }) (shape_in id old.memory.trees).flush (last_known old.memory.records k) Meets = meets in (
+        is_due job due,
+        stands.remembered.poisoned ∙ well,
+        subst (λ (x : lsm.Shape × Fields). FlushMeets x.0 x.0.flush x.1 Meets)
+            (λ i. (record tree { memory = alike.memory i; flush = alike.flush i }, sym record_is i)) there,
+      )
 
   pub same_used : (shape : CallShape) (error : Error) → held_due old shape ≡ None → (RestsOnTables old shape (Refused error) → ⊥) → UsesUp old shape → machine.UsesUp s shape
   same_used (OfFlushBegin id) error none bare (begins, used) = (beginning_agrees old.memory at s stands.remembered id ∙ begins, used_up_agrees old old s stands ∙ used)
-  same_used (OfFlushFinish job) error none bare (due, well, (k, lives, last)) =
-      (is_due job due, stands.remembered.poisoned ∙ well, ap (λ (r : Fields). r.next_table_id) (known_record old.memory at s stands.remembered job.keyspace_id k lives) ∙ last)
+  same_used (OfFlushFinish job) error none bare meets = same_finish LacksNextId job meets
   same_used (OfMergeBegin kind id) error none bare (begins, used) = (merge_begins_there old s stands kind id none ∙ begins, stands.remembered.next_job ∙ used)
   same_used (OfMergeFinish job) error none bare (due, well, last) = absurd (bare due.0)
   same_used OfMaintenance error none bare used = absurd used
   same_used (OfIngestion id []) error none bare used = absurd used
   same_used (OfIngestion id (item ∷ items)) error none bare (inl used) = inl (journals_agree old old s stands ∙ used)
-  same_used (OfIngestion id (item ∷ items)) error none bare (inr (k, lives, lacks)) = inr (same_ids id k lives lacks)
+  same_used (OfIngestion id (item ∷ items)) error none bare (inr (k, lives, lacks)) = inr (same_whole LacksNextId id (item ∷ items) k lives lacks)
   same_used (OfChange change how) error none bare used = absurd used
   same_used (OfCreation name options) error none bare used = absurd used
   same_used (OfDeletion id) error none bare used = absurd used
@@ -414,23 +411,13 @@ module _ (old : Held) (s : State) (stands : StandsFor old s) where
   same_used (OfCount count) error none bare used = absurd used
 
   pub same_room : (shape : CallShape) (error : Error) → (RestsOnTables old shape (Refused error) → ⊥) → HasNoRoom old shape → machine.HasNoRoom s shape
-  same_room (OfFlushFinish job) error bare (due, well, (k, lives, lacks)) =
-      let id = job.keyspace_id in
-      let alike = same_in id s.parts.trees old.memory.trees stands.remembered.trees in
-      let tree = shape_in id s.parts.trees in
-      let record_is = known_record old.memory at s stands.remembered id k lives in
-      let there : LacksRoom (record tree { memory = (shape_in id old.memory.trees).memory; flush = (shape_in id old.memory.trees).flush }) (shape_in id old.memory.trees).flush (last_known old.memory.records k) = lacks in (
-        is_due job due,
-        stands.remembered.poisoned ∙ well,
-        subst (λ (x : lsm.Shape × Fields). LacksRoom x.0 x.0.flush x.1)
-            (λ i. (record tree { memory = alike.memory i; flush = alike.flush i }, sym record_is i)) there,
-      )
+  same_room (OfFlushFinish job) error bare meets = same_finish IsTooLong job meets
   same_room (OfFlushBegin id) error bare room = absurd room
   same_room (OfMergeBegin kind id) error bare room = absurd room
   same_room (OfMergeFinish job) error bare (due, well, last) = absurd (bare due.0)
   same_room OfMaintenance error bare room = absurd room
   same_room (OfIngestion id []) error bare room = absurd room
-  same_room (OfIngestion id (item ∷ items)) error bare (k, lives, lacks) = same_record_room id (item ∷ items) k lives lacks
+  same_room (OfIngestion id (item ∷ items)) error bare (k, lives, lacks) = same_whole IsTooLong id (item ∷ items) k lives lacks
   same_room (OfChange change how) error bare room = absurd room
   same_room (OfCreation name options) error bare room = absurd room
   same_room (OfDeletion id) error bare room = absurd room

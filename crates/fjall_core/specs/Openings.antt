@@ -10,14 +10,15 @@ use Rattle.std.specs.List.{AllByRecursion}
 use Rattle.fjall_files.specs.Names.{journal_name}
 use Rattle.fjall_manager.specs.Journals.{Sealed}
 use Rattle.fjall_journal.specs.Writer.{Journal}
+use Rattle.fjall_journal.specs.declared.recovery_mode.RecoveryMode.{RecoveryMode}
 use Rattle.std.specs.FinMap.{get}
 use Rattle.fjall_recovery.specs.Folders as folders
 use Rattle.fjall_recovery.specs.Folders.{Contents}
-use Rattle.fjall_recovery.specs.Refusals.{FolderRefuses, IsDue}
+use Rattle.fjall_recovery.specs.Refusals.{FolderRefusesIn, IsDue}
 use Rattle.fjall_recovery.specs.Amid.{HoldsAmid, IsBeginning, StandsAmid}
 use Rattle.fjall_recovery.specs.Held.{IsOpenFolder, number_held}
 use Rattle.fjall_recovery.specs.Homes.{no_fields}
-use Rattle.fjall_opening.specs.Opened.{HaveEntriesIn, IsSomeFolder, store_entries}
+use Rattle.fjall_opening.specs.Opened.{AreLeftIn, HaveEntriesIn, IsSomeFolder, store_entries}
 use Rattle.fjall_table.specs.Blocks.{Entry}
 use Rattle.fjall_table_reader.specs.Readers.{SomeTableIsWrong}
 use Rattle.fjall_trees.specs.Tables.{shape_in}
@@ -52,19 +53,21 @@ Opens core store entries damaged next = StandsFor core (opened_as core store ent
 abbrev pub AreAllDamaged : Held → List ℕ → Type 0
 AreAllDamaged core damaged = (id : ℕ) → SomeTableIsWrong core.disk (shape_in id core.memory.trees).tables → is_among damaged id ≡ true
 
--- A core that was opened on what stands there, a folder that opens: whatever its tables have, but for wrong blocks, the core stands
--- for the store of that, its disk has these tables, and those keyspaces are damaged that have a wrong block.
+-- A core that was opened on what stands there, a folder that opens: in memory it has what the journals left there, a sealed memtable of a
+-- keyspace for each sealed journal that has something of it beyond its home. Whatever its tables have, but for wrong blocks, it stands for
+-- the store of that, its disk has these tables, and those keyspaces are damaged that have a wrong block.
 pub record OpensOn (old : Meaning) (core : Held) : Type 0 where
   pub folder : Option Contents
   pub is : IsOpenFolder (standing (state_in old)) folder
+  pub left : AreLeftIn folder core.memory.trees
   pub opens : (entries : ℕ → List (List Entry)) → HaveEntriesIn old folder entries → (damaged : List ℕ) → AreAllDamaged core damaged
       → Opens core (store_entries entries folder) entries damaged (number_held folder) × ReadsOn core (opened_as core (store_entries entries folder) entries damaged (number_held folder))
 
--- Over a disk that returns what it holds, a refusal but `Io` is due to the folder or to want of memory, and the disk
--- holds what it held; after `Io` it does so too, or what stood there is a folder that opens.
-abbrev pub IsDueTo : Meaning → Meaning → Error → Type 0
-IsDueTo old new (Io kind) = Took old new [] ⊎ IsSomeFolder (standing (state_in old))
-IsDueTo old new error = IsDue (FolderRefuses (standing (state_in old))) error × Took old new []
+-- Over a disk that returns what it holds, a refusal but `Io` is due to the folder in this mode or to want of memory, and the
+-- disk holds what it held; after `Io` it does so too, or what stood there is a folder that opens.
+abbrev pub IsDueTo : RecoveryMode → Meaning → Meaning → Error → Type 0
+IsDueTo mode old new (Io kind) = Took old new [] ⊎ IsSomeFolder (standing (state_in old))
+IsDueTo mode old new error = IsDue (FolderRefusesIn mode (standing (state_in old))) error × Took old new []
 
 -- whatever store the disk held, a crash at each moment from old to new leaves that store
 abbrev pub KeepsStore : Meaning → Meaning → Type 0
@@ -112,9 +115,9 @@ pub record StaysAmid (old new : Meaning) (base : Store) (pending : List Command)
 abbrev pub Sweeps : Meaning → Held → Type 0
 Sweeps old core = IsSwept (state_in old) (state_in core.disk) core.catalog core.memory.keyspaces.living
 
--- what stands on the disk is refused with this error
-abbrev pub RefusesFolder : Meaning → Error → Type 0
-RefusesFolder disk error = FolderRefuses (standing (state_in disk)) error
+-- what stands on the disk is refused with this error in this mode
+abbrev pub RefusesFolder : RecoveryMode → Meaning → Error → Type 0
+RefusesFolder mode disk error = FolderRefusesIn mode (standing (state_in disk)) error
 
 -- the device is to blame where an opening was refused with `Io`
 abbrev pub RefusalBlames : Error → Meaning → Meaning → Type 0

@@ -64,12 +64,14 @@ use Rattle.fjall_machine.specs.declared.call.Call.{Call}
 use Rattle.fjall_machine.specs.declared.merge_kind.MergeKind.{MergeKind}
 use Rattle.fjall_machine.specs.Shapes.{Count, DiskSpace, Exists, Flushes, JournalSpace, Keyspaces, Next, OfChange, OfCount, OfCreation, OfDeletion, OfFlushBegin, OfFlushFinish, OfHandle, OfIngestion, OfJournalRotation, OfMergeBegin, OfMergeFinish, MergesDone, MergesOut, OfMaintenance, OfPersist, OfRead, OfRotation, OfTickets, OneLess, OneMore, OpenTickets, Persistence, Entries, SealedMemtables, CallShape, Tables, TablesL0, ToFlush, Visible, WriteBuffer, shape_of}
 use Rattle.fjall_machine.specs.Shapes as shapes
-use Rattle.fjall_machine.specs.Machine.{Parts, State, StepOf, Run, TakesMemory, ChangesDisk, LacksRoom, ReadsTables, TooLong, TurnsTickets, begins_flush, present, due_in, buffer_size, flush_count, LacksMergeIds, LacksMergeRoom, begins_merge, flush_with, has_name, is_among, is_flushing, is_living, is_merging, merge_count, mode_in, rotates, table_space, tables_space, version_count, wants_rotation}
-use Rattle.fjall_machine.specs.Remembered.{IsLawful, Remembered, facts_of, flushed_by, instant_in, is_last, with_change, with_creation, with_deletion, with_tickets, with_trees, retained, released, rotated, poisoned}
+use Rattle.fjall_machine.specs.Machine.{Parts, State, StepOf, Run, TakesMemory, ChangesDisk, FlushMeets, ReadsTables, TooLong, TurnsTickets, begins_flush, present, due_in, buffer_size, flush_count, LacksMergeIds, LacksMergeRoom, begins_merge, flush_with, has_name, is_among, is_flushing, is_living, is_merging, merge_count, mode_in, rotates, table_space, tables_space, version_count, wants_rotation}
+use Rattle.fjall_machine.specs.Merging.{KnowsMerge}
+use Rattle.fjall_machine.specs.Remembered.{IsLawful, KnowsTask, Remembered, facts_of, flushed_by, instant_in, is_last, with_change, with_creation, with_deletion, with_tickets, with_trees, retained, released, rotated, poisoned}
 use Rattle.fjall_machine.specs.Remembered as memory
 use Rattle.fjall_machine.specs.Evicting.{going_in}
 use Rattle.fjall_machine.specs.Ingesting as ingesting
 use Rattle.fjall_compaction.specs.Whole.{LacksIds, LacksRecordRoom}
+use Rattle.fjall_compaction.specs.Room.{IsTooLong, LacksNextId}
 use Rattle.fjall_writes.specs.Ingestions.{KeyOp}
 use Rattle.fjall_core.specs.Durables.{Durable, Knows, StandsAmid, Passes, CrashLeavesPending, Lies, MakesPresent, StaysFinished}
 use Rattle.fjall_core.specs.Crashes.{BlamesDevice, CallPasses, RunOn, SafeSince, Tried, IsSyncAt, SafeAt, asked}
@@ -403,22 +405,28 @@ LacksAt old job Lacks =
     × LastIs old job.keyspace_id
     (λ last. (out : Merging) × ((shape_in job.keyspace_id old.memory.trees).merge ≡ Some out) × (tables : List MadeTable) × (clears : List ℕ) × Lacks last (merging.merge_out out tables clears))
 
--- a worker's step that needs a number of which none is left: a job's, a journal's, or that of a keyspace's next table
+-- a flush is to be finished, and what it may have made meets this with the record after it
+abbrev pub FinishMeets : Held → JobId → (Fields → Type 0) → Type 0
+FinishMeets old job Meets =
+    let tree = shape_in job.keyspace_id old.memory.trees in
+    IsDueToFinish old job × (old.memory.poisoned ≡ false) × LastIs old job.keyspace_id (λ last. FlushMeets tree tree.flush last Meets)
+
+-- A worker's step or an ingestion that needs a number of which none is left: a job's, a journal's, or that of a keyspace's next table, whose
+-- record has room.
 abbrev pub UsesUp : Held → CallShape → Type 0
 UsesUp old (OfFlushBegin id) = (begins_flush old.memory.trees id ≡ true) × (are_jobs_used_up old ≡ true)
-UsesUp old (OfFlushFinish job) = IsDueToFinish old job × (old.memory.poisoned ≡ false) × LastIs old job.keyspace_id (λ last. last.next_table_id ≡ 2 ^ 64 - 1)
+UsesUp old (OfFlushFinish job) = FinishMeets old job LacksNextId
 UsesUp old (OfMergeBegin kind id) = (begins_merge_in old kind id ≡ true) × (old.memory.next_job ≡ 2 ^ 64 - 1)
 UsesUp old (OfMergeFinish job) = LacksAt old job LacksMergeIds
 UsesUp old (OfIngestion id []) = ⊥
 UsesUp old (OfIngestion id (item ∷ items)) =
-    (are_journals_used_up old ≡ true) ⊎ LastIs old id (LacksIds (shape_in id old.memory.trees) id old.memory.tickets.watermark)
+    (are_journals_used_up old ≡ true)
+    ⊎ LastIs old id (LacksIds (shape_in id old.memory.trees) id old.memory.tickets.watermark old.memory.next (item ∷ items))
 UsesUp old shape = ⊥
 
 -- the record of a keyspace whose flush or merge is to be finished has no room for the tables and the clears
 abbrev pub HasNoRoom : Held → CallShape → Type 0
-HasNoRoom old (OfFlushFinish job) =
-    let tree = shape_in job.keyspace_id old.memory.trees in
-    IsDueToFinish old job × (old.memory.poisoned ≡ false) × LastIs old job.keyspace_id (LacksRoom tree tree.flush)
+HasNoRoom old (OfFlushFinish job) = FinishMeets old job IsTooLong
 HasNoRoom old (OfMergeFinish job) = LacksAt old job LacksMergeRoom
 HasNoRoom old (OfIngestion id []) = ⊥
 HasNoRoom old (OfIngestion id (item ∷ items)) =
@@ -773,6 +781,14 @@ number_reply (Err error) = Refused error
 -- the job of that task
 abbrev pub job_of : Task → JobId
 job_of task = record { number = task.id; keyspace_id = task.keyspace }
+
+-- Memory knows the flush of this task, if a flush of its name would take effect.
+abbrev pub KnowsIfDue : Held → Task → Type 0
+KnowsIfDue core task = IsDueToFinish core (job_of task) → KnowsTask core.memory task
+
+-- The state knows the merge of this task, if a merge of its name would take effect.
+abbrev pub KnowsMergeIfDue : Held → ℕ → Task → State → Type 0
+KnowsMergeIfDue core target task s = IsDueToMerge core (job_of task) → KnowsMerge s target task
 
 -- the reply to a flush that is to begin
 abbrev pub job_reply : Result (Option FlushJob) Error → Reply

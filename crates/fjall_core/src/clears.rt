@@ -7,11 +7,11 @@ ghost use Rattle.fjall_machine.specs.Shapes.{of_clear};
 ghost use Rattle.fjall_core.specs.CallParts.{Writes};
 ghost use Rattle.fjall_core.specs.Standing.{Owes, Serves, reply_of, store_in};
 
-use crate::engine::Core;
+use crate::engine::Engine;
 use fjall_base::{Disk, Result};
 use fjall_journal::PersistMode;
 
-impl<D: Disk> Core<D> {
+impl<D: Disk> Engine<D> {
     // Empties a keyspace, under the next number. All memory is got before the first byte goes to the disk.
     fn empty(&mut self, id: u64, mode: Option<PersistMode>) -> Result<()>
         requires living { is_living (store_in self.old) id ≡ true }
@@ -30,7 +30,7 @@ impl<D: Disk> Core<D> {
 
     /// Takes all keys of a keyspace and their values away, under the next number, as one command: what is written to the
     /// keyspace behind it stays. A snapshot that was opened before still reads them. It is persisted as
-    /// [`insert`](Core::insert) is, and a crash may lose it as long.
+    /// [`insert`](Engine::insert) is, and a crash may lose it as long.
     ///
     /// Refusals, the first that has its cause: `UnknownKeyspace`, `KeyspaceDeleted`, `Poisoned`, `NumbersUsedUp`,
     /// `OutOfMemory`, and `Io`, after which the core is poisoned. After each of the others nothing has changed.

@@ -5,18 +5,18 @@ ghost use Rattle.fjall_base.specs.Crash.{IsHoused};
 ghost use Rattle.fjall_base.specs.Disk.{state_in};
 ghost use Rattle.fjall_core.specs.Standing.{OwesClosing, ClosesDisk, ClosesSafely};
 
-use crate::engine::Core;
+use crate::engine::Engine;
 use fjall_base::{Disk, Result};
 use fjall_journal::PersistMode;
 
-impl<D: Disk> Core<D> {
+impl<D: Disk> Engine<D> {
     /// The disk as it stands, without a call of it. What waits in the journal's buffer is lost.
     pub fn into_disk(self) -> D
         ensures disk { D.meaning result ≡ self.disk }
         // The folder of each name that stands on it stands too.
         ensures housed { IsTrue D.honest → IsHoused (state_in self.disk) }
     {
-        let Core {
+        let Engine {
             alloc: _,
             disk,
             journal,

@@ -13,7 +13,7 @@ use std::marker::Model;
 
 /// An engine over a disk. Each call is one step of a machine: it answers, and leaves the core in the state after it.
 #[derive(Drop)]
-pub struct Core<D: Disk> {
+pub struct Engine<D: Disk> {
     pub(crate) alloc: Global,
     pub(crate) disk: D,
     pub(crate) journal: Writer,
@@ -21,7 +21,7 @@ pub struct Core<D: Disk> {
     pub(crate) memory: EngineState,
 }
 
-impl<D: Disk> Model for Core<D> {
+impl<D: Disk> Model for Engine<D> {
     ghost use Rattle.std.specs.Coded.{codes};
     ghost use Rattle.fjall_core.specs.Holding.{Held};
     ghost use Rattle.fjall_recovery.specs.Known.{records_code};
@@ -41,7 +41,7 @@ pub(crate) fn is_fault(error: &Error) -> bool
     matches!(error, Error::Io(_))
 }
 
-impl<D: Disk> Core<D> {
+impl<D: Disk> Engine<D> {
     /// After a fault of the disk the core is poisoned.
     pub(crate) fn poison_by(&mut self, error: &Error)
         ensures { self.new ≡ (if is_io error.now then record self.old { memory = poisoned self.old.memory } else self.old) }

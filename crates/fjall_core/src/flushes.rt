@@ -1,17 +1,17 @@
 //! Flushes: memtables that are brought to tables, and journals that nobody wants any more.
 
-ghost use Rattle.std.specs.Prelude.{◌≡◌, ◌<◌, ◌-◌, ◌^◌, false, None, IfErr, IfNone, IfOk, IfSome, IsTrue, true};
+ghost use Rattle.std.specs.Prelude.{◌≡◌, ◌⊎◌, ◌<◌, ◌≤◌, ◌-◌, ◌^◌, false, None, Ok, Some, IfErr, IfNone, IfOk, IfSome, IsTrue, OnErr, true};
 ghost use Rattle.fjall_jobs.specs.Flushes.{flush_task};
-ghost use Rattle.fjall_tree.specs.Jobs.{IsFlushing};
+ghost use Rattle.fjall_jobs.specs.Tasks.{Task};
 ghost use Rattle.fjall_machine.specs.Finishing.{keyspace_of};
-ghost use Rattle.fjall_machine.specs.Machine.{begins_flush, is_living};
+ghost use Rattle.fjall_machine.specs.Machine.{begins_flush, is_flushing, is_living};
 ghost use Rattle.fjall_machine.specs.Remembered.{KnowsTask};
 ghost use Rattle.fjall_machine.specs.Shapes.{OfCount, OfFlushBegin, OfFlushFinish, OfMaintenance, ToFlush};
-ghost use Rattle.fjall_trees.specs.Tables.{shape_in};
+ghost use Rattle.fjall_state.specs.Flushes.{IsOfFlush};
 ghost use Rattle.fjall_core.specs.CallParts.{Begins, Evicts, Finishes, Puts, SyncsAll};
-ghost use Rattle.fjall_core.specs.Standing.{IsDueToFinish, Owes, Serves, finish_reply, flag_reply, held_due, ids_reply, is_long, job_of, job_reply, reply_of, store_in};
+ghost use Rattle.fjall_core.specs.Standing.{IsDueToFinish, KnowsIfDue, Owes, Serves, finish_reply, flag_reply, held_due, ids_reply, is_long, job_of, job_reply, reply_of, store_in};
 
-use crate::engine::Core;
+use crate::engine::Engine;
 use fjall_base::{Disk, Error, Refused, Result};
 use fjall_commit::sync_journal;
 use fjall_history::JobId;
@@ -21,7 +21,7 @@ use fjall_journal::PersistMode;
 /// Where the active journal is longer, a flush begins, and an ingestion is made, behind a rotation of it.
 pub(crate) const LONG_JOURNAL: u64 = 64_000_000;
 
-impl<D: Disk> Core<D> {
+impl<D: Disk> Engine<D> {
     // Syncs the journal before a flush or an ingestion; a long one is sealed.
     pub(crate) fn sync_for_flush(&mut self, seals: bool) -> Result<()>
         requires long { seals ≡ is_long self.old.journal }
@@ -57,7 +57,7 @@ impl<D: Disk> Core<D> {
     }
 
     /// Begins a flush of all sealed memtables of a keyspace, and gives the job away, to be run anywhere and then finished by
-    /// [`flush_finish`](Core::flush_finish). None where no memtable is sealed, or where a flush of the keyspace is out: then
+    /// [`flush_finish`](Engine::flush_finish). None where no memtable is sealed, or where a flush of the keyspace is out: then
     /// nothing changes. The journal is synced before, and what was accepted by then outlives a crash; where it is longer than
     /// 64,000,000 bytes it is sealed, and the next one begins. No view changes.
     ///
@@ -96,8 +96,11 @@ impl<D: Disk> Core<D> {
     // Finishes a flush that is out of a keyspace that lives: on the disk, and then in memory.
     fn put_flush(&mut self, made: &FlushMade) -> Result<()>
         requires living { is_living (store_in self.old) (keyspace_of made.now) ≡ true }
-        requires out { IsFlushing (shape_in (keyspace_of made.now) self.old.memory.trees) (flush_task made.now.job) }
-        ensures puts { Puts (IsTrue D.honest) self.old made.now result self.new }
+        requires out { is_flushing self.old.memory.trees (job_of (flush_task made.now.job)) ≡ true }
+        ensures puts { IsOfFlush self.old.memory made.now → Puts (IsTrue D.honest) self.old made.now result self.new }
+        ensures later { self.old.disk.faults ≤ self.new.disk.faults }
+        ensures poisons { OnErr result ((self.new.disk ≡ self.old.disk) ⊎ (self.new.memory.poisoned ≡ true)) }
+        ensures keeps { (task : Task) → KnowsTask self.old.memory task → KnowsTask self.new.memory task }
     {
         if let Err(error) = self.memory.finish_flush(self.alloc, &mut self.disk, made) {
             self.poison_by(&error);
@@ -109,8 +112,11 @@ impl<D: Disk> Core<D> {
     // Finishes a flush that isn't stale, and removes the journals that nobody wants any more.
     fn finish(&mut self, made: &FlushMade) -> Result<()>
         requires living { is_living (store_in self.old) (keyspace_of made.now) ≡ true }
-        requires out { IsFlushing (shape_in (keyspace_of made.now) self.old.memory.trees) (flush_task made.now.job) }
-        ensures finishes { Finishes (IsTrue D.honest) self.old made.now result self.new }
+        requires out { is_flushing self.old.memory.trees (job_of (flush_task made.now.job)) ≡ true }
+        ensures finishes { IsOfFlush self.old.memory made.now → Finishes (IsTrue D.honest) self.old made.now result self.new }
+        ensures later { self.old.disk.faults ≤ self.new.disk.faults }
+        ensures poisons { OnErr result ((self.new.disk ≡ self.old.disk) ⊎ (self.new.memory.poisoned ≡ true)) }
+        ensures keeps { (task : Task) → KnowsTask self.old.memory task → KnowsTask self.new.memory task }
     {
         self.put_flush(made)?;
         self.evict()
@@ -122,6 +128,8 @@ impl<D: Disk> Core<D> {
         ensures serves { IsTrue D.honest → IfSome result (λ early. Serves self.old (OfFlushFinish job) (flag_reply early) self.new) }
         ensures owes { IfSome result (λ early. Owes self.old (OfFlushFinish job) (flag_reply early) self.new) }
         ensures due { IfNone result (IsDueToFinish self.old job × (self.old.memory.poisoned ≡ false) × (self.new ≡ self.old)) }
+        ensures stale { is_flushing self.old.memory.trees job ≡ false → (result ≡ Some (Ok false)) × (self.new ≡ self.old) }
+        ensures disk { self.new.disk ≡ self.old.disk }
     {
         if !self.memory.is_out(job) {
             return Some(Ok(false));
@@ -139,9 +147,14 @@ impl<D: Disk> Core<D> {
 
     // Whether the flush was finished, where it isn't stale.
     fn settle(&mut self, made: &FlushMade) -> Result<bool>
-        requires known { KnowsTask self.old.memory (flush_task made.now.job) }
-        ensures serves { IsTrue D.honest → Serves self.old (OfFlushFinish (job_of (flush_task made.now.job))) (flag_reply result) self.new }
-        ensures owes { Owes self.old (OfFlushFinish (job_of (flush_task made.now.job))) (flag_reply result) self.new }
+        ensures serves { IsTrue D.honest → KnowsIfDue self.old (flush_task made.now.job)
+            → Serves self.old (OfFlushFinish (job_of (flush_task made.now.job))) (flag_reply result) self.new }
+        ensures owes { KnowsIfDue self.old (flush_task made.now.job)
+            → Owes self.old (OfFlushFinish (job_of (flush_task made.now.job))) (flag_reply result) self.new }
+        ensures stale { is_flushing self.old.memory.trees (job_of (flush_task made.now.job)) ≡ false → (result ≡ Ok false) × (self.new ≡ self.old) }
+        ensures later { self.old.disk.faults ≤ self.new.disk.faults }
+        ensures poisons { OnErr result ((self.new.disk ≡ self.old.disk) ⊎ (self.new.memory.poisoned ≡ true)) }
+        ensures keeps { (task : Task) → KnowsTask self.old.memory task → KnowsTask self.new.memory task }
     {
         let job = JobId {
             number: made.id(),
@@ -160,13 +173,24 @@ impl<D: Disk> Core<D> {
     ///
     /// False where the flush is stale, since it isn't out any more, its keyspace was deleted, or an ingestion took its memtables:
     /// then nothing changes but that it is out no more. Refusals hand back what was made: `Poisoned`; and then, the first that is met,
-    /// `NumbersUsedUp` where no id of a table is left, `TooManyItems` where the keyspace's record has no room, `OutOfMemory`; and `Io`,
+    /// `TooManyItems` where the keyspace's record has no room, `NumbersUsedUp` where no id of a table is left, `OutOfMemory`; and `Io`,
     /// after which the core is poisoned. After each of the others nothing has changed.
+    ///
+    /// A flush is told by its job's number and keyspace, so bring to each core only what its own jobs made: what another core's job made under
+    /// those of a flush that is out is put in its place, and `serves` and `owes` say nothing of that.
     pub fn flush_finish(&mut self, made: FlushMade) -> std::result::Result<bool, Refused<FlushMade>>
-        requires known { KnowsTask self.old.memory (flush_task made.job) }
-        ensures serves { IsTrue D.honest → Serves self.old (OfFlushFinish (job_of (flush_task made.job))) (finish_reply result) self.new }
-        ensures owes { Owes self.old (OfFlushFinish (job_of (flush_task made.job))) (finish_reply result) self.new }
+        // Where memory knows the flush, if it would take effect, the call is a step.
+        ensures serves { IsTrue D.honest → KnowsIfDue self.old (flush_task made.job)
+            → Serves self.old (OfFlushFinish (job_of (flush_task made.job))) (finish_reply result) self.new }
+        ensures owes { KnowsIfDue self.old (flush_task made.job)
+            → Owes self.old (OfFlushFinish (job_of (flush_task made.job))) (finish_reply result) self.new }
+        // Whatever was made, one that isn't out changes nothing; after a refusal that came behind a change of the disk the core is poisoned;
+        // and what is known of flushes stays known.
+        ensures stale { is_flushing self.old.memory.trees (job_of (flush_task made.job)) ≡ false → (result ≡ Ok false) × (self.new ≡ self.old) }
         ensures back { IfErr result (λ refused. refused.value ≡ made) }
+        ensures later { self.old.disk.faults ≤ self.new.disk.faults }
+        ensures poisons { OnErr result ((self.new.disk ≡ self.old.disk) ⊎ (self.new.memory.poisoned ≡ true)) }
+        ensures keeps { (task : Task) → KnowsTask self.old.memory task → KnowsTask self.new.memory task }
     {
         match self.settle(&made) {
             Ok(done) => Ok(done),

@@ -13,13 +13,13 @@ ghost use Rattle.fjall_machine.specs.Shapes.{OfIngestion};
 ghost use Rattle.fjall_core.specs.CallParts.{PutsIngestion, SettlesIngestion, WritesIngestion};
 ghost use Rattle.fjall_core.specs.Standing.{Owes, Serves, is_long, reply_of};
 
-use crate::engine::Core;
+use crate::engine::Engine;
 use crate::flushes::LONG_JOURNAL;
 use fjall_base::{Disk, Error, Result, UserKey};
 use fjall_compaction::{PlannedIngestion, write_ingestion};
 use fjall_journal::Op;
 
-impl<D: Disk> Core<D> {
+impl<D: Disk> Engine<D> {
     // Writes an ingestion that was planned.
     fn write_ingestion(&mut self, planned: &PlannedIngestion) -> Result<()>
         ensures writes { WritesIngestion (IsTrue D.honest) self.old planned.now result self.new }
@@ -76,8 +76,8 @@ impl<D: Disk> Core<D> {
     ///
     /// Refusals, the first that has its cause, over all items: `KeyEmpty`, `KeyTooLong`, `ValueTooLong`, `KeyOrder` where a key is not
     /// above the one before it, `UnknownKeyspace`, `KeyspaceDeleted`, `Poisoned`, `TooManyItems`, `NumbersUsedUp`; and then, the first that
-    /// is met, `NumbersUsedUp` where no id of a table or number of a journal is left, `TooManyItems` where the keyspace's record has no
-    /// room, `OutOfMemory`; and `Io`, after which the core is poisoned. After each of them no view has changed.
+    /// is met, `NumbersUsedUp` where no number of a journal is left, `TooManyItems` where the keyspace's record has no room, `NumbersUsedUp`
+    /// where no id of a table is left, `OutOfMemory`; and `Io`, after which the core is poisoned. After each of them no view has changed.
     pub fn ingest(&mut self, id: u64, items: Vec<(UserKey, Op)>) -> Result<()>
         ensures serves { IsTrue D.honest → Serves self.old (OfIngestion id items.items) (reply_of result) self.new }
         ensures owes { Owes self.old (OfIngestion id items.items) (reply_of result) self.new }

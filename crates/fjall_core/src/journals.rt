@@ -5,10 +5,10 @@ ghost use Rattle.fjall_machine.specs.Shapes.{OfJournalRotation};
 ghost use Rattle.fjall_core.specs.CallParts.{Turns};
 ghost use Rattle.fjall_core.specs.Standing.{Owes, Serves, reply_of};
 
-use crate::engine::Core;
+use crate::engine::Engine;
 use fjall_base::{Disk, Result};
 
-impl<D: Disk> Core<D> {
+impl<D: Disk> Engine<D> {
     // Seals the active journal, where there is a next number. All memory is got before the first byte goes to the disk.
     fn turn_journal(&mut self) -> Result<()>
         requires numbered { self.old.memory.journals.active < 2 ^ 64 - 2 }

@@ -9,7 +9,7 @@ ghost use Rattle.fjall_core.specs.Crashes.{is_io};
 ghost use Rattle.fjall_core.specs.CallParts.{Makes, Removes, Unmakes};
 ghost use Rattle.fjall_core.specs.Standing.{held_due, Owes, Serves, number_reply, reply_of, store_in};
 
-use crate::engine::{Core, is_fault};
+use crate::engine::{Engine, is_fault};
 use fjall_base::{Disk, Error, Result, Slice};
 use fjall_catalog::prepare_deletion;
 use fjall_commit::{
@@ -17,7 +17,7 @@ use fjall_commit::{
 };
 use fjall_options::KeyspaceCreateOptions;
 
-impl<D: Disk> Core<D> {
+impl<D: Disk> Engine<D> {
     /// The id of the keyspace of this name, which is made with these options where none has it.
     ///
     /// A new keyspace takes the next number and the next id, and outlives a crash once it is answered; all that was

@@ -11,6 +11,7 @@ ghost use Rattle.fjall_contents.specs.Replays.{bare};
 ghost use Rattle.fjall_recovery.specs.Folders.{ImageStandsFor};
 ghost use Rattle.fjall_recovery.specs.Amid.{HoldsAmid};
 ghost use Rattle.fjall_core.specs.Durables.{IsBeginning, StandsAmid, Durable};
+ghost use Rattle.fjall_jobs.specs.Tasks.{Task};
 ghost use Rattle.fjall_table.specs.Blocks.{Entry};
 ghost use Rattle.fjall_core.specs.Holding.{Held};
 ghost use Rattle.fjall_core.specs.Lives.{AreLeftOf, HoldsFold, LastSync, Life, LifeGoesOn, Lived, Lives, Served, all_left, begun, start_of};
@@ -26,6 +27,8 @@ ghost use Rattle.fjall_core.specs.Crashes.{BlamesEach, RunOn};
 ghost use Rattle.fjall_core.specs.Openings.{OpensAmid, OpensAs};
 ghost use Rattle.fjall_machine.specs.Machine as machine;
 ghost use Rattle.fjall_machine.specs.Machine.{present};
+ghost use Rattle.fjall_machine.specs.Merging.{KnowsMerge};
+ghost use Rattle.fjall_machine.specs.Remembered.{KnowsTask};
 ghost use Rattle.fjall_core.specs.Standing as memory;
 
 /// A disk that a crash left, at whichever moment of these steps, holds the store that its image stands for.
@@ -166,6 +169,15 @@ pub fn an_owed_call_steps()
         → Steps old shape reply new }
 {}
 
+/// What is known of a job stays known, whatever is called and answered: of a flush in memory, over any disk; and of a merge in whichever state
+/// the call steps to.
+pub fn a_known_job_stays_known()
+    ensures flush { (old new : Held) (shape : CallShape) (reply : Reply) → Owes old shape reply new
+        → (task : Task) → KnowsTask old.memory task → KnowsTask new.memory task }
+    ensures merge { (core : Held) (s t : machine.State) (shape : CallShape) (reply : Reply) → memory.StandsFor core s → machine.StepOf s shape reply t
+        → (target : ℕ) (task : Task) → KnowsMerge s target task → KnowsMerge t target task }
+{}
+
 /// Whatever a read tells, over any disk, what the core stood for it stands for behind it; and over a disk that returns what it holds,
 /// its tables are there as before, and it stands on the disk with no more pending.
 pub fn a_read_leaves_all()
@@ -177,7 +189,7 @@ pub fn a_read_leaves_all()
 {}
 
 /// No view of a keyspace that can be read has more pairs than versions are counted of it, which is what
-/// [`approximate_len`](crate::Core::approximate_len) tells, up to the greatest `u64`.
+/// [`approximate_len`](crate::Engine::approximate_len) tells, up to the greatest `u64`.
 pub fn no_view_is_longer()
     ensures { (core : Held) (s : machine.State) → memory.StandsFor core s → ReadsOn core s
         → (view : View) (id : ℕ) (query : Query) → machine.due s (OfRead view id query) ≡ None

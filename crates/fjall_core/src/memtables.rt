@@ -7,12 +7,12 @@ ghost use Rattle.fjall_machine.specs.Machine.{State, buffer_size, present, versi
 ghost use Rattle.fjall_machine.specs.Shapes.{OfRotation};
 ghost use Rattle.fjall_core.specs.Standing.{Owes, Serves, StandsFor, flag_reply, store_in};
 
-use crate::engine::Core;
+use crate::engine::Engine;
 use fjall_base::{Disk, Result};
 
-impl<D: Disk> Core<D> {
+impl<D: Disk> Engine<D> {
     /// Seals the active memtable of a keyspace, so that it can be flushed, and begins an empty one; the watermark is raised
-    /// as by [`gc`](Core::gc). False where the memtable holds nothing, neither a version nor a clear: then nothing changes. No
+    /// as by [`gc`](Engine::gc). False where the memtable holds nothing, neither a version nor a clear: then nothing changes. No
     /// view changes, and the disk is left alone.
     ///
     /// Refusals, the first that has its cause: `UnknownKeyspace`, `KeyspaceDeleted`, `Poisoned`, `OutOfMemory`. After each of

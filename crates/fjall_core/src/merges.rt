@@ -1,24 +1,24 @@
 //! Merges: tables that become others, at level 1, without the versions that nobody reads any more.
 
-ghost use Rattle.std.specs.Prelude.{◌≡◌, false, IfErr, IfNone, IfOk, IfSome, IsTrue, true};
+ghost use Rattle.std.specs.Prelude.{◌≡◌, false, IfErr, IfNone, IfOk, IfSome, IsTrue, Ok, Some, true};
 ghost use Rattle.fjall_jobs.specs.Merges.{merge_task};
 ghost use Rattle.fjall_tree.specs.Jobs.{is_merge_out};
 ghost use Rattle.fjall_machine.specs.declared.merge_kind.MergeKind.TheVariants.{Due, Major};
-ghost use Rattle.fjall_machine.specs.Machine.{State, is_living, merge_count, merge_out};
+ghost use Rattle.fjall_machine.specs.Machine.{State, is_living, is_merging, merge_count, merge_out};
 ghost use Rattle.fjall_machine.specs.Merging.{KnowsMerge, keyspace_of};
 ghost use Rattle.fjall_machine.specs.Shapes.{OfMergeBegin, OfMergeFinish};
 ghost use Rattle.fjall_trees.specs.Tables.{shape_in};
 ghost use Rattle.fjall_core.specs.CallParts.{Merges, PutsMerge, TakesAway};
-ghost use Rattle.fjall_core.specs.Standing.{IsDueToMerge, Owes, ReadsOn, Serves, ServesWhere, StandsFor, flag_reply, job_of, merge_job_reply, merge_reply, store_in};
+ghost use Rattle.fjall_core.specs.Standing.{IsDueToMerge, KnowsMergeIfDue, Owes, ReadsOn, Serves, ServesWhere, StandsFor, flag_reply, job_of, merge_job_reply, merge_reply, store_in};
 
-use crate::engine::Core;
+use crate::engine::Engine;
 use fjall_base::{Disk, Error, Refused, Result};
 use fjall_compaction::remove_taken;
 use fjall_history::JobId;
 use fjall_jobs::{MergeJob, MergeMade};
 use fjall_machine::MergeKind;
 
-impl<D: Disk> Core<D> {
+impl<D: Disk> Engine<D> {
     // Begins a merge of a keyspace, where one begins.
     fn begin_merge(&mut self, kind: MergeKind, id: u64) -> Result<Option<MergeJob>>
         ensures serves { IsTrue D.honest → Serves self.old (OfMergeBegin kind id) (merge_job_reply result) self.new }
@@ -42,7 +42,7 @@ impl<D: Disk> Core<D> {
     }
 
     /// Begins a merge of all tables of a keyspace, where as many of them stand at level 0 as its settings say, and gives the job away,
-    /// to be run anywhere and then finished by [`merge_finish`](Core::merge_finish). None where fewer stand there, or where a merge of the
+    /// to be run anywhere and then finished by [`merge_finish`](Engine::merge_finish). None where fewer stand there, or where a merge of the
     /// keyspace is out: then nothing changes. All blocks of its tables are read, and the watermark is that of now. No view changes.
     ///
     /// Refusals, the first that has its cause: `UnknownKeyspace`, `KeyspaceDeleted`, `Poisoned`; and where there is a merge to begin
@@ -61,7 +61,7 @@ impl<D: Disk> Core<D> {
 
     /// The same wherever the keyspace has a table: a merge that is asked for.
     ///
-    /// It is refused as [`merge_begin`](Core::merge_begin).
+    /// It is refused as [`merge_begin`](Engine::merge_begin).
     pub fn major_begin(&mut self, id: u64) -> Result<Option<MergeJob>>
         ensures serves { IsTrue D.honest → Serves self.old (OfMergeBegin Major id) (merge_job_reply result) self.new }
         ensures owes { Owes self.old (OfMergeBegin Major id) (merge_job_reply result) self.new }
@@ -115,6 +115,7 @@ impl<D: Disk> Core<D> {
         ensures serves { IsTrue D.honest → IfSome result (λ early. Serves self.old (OfMergeFinish job) (flag_reply early) self.new) }
         ensures owes { IfSome result (λ early. Owes self.old (OfMergeFinish job) (flag_reply early) self.new) }
         ensures due { IfNone result (IsDueToMerge self.old job × (self.old.memory.poisoned ≡ false) × (self.new ≡ self.old)) }
+        ensures stale { is_merging self.old.memory.trees job ≡ false → (result ≡ Some (Ok false)) × (self.new ≡ self.old) }
     {
         if !self.memory.is_merge_out(job) {
             return Some(Ok(false));
@@ -132,9 +133,10 @@ impl<D: Disk> Core<D> {
 
     // Whether the merge was finished, where it isn't stale.
     fn settle_merge(&mut self, made: &MergeMade) -> Result<bool>
-        ensures serves { IsTrue D.honest → ServesWhere (λ s. KnowsMerge s made.now.job.target (merge_task made.now.job))
+        ensures serves { IsTrue D.honest → ServesWhere (KnowsMergeIfDue self.old made.now.job.target (merge_task made.now.job))
             self.old (OfMergeFinish (job_of (merge_task made.now.job))) (flag_reply result) self.new }
         ensures owes { Owes self.old (OfMergeFinish (job_of (merge_task made.now.job))) (flag_reply result) self.new }
+        ensures stale { is_merging self.old.memory.trees (job_of (merge_task made.now.job)) ≡ false → (result ≡ Ok false) × (self.new ≡ self.old) }
     {
         let job = JobId {
             number: made.id(),
@@ -153,14 +155,16 @@ impl<D: Disk> Core<D> {
     /// removed. No view changes that is open, or that may be opened.
     ///
     /// False where the merge is stale, since it isn't out any more, or its keyspace was deleted: then nothing changes but that it is out no
-    /// more. Refusals hand back what was made: `Poisoned`; and then, the first that is met, `NumbersUsedUp` where too few ids of tables are
-    /// left, `TooManyItems` where the keyspace's record has no room, `OutOfMemory`; and `Io`, after which the core is poisoned. After each of
+    /// more. Refusals hand back what was made: `Poisoned`; and then, the first that is met, `TooManyItems` where the keyspace's record has
+    /// no room, `NumbersUsedUp` where too few ids of tables are left, `OutOfMemory`; and `Io`, after which the core is poisoned. After each of
     /// the others nothing has changed.
     pub fn merge_finish(&mut self, made: MergeMade) -> std::result::Result<bool, Refused<MergeMade>>
-        // Whichever state the core stood for that knows the merge, the call steps on from it.
-        ensures serves { IsTrue D.honest → ServesWhere (λ s. KnowsMerge s made.job.target (merge_task made.job))
+        // Whichever state the core stood for that knows the merge, if it would take effect, the call steps on from it.
+        ensures serves { IsTrue D.honest → ServesWhere (KnowsMergeIfDue self.old made.job.target (merge_task made.job))
             self.old (OfMergeFinish (job_of (merge_task made.job))) (merge_reply result) self.new }
         ensures owes { Owes self.old (OfMergeFinish (job_of (merge_task made.job))) (merge_reply result) self.new }
+        // One that isn't out changes nothing, whatever was made.
+        ensures stale { is_merging self.old.memory.trees (job_of (merge_task made.job)) ≡ false → (result ≡ Ok false) × (self.new ≡ self.old) }
         ensures back { IfErr result (λ refused. refused.value ≡ made) }
     {
         match self.settle_merge(&made) {

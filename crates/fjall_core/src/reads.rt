@@ -10,12 +10,12 @@ ghost use Rattle.fjall_machine.specs.Machine.{State, has_name, present};
 ghost use Rattle.fjall_machine.specs.Shapes.{Names, OfCount, OfRead};
 ghost use Rattle.fjall_core.specs.Standing.{StandsFor, Owes, Serves, names_reply, pairs_reply, store_in, value_reply};
 
-use crate::engine::Core;
+use crate::engine::Engine;
 use fjall_base::{Disk, KvPair, Result, Slice, UserValue};
 use fjall_history::View;
 use fjall_reading::KeyRange;
 
-impl<D: Disk> Core<D> {
+impl<D: Disk> Engine<D> {
     /// The value that a key of a keyspace has in a view. A key that no write can have has none.
     ///
     /// Refusals: `SnapshotClosed`, `UnknownKeyspace`, `KeyspaceDeleted`, `Io` where the disk fails, which poisons nothing,
@@ -31,7 +31,7 @@ impl<D: Disk> Core<D> {
     /// The first pairs of a keyspace's range in a view or, where `back`, the last ones: at most `max`, in the order of
     /// their keys.
     ///
-    /// Refused as [`get_at`](Core::get_at), where a block is wrong that the page wants.
+    /// Refused as [`get_at`](Engine::get_at), where a block is wrong that the page wants.
     pub fn page_at(
         &mut self,
         view: View,

@@ -12,7 +12,7 @@ ghost use Rattle.fjall_machine.specs.Shapes.{Exists, OfCount, OfCreation, OfFlus
 ghost use Rattle.fjall_core.specs.Jobs.{IsGivenBack, IsMergeGivenBack, IsPlain, Keeps, KeepsJobs, KeepsMerge, KeepsMerges, KeepsOtherMerges, KeepsOthers, KnowsMerges, is_kept, is_merge_kept};
 ghost use Rattle.fjall_core.specs.Standing.{Owes, OwesAll, ReadsOn, Serves, ServesWhere, StandsFor, Runs, RunsSafely, job_of, merge_job_reply};
 
-use crate::engine::Core;
+use crate::engine::Engine;
 use crate::jobs::{Jobs, run_error, take_job, take_merge};
 use crate::replies::{
     flag_reply, ids_reply, names_reply, number_reply, pairs_reply, reply_of, ticket_reply,
@@ -25,7 +25,7 @@ use fjall_machine::{Call, MergeKind};
 use fjall_options::KeyspaceCreateOptions;
 use fjall_reading::KeyRange;
 
-impl<D: Disk> Core<D> {
+impl<D: Disk> Engine<D> {
     // What is in memory is lawful, whatever calls left it there.
     fn memory_is_lawful(&self)
         ensures { IsLawful self.now.memory }

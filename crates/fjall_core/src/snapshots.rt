@@ -7,11 +7,11 @@ ghost use Rattle.fjall_machine.specs.Machine.{State};
 ghost use Rattle.fjall_machine.specs.Shapes.{Clone, Close, Collect, OfTickets, Open};
 ghost use Rattle.fjall_core.specs.Standing.{StandsFor, Owes, Serves, reply_of, ticket_reply};
 
-use crate::engine::Core;
+use crate::engine::Engine;
 use fjall_base::{Disk, Result};
 use fjall_history::Ticket;
 
-impl<D: Disk> Core<D> {
+impl<D: Disk> Engine<D> {
     /// Opens a snapshot of all that was accepted so far: the ticket's view stays as it is until it is closed, whatever comes
     /// after.
     ///
@@ -33,7 +33,7 @@ impl<D: Disk> Core<D> {
         self.memory.clone_ticket(ticket.id)
     }
 
-    /// Closes a snapshot. It takes no memory. Every ten-thousandth closing ends with [`gc`](Core::gc).
+    /// Closes a snapshot. It takes no memory. Every ten-thousandth closing ends with [`gc`](Engine::gc).
     ///
     /// Refuses with `SnapshotClosed`, after which nothing has changed.
     pub fn close_snapshot(&mut self, ticket: Ticket) -> Result<()>
@@ -60,7 +60,7 @@ impl<D: Disk> Core<D> {
         self.memory.ticket_instant(ticket.id)
     }
 
-    /// The watermark, as the last [`gc`](Core::gc) left it: 0, or a number below each instant at which something reads.
+    /// The watermark, as the last [`gc`](Engine::gc) left it: 0, or a number below each instant at which something reads.
     pub fn watermark(&self) -> u64
         ensures held { result ≡ self.now.memory.tickets.watermark }
         ensures watermark { (s : State) → StandsFor self.now s → result ≡ s.tickets.watermark }

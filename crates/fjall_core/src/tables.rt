@@ -6,10 +6,10 @@ ghost use Rattle.fjall_trees.specs.Tables.{shape_in};
 ghost use Rattle.fjall_machine.specs.Machine.{State, flush_count, present, space_of, table_space};
 ghost use Rattle.fjall_core.specs.Standing.{StandsFor, space_in, store_in};
 
-use crate::engine::Core;
+use crate::engine::Engine;
 use fjall_base::Disk;
 
-impl<D: Disk> Core<D> {
+impl<D: Disk> Engine<D> {
     /// How many tables a keyspace has; 0 for an id without a keyspace.
     pub fn table_count(&self, id: u64) -> usize
         ensures held { result ≡ length (shape_in id self.now.memory.trees).tables }

@@ -11,13 +11,13 @@ ghost use Rattle.fjall_core.specs.Durables.{Durable};
 ghost use Rattle.fjall_core.specs.CallParts.{Writes};
 ghost use Rattle.fjall_core.specs.Standing.{StandsFor, StandsOn, Owes, Serves, held_due, mode_of, reply_of, store_in};
 
-use crate::engine::Core;
+use crate::engine::Engine;
 use fjall_base::{Disk, Error, Result, UserKey, UserValue};
 use fjall_commit::sync_journal;
 use fjall_journal::{BatchItem, Op, PersistMode};
 use std::slice;
 
-impl<D: Disk> Core<D> {
+impl<D: Disk> Engine<D> {
     // Writes these items as one command, under the next number. All memory is got before the first byte goes to the disk.
     fn write(&mut self, items: &[BatchItem], mode: Option<PersistMode>) -> Result<()>
         requires fits { items_refusal items.now ≡ None }
@@ -87,7 +87,7 @@ impl<D: Disk> Core<D> {
     }
 
     /// Takes a key of a keyspace and its value away, under the next number, whether the key is there or not. It is
-    /// refused as [`insert`](Core::insert) is, and a crash may lose it as long.
+    /// refused as [`insert`](Engine::insert) is, and a crash may lose it as long.
     pub fn remove(&mut self, id: u64, key: UserKey) -> Result<()>
         ensures serves { IsTrue D.honest → Serves self.old (of_write (id, key, ops.Remove)) (reply_of result) self.new }
         ensures owes { Owes self.old (of_write (id, key, ops.Remove)) (reply_of result) self.new }
@@ -95,7 +95,7 @@ impl<D: Disk> Core<D> {
         self.change_key((id, key, Op::Remove))
     }
 
-    /// Acts as [`remove`](Core::remove); the journal alone tells the two apart.
+    /// Acts as [`remove`](Engine::remove); the journal alone tells the two apart.
     pub fn remove_weak(&mut self, id: u64, key: UserKey) -> Result<()>
         ensures serves { IsTrue D.honest → Serves self.old (of_write (id, key, ops.RemoveWeak)) (reply_of result) self.new }
         ensures owes { Owes self.old (of_write (id, key, ops.RemoveWeak)) (reply_of result) self.new }
@@ -122,7 +122,7 @@ impl<D: Disk> Core<D> {
         self.change(&items, mode)
     }
 
-    /// Why [`commit_batch`](Core::commit_batch) refuses these items before memory or the disk is asked for anything; none where
+    /// Why [`commit_batch`](Engine::commit_batch) refuses these items before memory or the disk is asked for anything; none where
     /// nothing does, as where there are no items.
     pub fn batch_refusal(&self, items: &[BatchItem]) -> Option<Error>
         ensures due { (how : Persistence) → result ≡ held_due self.now (OfChange (Items items.now) how) }

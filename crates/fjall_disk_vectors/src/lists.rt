@@ -1,7 +1,7 @@
 //! A database over a disk that lies, which answers from memory alone, the settings of one, and a bulk write.
 
 use fjall_base::{ClosedDisk, Disk, Error, Result, Slice, StorageError, UserKey};
-use fjall_core::{BatchItem, Call, Config, Core, JobId, Op, PersistMode, Reply, Ticket, View};
+use fjall_core::{BatchItem, Call, Config, Engine, JobId, Op, PersistMode, Reply, Ticket, View};
 use fjall_memory::MemoryDisk;
 use fjall_options::KeyspaceCreateOptions;
 use fjall_writes::Ingestion;
@@ -368,9 +368,9 @@ fn is_due(reply: &Reply, due: Due) -> bool {
 }
 
 /// The database on a disk.
-fn opened<D: Disk + Drop>(alloc: Global, disk: D) -> Result<Box<Core<D>>> {
+fn opened<D: Disk + Drop>(alloc: Global, disk: D) -> Result<Box<Engine<D>>> {
     let config = Config::new(alloc, "db")?;
-    match Core::open(alloc, config, disk) {
+    match Engine::open(alloc, config, disk) {
         Ok(core) => Ok(Box::new(alloc, core)?),
         Err(refused) => Err(refused.error),
     }
@@ -397,8 +397,8 @@ fn first_wrong(alloc: Global, rows: &[Row]) -> Result<Option<usize>> {
 }
 
 const SETTINGS: &str =
-    "Config { path: \"a/db\", max_journaling_size: 536870912, worker_threads: 4 } \
-    Refused(KeyEmpty)";
+    "Config { path: \"a/db\", max_journaling_size: 536870912, worker_threads: 4, \
+    journal_recovery_mode: TolerateCorruptTail, kept_block_bytes: 67108864 } Refused(KeyEmpty)";
 
 /// Whether a database's settings, and a reply, print their texts.
 fn are_printed(alloc: Global) -> Result<bool> {
@@ -448,7 +448,7 @@ const KEPT: &[(&[u8], Option<&[u8]>)] = &[
 /// Whether the keys have what they should, how many tables the keyspace has, and the next number.
 type Seen = (bool, usize, u64);
 
-fn seen_in(core: &mut Core<MemoryDisk>) -> Result<Seen> {
+fn seen_in(core: &mut Engine<MemoryDisk>) -> Result<Seen> {
     let mut has_all = true;
     for &(key, value) in KEPT {
         has_all = has_all

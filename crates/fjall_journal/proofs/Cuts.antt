@@ -6,7 +6,7 @@ use Rattle.std.proofs.lemmas.List.{take_at, drop_at, length-append, append-nil, 
 use Rattle.std.proofs.lemmas.List.Concat.{flat_map-cons}
 use Rattle.fjall_journal.specs.declared.entry.Entry.{Entry}
 use Rattle.fjall_journal.specs.declared.entry.Entry.TheVariants.{Start, End}
-use Rattle.fjall_base.specs.declared.error.JournalRecoveryError.TheVariants.{InsufficientLength, TooManyItems, ChecksumMismatch, InvalidFileName}
+use Rattle.fjall_base.specs.declared.error.JournalRecoveryError.TheVariants.{InsufficientLength, TooManyItems, ChecksumMismatch, InvalidFileName, TornTail}
 use Rattle.fjall_journal.specs.declared.batch.Tail.{Tail}
 use Rattle.fjall_journal.specs.declared.batch.Tail.TheVariants.{Clean, Torn, Damaged}
 use Rattle.fjall_journal.specs.Spelling.{spelling}
@@ -43,6 +43,7 @@ torn_at bytes (Err (Damaged InsufficientLength)) fits none h e = absurd (h.1 (ta
 torn_at bytes (Err (Damaged TooManyItems)) fits none h e = absurd (h.2 (tail_is bytes (Damaged TooManyItems) fits e))
 torn_at bytes (Err (Damaged ChecksumMismatch)) fits none h e = absurd (h.3 (tail_is bytes (Damaged ChecksumMismatch) fits e))
 torn_at bytes (Err (Damaged InvalidFileName)) fits none h e = absurd (tail_is bytes (Damaged InvalidFileName) fits e)
+torn_at bytes (Err (Damaged TornTail)) fits none h e = absurd (tail_is bytes (Damaged TornTail) fits e)
 
 tail_at : (bytes : List ℕ) (t : Tail) → IsBytes bytes → NoneAt bytes → IsTail bytes t → batch_at bytes ≡ Err t
 unfolding batch_at
@@ -52,6 +53,7 @@ tail_at bytes (Damaged InsufficientLength) fits none h = early_at bytes h
 tail_at bytes (Damaged TooManyItems) fits none h = goes_on_at bytes h
 tail_at bytes (Damaged ChecksumMismatch) fits none h = other_at bytes h
 tail_at bytes (Damaged InvalidFileName) fits none h = absurd h
+tail_at bytes (Damaged TornTail) fits none h = absurd h
 
 abbrev failed : Tail → Result (Shown × List ℕ) Tail
 failed t = Err t

@@ -4,7 +4,7 @@ use Rattle.std.specs.List.{flat_map, AllByRecursion}
 use Rattle.fjall_base.specs.Check.{check}
 use Rattle.fjall_journal.specs.declared.entry.Entry.{Entry}
 use Rattle.fjall_journal.specs.declared.entry.Entry.TheVariants.{Start, Item, End, Clear}
-use Rattle.fjall_base.specs.declared.error.JournalRecoveryError.TheVariants.{InsufficientLength, TooManyItems, ChecksumMismatch, InvalidFileName}
+use Rattle.fjall_base.specs.declared.error.JournalRecoveryError.TheVariants.{InsufficientLength, TooManyItems, ChecksumMismatch, InvalidFileName, TornTail}
 use Rattle.fjall_journal.specs.declared.batch.Tail.{Tail}
 use Rattle.fjall_journal.specs.declared.batch.Tail.TheVariants.{Clean, Torn, Damaged}
 use Rattle.fjall_journal.specs.declared.batch.ReadBatchItem.{ReadBatchItem}
@@ -98,6 +98,7 @@ IsTail bytes (Damaged InsufficientLength) = EndsEarly bytes
 IsTail bytes (Damaged TooManyItems) = HasChangeForEnd bytes
 IsTail bytes (Damaged ChecksumMismatch) = HasOtherCheck bytes
 IsTail bytes (Damaged InvalidFileName) = ⊥
+IsTail bytes (Damaged TornTail) = ⊥
 -- all else
 IsTail bytes Torn = (bytes ≢ []) × (EndsEarly bytes → ⊥) × (HasChangeForEnd bytes → ⊥) × (HasOtherCheck bytes → ⊥)
 

@@ -6,6 +6,7 @@ use Rattle.fjall_base.specs.declared.error.Error.{Error}
 use Rattle.fjall_base.specs.declared.error.Error.TheVariants.{NumbersUsedUp, OutOfMemory, TooManyItems}
 use Rattle.fjall_compaction.specs.Flushes.{record_after}
 use Rattle.fjall_compaction.specs.FlushPlans.{IsFlushPlanRefusal}
+use Rattle.fjall_compaction.specs.Room.{IsTooLong, LacksNextId}
 use Rattle.fjall_compaction.proofs.NewTables.{at_most_one}
 use Rattle.fjall_history.specs.declared.job.JobId.{JobId}
 use Rattle.fjall_history.specs.declared.reply.Reply.TheVariants.{Refused}
@@ -18,7 +19,7 @@ use Rattle.fjall_meta.specs.Keyspaces.{keyspace_at}
 use Rattle.fjall_manifest.specs.Records.{Fields, body}
 use Rattle.fjall_trees.specs.Tables.{shape_in}
 use Rattle.fjall_machine.specs.Shapes.{OfFlushFinish}
-use Rattle.fjall_machine.specs.Machine.{IsDueToFinish, LacksRoom, State, StepOf, flush_with, is_flushing, is_living, present, takes_effect}
+use Rattle.fjall_machine.specs.Machine.{FlushMeets, IsDueToFinish, State, StepOf, flush_with, is_flushing, is_living, present, takes_effect}
 use Rattle.fjall_machine.specs.Remembered.{MemoryStandsFor, Remembered}
 use Rattle.fjall_machine.proofs.Facts.{living_names}
 use Rattle.fjall_machine.proofs.Flushing.{known_record, same_with}
@@ -46,20 +47,20 @@ module _ (m : Remembered) (table : ℕ) (s : State) (stands : MemoryStandsFor m 
   record_there : s.parts.records job.keyspace_id ≡ last_known m.records k
   record_there = known_record m table s stands job.keyspace_id k at
 
-  lacks_room : (made : FlushMade) → 2 ^ 32 ≤ length (body (record_after (flush_with (shape_in job.keyspace_id m.trees) out made.tables.items) (last_known m.records k)))
-      → LacksRoom (shape_in job.keyspace_id s.parts.trees) (shape_in job.keyspace_id s.parts.trees).flush (s.parts.records job.keyspace_id)
-  lacks_room made long =
+  meets : (made : FlushMade) (Meets : Fields → Type 0) → Meets (record_after (flush_with (shape_in job.keyspace_id m.trees) out made.tables.items) (last_known m.records k))
+      → FlushMeets (shape_in job.keyspace_id s.parts.trees) (shape_in job.keyspace_id s.parts.trees).flush (s.parts.records job.keyspace_id) Meets
+  meets made Meets so =
       let tree = shape_in job.keyspace_id s.parts.trees in
       let same = same_in job.keyspace_id s.parts.trees m.trees stands.trees in
-      subst (λ (o : Option Flushing). LacksRoom tree o (s.parts.records job.keyspace_id)) (sym (sym same.flush ∙ was)) (
+      subst (λ (o : Option Flushing). FlushMeets tree o (s.parts.records job.keyspace_id) Meets) (sym (sym same.flush ∙ was)) (
         made.tables.items,
         at_most_one made,
-        subst (λ (r : Fields). 2 ^ 32 ≤ length (body r)) (sym (λ i. record_after (same_with tree (shape_in job.keyspace_id m.trees) same out made.tables.items i) (record_there i))) long,
+        subst Meets (sym (λ i. record_after (same_with tree (shape_in job.keyspace_id m.trees) same out made.tables.items i) (record_there i))) so,
       )
 
   pub refusal_steps : (made : FlushMade) → s.poisoned ≡ false → (error : Error) → IsFlushPlanRefusal (last_known m.records k) (flush_with (shape_in job.keyspace_id m.trees) out made.tables.items) error
       → StepOf s (OfFlushFinish job) (Refused error) s
   refusal_steps made well OutOfMemory is = ((due_to_finish, well), refl)
-  refusal_steps made well NumbersUsedUp (some, last) = ((due_to_finish, well, ap (λ (r : Fields). r.next_table_id) record_there ∙ last), refl)
-  refusal_steps made well TooManyItems long = ((due_to_finish, well, lacks_room made long), refl)
+  refusal_steps made well NumbersUsedUp used = ((due_to_finish, well, meets made LacksNextId used), refl)
+  refusal_steps made well TooManyItems long = ((due_to_finish, well, meets made IsTooLong long), refl)
   refusal_steps made well error is = absurd is

@@ -43,6 +43,7 @@ use Rattle.fjall_jobs.specs.Merges.{IsMerged}
 use Rattle.fjall_jobs.specs.Tasks.{IsFlushed, Task}
 use Rattle.fjall_compaction.specs.Merges.{Merge}
 use Rattle.fjall_compaction.specs.Merges as merges
+use Rattle.fjall_compaction.specs.Room.{IsTooLong, LacksNextId}
 use Rattle.fjall_compaction.specs.MergeFinishing as merging
 use Rattle.fjall_manifest.specs.Records.{Fields, body}
 use Rattle.fjall_writes.specs.Ingestions.{AreWritable, KeyOp, KeysAscend}
@@ -908,13 +909,13 @@ WorkFails (OfIngestion id (item ∷ items)) old new = (are_journals_used_up old 
 WorkFails OfMaintenance old new = (mid : State) × EvictsSome old mid × IsPoisoned mid new
 WorkFails shape old new = ⊥
 
--- too few ids are left for the tables that a merge made
+-- the record after a merge has room, and too few ids are left for the tables that it made
 abbrev pub LacksMergeIds : Fields → Merge → Type 0
-LacksMergeIds last m = 2 ^ 64 ≤ last.next_table_id + length m.tables
+LacksMergeIds last m = LacksNextId (merges.record_after m last)
 
 -- a record has no room for the tables and the clears that a merge leaves in it
 abbrev pub LacksMergeRoom : Fields → Merge → Type 0
-LacksMergeRoom last m = 2 ^ 32 ≤ length (body (merges.record_after m last))
+LacksMergeRoom last m = IsTooLong (merges.record_after m last)
 
 -- what some merge that is out of a tree may make of its task, whose tables are closed at this size, meets this with a record
 abbrev pub MayLack : Option Merging → (target id : ℕ) → lsm.Shape → List (List Entry) → Fields → (Fields → Merge → Type 0) → Type 0
@@ -929,28 +930,33 @@ LacksAt s job Lacks =
     let tree = shape_in id s.parts.trees in
     IsDueToMerge s job × (s.poisoned ≡ false) × MayLack tree.merge (target_size (options_in (present s) id)) id tree (s.parts.entries id) (s.parts.records id) Lacks
 
--- A worker's step or an ingestion that needs a number of which none is left: a job's, a journal's, or that of a keyspace's next table.
+-- what a flush of this tree that is out may have made, one table at most, meets this with the record after it
+abbrev pub FlushMeets : lsm.Shape → Option Flushing → Fields → (Fields → Type 0) → Type 0
+FlushMeets tree None last Meets = ⊥
+FlushMeets tree (Some out) last Meets = (tables : List MadeTable) × (length tables ≤ 1) × Meets (record_after (flush_with tree out tables) last)
+
+-- A flush is to be finished, and what it may have made meets this with the record after it.
+abbrev pub FinishMeets : State → JobId → (Fields → Type 0) → Type 0
+FinishMeets s job Meets =
+    let tree = shape_in job.keyspace_id s.parts.trees in
+    IsDueToFinish s job × (s.poisoned ≡ false) × FlushMeets tree tree.flush (s.parts.records job.keyspace_id) Meets
+
+-- A worker's step or an ingestion that needs a number of which none is left: a job's, a journal's, or that of a keyspace's next table, whose
+-- record has room.
 abbrev pub UsesUp : State → CallShape → Type 0
 UsesUp s (OfFlushBegin id) = (begins_flush s.parts.trees id ≡ true) × (are_jobs_used_up s ≡ true)
-UsesUp s (OfFlushFinish job) = IsDueToFinish s job × (s.poisoned ≡ false) × ((s.parts.records job.keyspace_id).next_table_id ≡ 2 ^ 64 - 1)
+UsesUp s (OfFlushFinish job) = FinishMeets s job LacksNextId
 UsesUp s (OfMergeBegin kind id) = (begins_merge (present s) s.parts.trees kind id ≡ true) × (s.next_job ≡ 2 ^ 64 - 1)
 UsesUp s (OfMergeFinish job) = LacksAt s job LacksMergeIds
 UsesUp s (OfIngestion id []) = ⊥
 UsesUp s (OfIngestion id (item ∷ items)) =
-    (are_journals_used_up s ≡ true) ⊎ LacksIds (shape_in id s.parts.trees) id s.tickets.watermark (s.parts.records id)
+    (are_journals_used_up s ≡ true) ⊎ LacksIds (shape_in id s.parts.trees) id s.tickets.watermark (number s.history) (item ∷ items) (s.parts.records id)
 UsesUp s shape = ⊥
-
--- A record has no room for the table, where one was made, and for the clears of the flush of this tree that is out.
-abbrev pub LacksRoom : lsm.Shape → Option Flushing → Fields → Type 0
-LacksRoom tree None last = ⊥
-LacksRoom tree (Some out) last = (tables : List MadeTable) × (length tables ≤ 1) × (2 ^ 32 ≤ length (body (record_after (flush_with tree out tables) last)))
 
 -- The record of a keyspace whose flush or merge is to be finished, or into which items are ingested, has no room for the tables and the
 -- clears.
 abbrev pub HasNoRoom : State → CallShape → Type 0
-HasNoRoom s (OfFlushFinish job) =
-    let tree = shape_in job.keyspace_id s.parts.trees in
-    IsDueToFinish s job × (s.poisoned ≡ false) × LacksRoom tree tree.flush (s.parts.records job.keyspace_id)
+HasNoRoom s (OfFlushFinish job) = FinishMeets s job IsTooLong
 HasNoRoom s (OfMergeFinish job) = LacksAt s job LacksMergeRoom
 HasNoRoom s (OfIngestion id []) = ⊥
 HasNoRoom s (OfIngestion id (item ∷ items)) =

@@ -106,7 +106,8 @@ impl Watermarks {
 
     /// Whether one of them is this number or a greater one.
     pub fn reaches(&self, number: u64) -> bool
-        ensures { result ≡ reaches self.now number }
+        ensures reaches { result ≡ reaches self.now number }
+        ensures ascending { IsAscending self.now }
     {
         self.lsns.iter().any(|(_, lsn)| number <= *lsn)
     }

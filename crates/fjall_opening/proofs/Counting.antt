@@ -45,7 +45,7 @@ active_begun plan = sym (active_parted (journals_begun plan) (record { sealed = 
 
 -- ---- the journals on the disk
 
--- what was read tells of what the folder holds, and of an empty journal where it has none
+-- what tells of a folder's journals tells of an empty one where it has none
 pub tell_opened : (journals : List WholeJournal) (sealed : List Sealed) (marks : JournalMarks) → TellOf journals sealed marks → TellOf (opened journals) sealed marks
 tell_opened [] sealed marks tell = tell
 tell_opened (j ∷ journals) sealed marks tell = tell
@@ -54,12 +54,16 @@ pub active_opened : (journals : List WholeJournal) → active_of (ids_of (opened
 active_opened [] = refl
 active_opened (j ∷ journals) = refl
 
+-- what was read tells of what the folder holds
+pub told_read : (image : Image) (found : RecoveredFolder) (contents : Contents) → IsFinished image found → ShowsContents found contents → IsOpenable image contents
+    → TellOf contents.journals found.journals.sealed found.journals.watermarks
+told_read image found contents read shows is =
+    let told = read.told in
+    subst (λ (l : List WholeJournal). TellOf l found.journals.sealed found.journals.watermarks) (one_reading image told.journals contents.journals (told.named ∙ shows.ids) told.read is.journals.read) told.tell
+
 pub told_contents : (image : Image) (found : RecoveredFolder) (contents : Contents) → IsFinished image found → ShowsContents found contents → IsOpenable image contents
     → TellOf (opened contents.journals) found.journals.sealed found.journals.watermarks
-told_contents image found contents read shows is =
-    let told = read.told in
-    tell_opened contents.journals found.journals.sealed found.journals.watermarks
-    (subst (λ (l : List WholeJournal). TellOf l found.journals.sealed found.journals.watermarks) (one_reading image told.journals contents.journals (told.named ∙ shows.ids) told.read is.journals.read) told.tell)
+told_contents image found contents read shows is = tell_opened contents.journals found.journals.sealed found.journals.watermarks (told_read image found contents read shows is)
 
 -- and what was opened tells the same
 pub tell_as : (journals : List WholeJournal) (found : RecoveredFolder) (o : Opened) {active : ℕ} → HasJournals o found.journals.sealed active found.journals.watermarks

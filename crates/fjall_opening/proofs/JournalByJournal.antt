@@ -162,3 +162,7 @@ pub now_before : (result : Result Trees Error) (bound : ℕ) (loaded : Forest) �
     → IfOk result (λ trees. AreBefore bound (forest_of trees))
 now_before (Ok trees) bound loaded made low = made low
 now_before (Err error) bound loaded made low = tt
+
+pub now_is : (result : Result Trees Error) (made other : Forest) → IfOk result (λ trees. forest_of trees ≡ made) → made ≡ other → IfOk result (λ trees. forest_of trees ≡ other)
+now_is (Ok trees) made other is same = is ∙ same
+now_is (Err error) made other is same = tt

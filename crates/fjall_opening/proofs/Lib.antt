@@ -12,5 +12,6 @@ mod Taking
 mod OpenedTrees
 pub mod Openings
 mod JournalByJournal
+mod JournalsLeft
 mod Amid
 mod Counting

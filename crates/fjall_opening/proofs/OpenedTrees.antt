@@ -166,6 +166,7 @@ module _ (old new : Meaning) (found : RecoveredFolder) (c : Contents) (active : 
   pub reads_from : ReadsFrom old new c o
   reads_from = record {
     named = named;
+    left = takes.left c openable shows;
     reads = λ entries have.
         let with = takes.reads c openable shows entries have.0 in
         record {

@@ -18,6 +18,7 @@ use Rattle.fjall_contents.specs.Contents.{store_held as store_beyond}
 use Rattle.fjall_trees.specs.MapTables.{store_with}
 use Rattle.fjall_table.specs.Blocks.{Entry}
 use Rattle.fjall_tree.specs.Trees.{ReadsAll}
+use Rattle.fjall_journal.specs.declared.recovery_mode.RecoveryMode.{RecoveryMode}
 use Rattle.fjall_recovery.specs.Opening.{HaveEntriesBut}
 use Rattle.fjall_recovery.specs.Beside.{AreReplayedWith}
 use Rattle.fjall_trees.specs.Forests.{Forest, Planted}
@@ -37,7 +38,7 @@ use Rattle.fjall_recovery.specs.declared.folder.RecoveredFolder.{RecoveredFolder
 use Rattle.fjall_manifest.specs.declared.reading.LoadedHome.{LoadedHome}
 use Rattle.fjall_recovery.specs.Homes.{AreHomesRead, lasts, stored_in}
 use Rattle.fjall_recovery.specs.Known.{AreAtHome, IsAtHome}
-use Rattle.fjall_recovery.specs.Refusals.{FolderRefuses, HasRisen, IsDue, IsOpeningRefusal}
+use Rattle.fjall_recovery.specs.Refusals.{FolderRefusesIn, HasRisen, IsDue, IsOpeningRefusal}
 use Rattle.fjall_journal.proofs.Writing.{took_none}
 use Rattle.fjall_files.specs.declared.marker.Marker.TheVariants.{Whole, Unfinished}
 use Rattle.fjall_recovery.specs.Journals.{WholeJournal as FoundJournal, batches_in}
@@ -252,6 +253,7 @@ opened_from old mid new c (Ok o) same is from number = record {
   is = is;
   number = number;
   named = from.named;
+  left = from.left;
   reads = λ entries have. from.reads entries (have_on old mid c entries same have);
 }
 opened_from old mid new c (Err e) same is from number = tt
@@ -263,6 +265,7 @@ begun_from old new (Ok o) is keyspaces trees number = record {
   is = is;
   number = number;
   named = subst (AreAtHome o.records) (sym trees) (All-nil (λ (k : Planted). IsAtHome o.records k.id k.shape.tables));
+  left = trees;
   reads = λ entries none. record {
     on = subst (λ (f : Forest). AreReadOn new f entries) (sym trees) (All-nil (λ (k : Planted). ReadsAll new k.shape (entries k.id)));
     store = ap (λ (s : Keyspaces). store_with entries s (forest_of o.trees)) keyspaces;
@@ -278,15 +281,22 @@ swept_on old mid new (Err e) same swept = tt
 
 -- ---- why it isn't opened
 
-pub unopened : (old new : Meaning) (error : Error) → IsDue (FolderRefuses (standing (state_in old))) error → Took old new [] → IsUnopened old new error
-unopened old new (Io kind) due took = inl took
-unopened old new error due took = (due, took)
+pub unopened : (mode : RecoveryMode) (old new : Meaning) (error : Error) → IsDue (FolderRefusesIn mode (standing (state_in old))) error → Took old new [] → IsUnopened mode old new error
+unopened mode old new (Io kind) due took = inl took
+unopened mode old new error due took = (due, took)
 
-pub held_up : {X : Type 0} (old mid new : Meaning) (result : Result X Error) → IsSomeFolder (standing (state_in old)) → Took old mid [] → IfErr result (IsHeldUp mid new) → IfErr result (IsUnopened old new)
-held_up old mid new (Ok x) stands took held = tt
-held_up old mid new (Err (Io kind)) stands took held = inr stands
-held_up old mid new (Err OutOfMemory) stands took held = (tt, took_none old mid new [] took held)
-held_up old mid new (Err error) stands took held = absurd held
+pub held_up : {X : Type 0} (mode : RecoveryMode) (old mid new : Meaning) (result : Result X Error) → IsSomeFolder (standing (state_in old)) → Took old mid [] → IfErr result (IsHeldUp mid new) → IfErr result (IsUnopened mode old new)
+held_up mode old mid new (Ok x) stands took held = tt
+held_up mode old mid new (Err (Io kind)) stands took held = inr stands
+held_up mode old mid new (Err OutOfMemory) stands took held = (tt, took_none old mid new [] took held)
+held_up mode old mid new (Err error) stands took held = absurd held
+
+-- memory or the disk are always to blame
+pub held_is_due : {X : Type 0} (Cause : Error → Type 0) (old new : Meaning) (result : Result X Error) → IfErr result (IsHeldUp old new) → IfErr result (IsDue Cause)
+held_is_due Cause old new (Ok x) held = tt
+held_is_due Cause old new (Err (Io kind)) held = tt
+held_is_due Cause old new (Err OutOfMemory) held = tt
+held_is_due Cause old new (Err error) held = absurd held
 
 -- before anything was changed
 pub held_early : (old new : Meaning) (error : Error) → IsDue (λ error. ⊥) error → Took old new [] → IsHeldUp old new error

@@ -120,7 +120,7 @@ told_at homes image (k ∷ living) (h ∷ read) are same (suc i) d lt =
     (told_at homes image living read are.1 rest i d (omega (arith, lt)))
 
 -- of each keyspace that lives its last record tells the number
-told_last : (image : Image) (found : RecoveredFolder) (c : Contents) → IsFinished image found → ShowsContents found c → (i : ℕ) (d : LivingKeyspace) → i < length c.keyspaces.living
+pub told_last : (image : Image) (found : RecoveredFolder) (c : Contents) → IsFinished image found → ShowsContents found c → (i : ℕ) (d : LivingKeyspace) → i < length c.keyspaces.living
     → persisted_at (get_or c.keyspaces.living i d).id (persisted_of found) ≡ (last_in (get c.homes (get_or c.keyspaces.living i d).id)).persisted
 told_last image found c read shows i d lt =
     told_at c.homes image c.keyspaces.living found.homes.items (subst (λ (s : Keyspaces). AreHomesRead image s.living found.homes.items) shows.keyspaces read.homes) shows.homes i d lt

@@ -1,5 +1,5 @@
 -- The journals of a folder, replayed one after another: what the sealed ones have is sealed behind each of them.
-use Rattle.std.proofs.Common.{◌≡◌, ◌⊎◌, inl, inr, ℕ, ◌+◌, ◌<◌, ◌≤◌, ◌||◌, not, Bool, true, false, nat_le, IsTrue, List, [], ◌∷◌, ◌++◌, length, get_or, map, take, All, Option, Some, None, refl, sym, ◌∙◌, ap, subst, arith}
+use Rattle.std.proofs.Common.{◌≡◌, ◌⊎◌, inl, inr, ℕ, ◌+◌, ◌<◌, ◌≤◌, ◌||◌, not, Bool, true, false, nat_le, IsTrue, List, [], ◌∷◌, ◌++◌, length, get_or, map, take, drop, All, Option, Some, None, refl, append_assoc, sym, ◌∙◌, ap, subst, arith}
 use Rattle.std.specs.Prelude.{slice_get}
 use Rattle.std.specs.Option.{option_or}
 use Rattle.std.proofs.lemmas.Bool.{or_from, or_right, true≢false}
@@ -22,6 +22,7 @@ use Rattle.fjall_memtable.specs.Parts.{HeldPart, holds_nothing}
 use Rattle.fjall_recovery.specs.Beside.{AreReplayedWith, all_at_rest}
 use Rattle.fjall_recovery.specs.Parted.{ActivesEmpty, ActivesPass, ArePartedBy, AreUnwritten, HasSealed, IsPartedBy, all_unwritten}
 use Rattle.fjall_recovery.specs.Replayed.{AreTold, ids_of}
+use Rattle.fjall_recovery.specs.Steps.{with_batch, with_batches}
 use Rattle.fjall_recovery.proofs.Parting.{empty_pass, same_unwritten, seals_all, sealed_unwritten, still_sealed, unwritten_empty, unwritten_sealed}
 use Rattle.fjall_table.specs.Blocks.{Entry}
 use Rattle.fjall_trees.specs.Forests.{AreBefore, Forest, Planted}
@@ -29,12 +30,13 @@ use Rattle.fjall_trees.specs.Sealing.{all_sealed}
 use Rattle.fjall_trees.specs.Tables.{AreReadOn}
 use Rattle.fjall_trees.specs.Views.{forest_of}
 use Rattle.fjall_contents.specs.declared.recovery.Persisted.{Persisted}
-use Rattle.fjall_contents.specs.Replays.{JournalFault, fault_of, first_fault, least_after}
+use Rattle.fjall_contents.specs.Replays.{JournalFault, counts_unpersisted, fault_of, first_fault, least_after}
 use Rattle.fjall_contents.proofs.Faults.{first_fault-append, least_after-append}
 use Rattle.fjall_contents.proofs.Viewing.{no_fault, number_fits}
 use Rattle.fjall_opening.specs.declared.replaying.Progress.{Progress}
 use Rattle.fjall_opening.specs.declared.replaying.Replay.{Replay}
-use Rattle.fjall_opening.specs.Replaying.{AreAt, ArePast, IsReplayed, IsUnderway}
+use Rattle.fjall_opening.specs.Replaying.{AreAt, ArePast, IsReplayed, IsUnderway, counted_by, made_of, tell_up_to}
+use Rattle.fjall_opening.proofs.JournalsLeft.{takes_one}
 
 -- ---- which numbers watermarks reach
 
@@ -83,6 +85,7 @@ pub record Replays (s : Keyspaces) (persisted : List Persisted) (own : List Show
   pub ids : ids_of new ≡ ids_of old
   pub numbered : (test : ℕ → Bool) → ActivesPass test old → All (λ b. test b.number ≡ true) own → ActivesPass test new
   pub before : (bound : ℕ) → AreBefore bound old → All (λ b. b.number < bound) own → AreBefore bound new
+  pub made : new ≡ with_batches (counts_unpersisted s persisted) own old
 
 -- the same, as batches that were read
 pub record ReplaysBatches (s : Keyspaces) (persisted : List Persisted) (own : List Batch) (old new : Forest) : Type 0 where
@@ -93,6 +96,7 @@ pub record ReplaysBatches (s : Keyspaces) (persisted : List Persisted) (own : Li
   pub ids : ids_of new ≡ ids_of old
   pub numbered : (test : ℕ → Bool) → ActivesPass test old → All (λ b. test b.seqno ≡ true) own → ActivesPass test new
   pub before : (bound : ℕ) → AreBefore bound old → All (λ b. b.seqno < bound) own → AreBefore bound new
+  pub made : new ≡ with_batches (counts_unpersisted s persisted) (map view own) old
 
 pub replays_one : (s : Keyspaces) (persisted : List Persisted) (b : Batch) (old new : Forest) → ReplaysBatches s persisted (b ∷ []) old new → Replays s persisted (view b ∷ []) old new
 replays_one s persisted b old new made = record {
@@ -102,6 +106,7 @@ replays_one s persisted b old new made = record {
   ids = made.ids;
   numbered = λ test passes all. made.numbered test passes (All-cons (λ (c : Batch). test c.seqno ≡ true) b [] (All-head (λ (c : Shown). test c.number ≡ true) (view b) [] all) (All-nil (λ (c : Batch). test c.seqno ≡ true)));
   before = λ bound low all. made.before bound low (All-cons (λ (c : Batch). c.seqno < bound) b [] (All-head (λ (c : Shown). c.number < bound) (view b) [] all) (All-nil (λ (c : Batch). c.seqno < bound)));
+  made = made.made;
 }
 
 -- What a sealing makes of them.
@@ -166,6 +171,7 @@ module _ (r : Replay) (loaded : Forest) where
     least_is = zero;
     trees = subst (λ (place : ℕ). AreAt r loaded [] place (forest_of p.trees)) (sym start) (subst (AreAt r loaded [] 0) (sym is) (first_at unwritten));
     past = λ n le. ap (λ (place : ℕ). some_reaches (take place journals) n) start;
+    made = λ rest. ap (λ (place : ℕ). made_of (counted_by r) (drop place journals) rest (forest_of p.trees)) start ∙ ap (made_of (counted_by r) journals rest) is;
   }
 
   -- ---- one journal more is behind
@@ -216,8 +222,10 @@ module _ (r : Replay) (loaded : Forest) where
 
     pub one_taken : first_fault p.least (b ∷ []) ≡ None → b.number < r.bound → AreAt r loaded front q.place mid → ArePast r q.place b.number
         → ((j : Sealed) → slice_get r.sealed.now q.place ≡ Some j → reaches j.watermarks b.number ≡ true) → Replays r.keyspaces.now r.persisted.now (b ∷ []) mid (forest_of q.trees)
-        → q.least ≡ b.number + 1 → IsUnderway r loaded (front ++ b ∷ []) q
-    one_taken sound below at past here made next = record {
+        → q.least ≡ b.number + 1 → ((j : Sealed) → slice_get r.sealed.now q.place ≡ Some j → tell_up_to j.watermarks b.number ≡ true)
+        → ((rest : List Shown) → made_of (counted_by r) (drop q.place r.sealed.now) (b ∷ rest) mid ≡ made_of (counted_by r) (drop p.place r.sealed.now) (b ∷ rest) (forest_of p.trees))
+        → IsUnderway r loaded (front ++ b ∷ []) q
+    one_taken sound below at past here made next told sealed = record {
       sound = whole_sound sound;
       least_is = next ∙ sym (least_after-append 0 front (b ∷ []));
       trees = record {
@@ -231,6 +239,9 @@ module _ (r : Replay) (loaded : Forest) where
         };
       };
       past = λ n le. past n (omega (arith, le, next));
+      made = λ rest.
+          ap (made_of (counted_by r) (drop q.place journals) rest) made.made ∙ takes_one (counted_by r) journals q.place b rest mid told ∙ sealed rest
+          ∙ underway.made (b ∷ rest) ∙ ap (λ (l : List Shown). made_of (counted_by r) journals l loaded) (sym (append_assoc front (b ∷ []) rest));
     }
       where
         All-one : (P : Shown → Type 0) (c : Shown) → P c → All P (c ∷ [])

@@ -26,8 +26,9 @@ use Rattle.fjall_table_reader.specs.Readers.{SomeTableIsWrong}
 use Rattle.fjall_manifest.specs.Homes.{Home}
 use Rattle.fjall_contents.specs.Contents.{store_held as store_beyond}
 use Rattle.fjall_trees.specs.MapTables.{store_with}
+use Rattle.fjall_journal.specs.declared.recovery_mode.RecoveryMode.{RecoveryMode}
 use Rattle.fjall_recovery.specs.Beside.{AreReplayedWith}
-use Rattle.fjall_recovery.specs.Parted.{ArePartedBy, all_unwritten}
+use Rattle.fjall_recovery.specs.Parted.{AreLeftBy, ArePartedBy, all_unwritten}
 use Rattle.fjall_recovery.specs.Known.{AreAtHome, IsKnown}
 use Rattle.fjall_recovery.specs.Opening.{HaveEntries, stored_with}
 use Rattle.fjall_trees.specs.Forests.{AreBefore, Forest, IsForest, tree_at}
@@ -38,7 +39,7 @@ use Rattle.fjall_recovery.specs.declared.folder.RecoveredFolder.{RecoveredFolder
 use Rattle.fjall_recovery.specs.Folders.{Contents, number_of_contents, store_of_contents}
 use Rattle.fjall_recovery.specs.Journals.{WholeJournal, batches_in}
 use Rattle.fjall_recovery.specs.Told.{TellsOf}
-use Rattle.fjall_recovery.specs.Refusals.{FolderRefuses, IsDue}
+use Rattle.fjall_recovery.specs.Refusals.{FolderRefusesIn, IsDue}
 use Rattle.fjall_recovery.specs.Halves.{Tree}
 use Rattle.fjall_recovery.specs.Homes.{Homes, stored_in}
 use Rattle.fjall_recovery.specs.Held.{IsOpenFolder, number_held, store_of_folder}
@@ -123,6 +124,12 @@ abbrev pub store_entries : (ℕ → List (List Entry)) → Option Contents → S
 store_entries entries None = bare no_keyspaces
 store_entries entries (Some c) = store_beyond c.keyspaces (stored_with c.homes entries) (map shown (batches_in c.journals))
 
+-- What the trees have in memory is what the journals of a folder left there, one sealed memtable for each sealed journal that has
+-- something of a keyspace beyond its home. Where the folder's making was cut short there is no tree.
+abbrev pub AreLeftIn : Option Contents → Forest → Type 0
+AreLeftIn None trees = trees ≡ []
+AreLeftIn (Some c) trees = AreLeftBy c.keyspaces c.homes c.journals trees
+
 -- its writer goes on in a journal's file
 abbrev pub WritesJournal : Opened → Type 0
 WritesJournal o = (id : ℕ) × (id < 2 ^ 64) × (o.journal.name ≡ journal_name id)
@@ -136,15 +143,17 @@ pub record ReadsEntries (disk : Meaning) (folder : Option Contents) (entries : �
 -- So it is of a folder with these contents, where the disk held it and is now another.
 pub record ReadsFrom (old new : Meaning) (c : Contents) (o : Opened) : Type 0 where
   pub named : AreAtHome o.records (forest_of o.trees)
+  pub left : AreLeftBy c.keyspaces c.homes c.journals (forest_of o.trees)
   pub reads : (entries : ℕ → List (List Entry)) → HaveEntriesIn old (Some c) entries → ReadsEntries new (Some c) entries o
 
--- What was opened is what the disk held, a folder that opens: one past the greatest number in it, and with whatever entries its
--- tables have, but for wrong blocks, trees that read them on the disk as it is now and show the store.
+-- What was opened is what the disk held, a folder that opens: one past the greatest number in it, trees with what its journals left in
+-- memory, which with whatever entries its tables have, but for wrong blocks, read them on the disk as it is now and show the store.
 pub record IsOpenedFrom (old new : Meaning) (o : Opened) : Type 0 where
   pub folder : Option Contents
   pub is : IsOpenFolder (seen old) folder
   pub number : o.number ≡ number_held folder
   pub named : AreAtHome o.records (forest_of o.trees)
+  pub left : AreLeftIn folder (forest_of o.trees)
   pub reads : (entries : ℕ → List (List Entry)) → HaveEntriesIn old folder entries → ReadsEntries new folder entries o
 
 -- the tables that the homes' last records name stand in sight as they did
@@ -216,8 +225,8 @@ IsHeldUp old new error = ⊥
 abbrev pub IsSomeFolder : Image → Type 0
 IsSomeFolder image = (folder : Option Contents) × IsOpenFolder image folder
 
--- The disk failed, or memory ran out or the folder is refused, before anything was changed. Where the disk failed and
+-- The disk failed, or memory ran out or the folder is refused in this mode, before anything was changed. Where the disk failed and
 -- something was changed, the folder is one that opens.
-abbrev pub IsUnopened : Meaning → Meaning → Error → Type 0
-IsUnopened old new (Io kind) = Took old new [] ⊎ IsSomeFolder (standing (state_in old))
-IsUnopened old new error = IsDue (FolderRefuses (standing (state_in old))) error × Took old new []
+abbrev pub IsUnopened : RecoveryMode → Meaning → Meaning → Error → Type 0
+IsUnopened mode old new (Io kind) = Took old new [] ⊎ IsSomeFolder (standing (state_in old))
+IsUnopened mode old new error = IsDue (FolderRefusesIn mode (standing (state_in old))) error × Took old new []

@@ -14,6 +14,7 @@ use Rattle.fjall_recovery.specs.Folders.{Contents, IsFinished, IsOpenable, IsSou
 use Rattle.fjall_table.specs.Blocks.{Entry}
 use Rattle.fjall_recovery.specs.Homes.{HaveVersions, Versions}
 use Rattle.fjall_recovery.specs.Known.{AreAtHome}
+use Rattle.fjall_recovery.specs.Parted.{AreLeftBy}
 use Rattle.fjall_recovery.specs.Opening.{HaveEntries, IsOpenedOn, KnowsStored, ShowsEntries}
 use Rattle.fjall_opening.specs.declared.opened.Opened.{Opened}
 use Rattle.fjall_repair.specs.declared.plan.SweepPlan.{SweepPlan}
@@ -59,11 +60,12 @@ abbrev pub persisted_of : RecoveredFolder → List Persisted
 persisted_of found = map persisted_in found.homes.items
 
 -- This is opened of the folder that was read from this disk, with that active journal, and over the tables there. Its trees show
--- what files hold and what all batches make beyond that.
+-- what files hold and what all batches make beyond that, and have in memory what one journal after another left there.
 pub record TakesRead (disk : Meaning) (o : Opened) (active : Name) (found : RecoveredFolder) : Type 0 where
   pub loaded : Forest
   pub takes : TakesOver o active found.journals.end found.catalog.catalog found.catalog.keyspaces loaded
   pub trees : (c : Contents) → IsOpenable (seen disk) c → ShowsContents found c → ShowBeyond c.keyspaces (persisted_of found) loaded (map shown (batches_in c.journals)) (forest_of o.trees)
+  pub left : (c : Contents) → IsOpenable (seen disk) c → ShowsContents found c → AreLeftBy c.keyspaces c.homes c.journals (forest_of o.trees)
   pub journals : HasJournals o found.journals.sealed (active_of found.journal_ids.items) found.journals.watermarks
   pub opened : (c : Contents) → IsOpenable (seen disk) c → ShowsContents found c → All (IsOpenedOn disk c) loaded
   pub named : AreAtHome o.records loaded

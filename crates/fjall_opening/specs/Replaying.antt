@@ -1,25 +1,52 @@
 -- The journals of a folder, replayed one after another: what the sealed ones have is sealed behind each of them.
-use Rattle.std.specs.Prelude.{◌≡◌, ℕ, ◌<◌, ◌≤◌, Bool, false, not, List, [], length, map, take, slice_get, All, Option, None, Some}
-use Rattle.std.specs.List.{flat_map}
+use Rattle.std.specs.Prelude.{◌≡◌, ℕ, ◌<◌, ◌≤◌, Bool, false, not, if◌then◌else◌, List, [], ◌∷◌, ◌++◌, length, map, take, drop, slice_get, All, Option, None, Some}
+use Rattle.std.specs.List.{flat_map, list_any}
 use Rattle.fjall_base.specs.Disk.{Image, Meaning}
 use Rattle.fjall_journal.specs.Batches.{Shown, Written, batch_text}
 use Rattle.fjall_contents.specs.Contents.{AreWithin, Stored}
 use Rattle.fjall_manager.specs.Journals.{Sealed}
+use Rattle.fjall_manager.specs.Marks.{JournalMarks, lsn_of}
 use Rattle.fjall_manager.specs.Reaching.{reaches, some_reaches}
 use Rattle.fjall_meta.specs.Keyspaces.{Keyspaces}
 use Rattle.fjall_recovery.specs.Beside.{AreEndedBy, AreReplayedWith}
 use Rattle.fjall_recovery.specs.Parted.{ActivesPass, HasSealed, all_unwritten}
 use Rattle.fjall_recovery.specs.Replayed.{AreTold, ids_of}
+use Rattle.fjall_recovery.specs.Steps.{with_batches}
 use Rattle.fjall_table.specs.Blocks.{Entry}
 use Rattle.fjall_trees.specs.Forests.{AreBefore, Forest}
+use Rattle.fjall_trees.specs.Sealing.{all_sealed}
 use Rattle.fjall_trees.specs.Tables.{AreReadOn}
 use Rattle.fjall_trees.specs.Views.{forest_of}
 use Rattle.fjall_contents.specs.declared.recovery.Persisted.{Persisted}
-use Rattle.fjall_contents.specs.Replays.{first_fault, least_after}
+use Rattle.fjall_contents.specs.Replays.{counts_unpersisted, first_fault, least_after, reaches as is_up_to}
 use Rattle.fjall_opening.specs.declared.replaying.Progress.{Progress}
 use Rattle.fjall_opening.specs.declared.replaying.Replay.{Replay}
 use Rattle.fjall_recovery.specs.Journals.{AreJournalsRead, EndsAt, WholeJournal}
 use Rattle.fjall_opening.specs.Opened.{IsFit}
+
+-- ---- which batches are which journal's
+
+-- whether the watermarks tell of some keyspace this number or a greater one
+abbrev pub tell_up_to : JournalMarks → ℕ → Bool
+tell_up_to marks number = list_any (λ mark. is_up_to (lsn_of marks mark.0) number) marks
+
+-- the first batches, as far as the sealed journal's watermarks tell of their numbers
+abbrev pub own_batches : Sealed → List Shown → List Shown
+own_batches j [] = []
+own_batches j (b ∷ batches) = if tell_up_to j.watermarks b.number then b ∷ own_batches j batches else []
+
+-- the batches from the first on that they don't tell of
+abbrev pub later_batches : Sealed → List Shown → List Shown
+later_batches j [] = []
+later_batches j (b ∷ batches) = if tell_up_to j.watermarks b.number then later_batches j batches else b ∷ batches
+
+-- The trees after the batches, where these sealed journals aren't behind yet: each has the first batches that its watermarks tell of,
+-- and behind them all active memtables are sealed. What is left behind the last one is the active journal's.
+abbrev pub made_of : (ℕ → ℕ → Bool) → List Sealed → List Shown → Forest → Forest
+made_of counted [] batches trees = with_batches counted batches trees
+made_of counted (j ∷ journals) batches trees = made_of counted journals (later_batches j batches) (all_sealed (with_batches counted (own_batches j batches) trees))
+
+-- ---- what the trees show
 
 -- over the tables of those that were loaded, the trees show what files hold and what the batches make beyond that
 abbrev pub ShowBeyond : Keyspaces → List Persisted → Forest → List Shown → Forest → Type 0
@@ -50,12 +77,18 @@ pub record AreAt (r : Replay) (loaded : Forest) (front : List Shown) (place : �
 abbrev pub ArePast : Replay → ℕ → ℕ → Type 0
 ArePast r place from = (n : ℕ) → from ≤ n → some_reaches (take place r.sealed.now) n ≡ false
 
--- a replay is so far that these batches were taken
+-- whether what a batch of that number says of an id counts for the replay
+abbrev pub counted_by : Replay → ℕ → ℕ → Bool
+counted_by r = counts_unpersisted r.keyspaces.now r.persisted.now
+
+-- A replay is so far that these batches were taken: with whatever batches behind them it makes of its trees what all of them make of
+-- those that were loaded.
 pub record IsUnderway (r : Replay) (loaded : Forest) (front : List Shown) (p : Progress) : Type 0 where
   pub sound : first_fault 0 front ≡ None
   pub least_is : p.least ≡ least_after 0 front
   pub trees : AreAt r loaded front p.place (forest_of p.trees)
   pub past : ArePast r p.place p.least
+  pub made : (rest : List Shown) → made_of (counted_by r) (drop p.place r.sealed.now) rest (forest_of p.trees) ≡ made_of (counted_by r) r.sealed.now (front ++ rest) loaded
 
 -- a next batch may have the least number or a greater one, and nothing in memory is beyond it
 abbrev pub MayGoOn : Replay → Progress → Type 0

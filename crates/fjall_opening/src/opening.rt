@@ -10,8 +10,8 @@ ghost use Rattle.fjall_trees.specs.Views.{forest_of};
 ghost use Rattle.fjall_contents.specs.Replays.{bare};
 ghost use Rattle.fjall_recovery.specs.Amid.{LeavesAmid, KeepsAmid, WhereAmid};
 ghost use Rattle.fjall_recovery.specs.Folders.{Contents, ImageStandsFor, IsFinished, IsNumbered, IsUnfinished, number_of_contents as number_in, store_of_contents};
-ghost use Rattle.fjall_recovery.specs.Refusals.{AreOne, FolderRefuses, HasRisen, IsDue, IsOpeningRefusal};
-ghost use Rattle.fjall_recovery.specs.Held.{Holds, store_of_folder, IsFolder};
+ghost use Rattle.fjall_recovery.specs.Refusals.{AreOne, FolderRefusesIn, HasRisen, HasTornTail, IsDue, IsOpeningRefusal, IsTornTail};
+ghost use Rattle.fjall_recovery.specs.Held.{Holds, IsFolder, IsOpenFolder, store_of_folder};
 ghost use Rattle.fjall_opening.specs.Readings.{WhereOpenable, WhereRead, WhereSound};
 ghost use Rattle.fjall_repair.specs.Making.{ComesBackUnfinished};
 ghost use Rattle.fjall_opening.specs.Opened.{ComesBack, HasNoJournal, IsHeldUp, IsLawfulOpening, IsOpenedFrom, IsUnopened, OpensFolder, ReadsFrom, WritesJournal};
@@ -21,6 +21,7 @@ use crate::opened::Opened;
 use crate::ready::{ToBegin, ToMend, ready_to_begin, ready_to_mend};
 use crate::repair::{begin_and_sweep, mend_and_sweep};
 use fjall_base::{Disk, Result};
+use fjall_journal::RecoveryMode;
 use fjall_recovery::{RecoveredFolder, read_folder};
 use std::alloc::Global;
 
@@ -104,10 +105,9 @@ fn open_finished<D: Disk>(alloc: Global, disk: &mut D, found: RecoveredFolder) -
 /// No block of a keyspace's table is read: a folder with a wrong one opens, and that is met by the read that wants it.
 ///
 /// Where the folder is refused, or memory runs out, nothing of the disk has changed: the refusals are those of
-/// `read_folder`, and all memory is got before the first change. `Io` comes for a fault of the disk, and then a new open
-/// goes on. Whatever a crash leaves at any moment
-/// of the call stands for the store that the folder stood for.
-pub fn open_folder<D: Disk>(alloc: Global, disk: &mut D) -> Result<Opened>
+/// `read_folder` in this mode, and all memory is got before the first change. `Io` comes for a fault of the disk, and then a
+/// new open goes on. Whatever a crash leaves at any moment of the call stands for the store that the folder stood for.
+pub fn open_folder<D: Disk>(alloc: Global, disk: &mut D, mode: RecoveryMode) -> Result<Opened>
     ensures opened { IsTrue D.honest → (folder : Option Contents) → Holds (state_in (D.meaning disk.old)) folder
         → IfOk result (OpensFolder (D.meaning disk.new) folder) }
     // Nothing of the engine's own is left that no record names.
@@ -124,9 +124,12 @@ pub fn open_folder<D: Disk>(alloc: Global, disk: &mut D) -> Result<Opened>
         → LeavesOnly (D.meaning disk.old) (D.meaning disk.new) (λ image. ImageStandsFor image (store_of_folder folder)) }
     ensures later { (D.meaning disk.old).faults ≤ (D.meaning disk.new).faults }
     ensures risen { IfErr result (HasRisen (D.meaning disk.old).faults (D.meaning disk.new).faults) }
-    ensures due { IsTrue D.honest → IfErr result (IsUnopened (D.meaning disk.old) (D.meaning disk.new)) }
-    // Where the folder is refused, this is refused with that error, unless memory runs out or the disk fails.
-    ensures refuses { IsTrue D.honest → (error : Error) → FolderRefuses (seen (D.meaning disk.old)) error → IsErrAnd result (IsDue (AreOne error)) }
+    ensures due { IsTrue D.honest → IfErr result (IsUnopened mode (D.meaning disk.old) (D.meaning disk.new)) }
+    // Where the folder is refused in this mode, this is refused with that error, unless memory runs out or the disk fails.
+    ensures refuses { IsTrue D.honest → (error : Error) → FolderRefusesIn mode (seen (D.meaning disk.old)) error → IsErrAnd result (IsDue (AreOne error)) }
+    // A folder in which nothing is wrong is opened then, or refused for its torn tail where the mode does that.
+    ensures opens_or_torn { IsTrue D.honest → (folder : Option Contents) → IsOpenFolder (seen (D.meaning disk.old)) folder
+        → IfErr result (IsDue (IsTornTail mode (HasTornTail (seen (D.meaning disk.old))))) }
     // Over any disk at all it is refused with one of these alone.
     ensures listed { IfErr result IsOpeningRefusal }
     // The same of a disk of which a crash may leave different stores, as an opening that failed leaves it: what stands is
@@ -141,7 +144,7 @@ pub fn open_folder<D: Disk>(alloc: Global, disk: &mut D) -> Result<Opened>
     // Where nothing stands in the way, each call of the disk was one that it can serve, also where the folder is refused.
     ensures served { IsTrue D.honest → IsTidy (state_in (D.meaning disk.old)) → AllServed (D.meaning disk.old) (D.meaning disk.new) }
 {
-    match read_folder(alloc, disk)? {
+    match read_folder(alloc, disk, mode)? {
         Some(found) => open_finished(alloc, disk, found),
         None => open_unfinished(alloc, disk),
     }

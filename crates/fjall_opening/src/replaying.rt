@@ -1,20 +1,24 @@
 //! The journals of a folder, replayed one after another, batch by batch.
 
-ghost use Rattle.std.specs.Prelude.{◌≡◌, ◌⊎◌, ◌<◌, ◌≤◌, ◌+◌, ◌++◌, ◌∷◌, Bool, [], false, true, ℕ, List, All, IfErr, IfOk, IsErrOf, IsOkUnless, IsTrue, MatchOption, None, OnOk, Some, length, map, slice_get, take};
+ghost use Rattle.std.specs.Prelude.{◌≡◌, ◌⊎◌, ◌<◌, ◌≤◌, ◌+◌, ◌++◌, ◌∷◌, Bool, [], false, true, not, ℕ, List, All, IfErr, IfOk, IsErrOf, IsOkUnless, IsTrue, MatchOption, None, OnOk, Some, drop, length, map, slice_get, take};
 ghost use Rattle.std.specs.List.{AllByRecursion, flat_map};
 ghost use Rattle.fjall_base.specs.declared.error.Error.{Error};
 ghost use Rattle.fjall_base.specs.Disk.{Meaning, Took};
 ghost use Rattle.fjall_files.specs.Calls.{seen, AllServed};
 ghost use Rattle.fjall_journal.specs.Batches.{Shown, Written, IsWritten, batch_text, shown, view};
+ghost use Rattle.fjall_contents.specs.Replays.{counts_unpersisted};
 ghost use Rattle.fjall_manager.specs.Journals.{Sealed};
+ghost use Rattle.fjall_manager.specs.Marks.{JournalMarks};
 ghost use Rattle.fjall_manager.specs.Reaching.{reaches, some_reaches};
 ghost use Rattle.fjall_recovery.specs.Journals.{IsSealed, WholeJournal, batches_in, journal_text};
 ghost use Rattle.fjall_recovery.specs.Refusals.{HasRisen, IsDue, IsOpeningRefusal};
 ghost use Rattle.fjall_recovery.specs.Beside.{AreEndedBy};
-ghost use Rattle.fjall_recovery.specs.Parted.{ArePartedBy, AreUnwritten, all_unwritten};
+ghost use Rattle.fjall_recovery.specs.Parted.{ArePartedBy, AreUnwritten, all_unwritten, with_journals};
+ghost use Rattle.fjall_recovery.specs.Told.{TellOf};
 ghost use Rattle.fjall_trees.specs.Forests.{AreBefore, Forest};
+ghost use Rattle.fjall_trees.specs.Sealing.{all_sealed};
 ghost use Rattle.fjall_trees.specs.Views.{forest_of};
-ghost use Rattle.fjall_opening.specs.Replaying.{AreAt, ArePast, IsHeldBy, IsReplayed, IsTextOf, IsUnderway, MayGoOn, MayTake};
+ghost use Rattle.fjall_opening.specs.Replaying.{AreAt, ArePast, IsHeldBy, IsReplayed, IsTextOf, IsUnderway, MayGoOn, MayTake, made_of, tell_up_to};
 
 use crate::sizes::is_fit;
 use fjall_base::{Disk, Error, Result};
@@ -67,6 +71,7 @@ impl<'a> Replay<'a> {
     fn ends_before(&self, place: usize, number: u64) -> bool
         ensures left { IsTrue result → (journal : Sealed) × (slice_get self.now.sealed.now place ≡ Some journal) × (reaches journal.watermarks number ≡ false) }
         ensures here { (journal : Sealed) → slice_get self.now.sealed.now place ≡ Some journal → reaches journal.watermarks number ≡ false → IsTrue result }
+        ensures told { (journal : Sealed) → slice_get self.now.sealed.now place ≡ Some journal → tell_up_to journal.watermarks number ≡ not result }
     {
         match self.sealed.journals().get(place) {
             Some(journal) => !journal.watermarks().reaches(number),
@@ -79,6 +84,7 @@ impl<'a> Replay<'a> {
         requires { progress.old.place < length self.now.sealed.now }
         ensures ok { (loaded : Forest) (front : List Shown) → AreAt self.now loaded front progress.old.place (forest_of progress.old.trees)
             → OnOk result (AreAt self.now loaded front progress.new.place (forest_of progress.new.trees)) }
+        ensures sealed { OnOk result (forest_of progress.new.trees ≡ all_sealed (forest_of progress.old.trees)) }
         ensures place { OnOk result (progress.new.place ≡ progress.old.place + 1) }
         ensures least { progress.new.least ≡ progress.old.least }
         ensures ended { MayGoOn self.now progress.old → OnOk result (MayGoOn self.now progress.new) }
@@ -97,6 +103,11 @@ impl<'a> Replay<'a> {
             → OnOk result (AreAt self.now loaded front progress.new.place (forest_of progress.new.trees)) }
         ensures past { ArePast self.now progress.old.place number → OnOk result (ArePast self.now progress.new.place number) }
         ensures here { (journal : Sealed) → OnOk result (slice_get self.now.sealed.now progress.new.place ≡ Some journal → reaches journal.watermarks number ≡ true) }
+        // Each of them is one that has no batch of that number any more, and for each all is sealed once.
+        ensures told { (journal : Sealed) → OnOk result (slice_get self.now.sealed.now progress.new.place ≡ Some journal → tell_up_to journal.watermarks number ≡ true) }
+        ensures made { (counted : ℕ → ℕ → Bool) (batch : Shown) (rest : List Shown) → batch.number ≡ number
+            → OnOk result (made_of counted (drop progress.new.place self.now.sealed.now) (batch ∷ rest) (forest_of progress.new.trees)
+            ≡ made_of counted (drop progress.old.place self.now.sealed.now) (batch ∷ rest) (forest_of progress.old.trees)) }
         ensures least { progress.new.least ≡ progress.old.least }
         ensures ended { MayGoOn self.now progress.old → OnOk result (MayGoOn self.now progress.new) }
         ensures only { IsOkUnless result Error.OutOfMemory }
@@ -217,6 +228,8 @@ impl<'a> Replay<'a> {
             → IfOk result (λ trees. AreBefore self.now.bound loaded → AreBefore self.now.bound (forest_of trees)) }
         ensures parted { (loaded : Forest) (front : List Shown) → AreAt self.now loaded front progress.place (forest_of progress.trees)
             → IfOk result (λ trees. ArePartedBy (some_reaches self.now.sealed.now) (forest_of trees)) }
+        ensures made { (counted : ℕ → ℕ → Bool)
+            → IfOk result (λ trees. forest_of trees ≡ made_of counted (drop progress.place self.now.sealed.now) [] (forest_of progress.trees)) }
         ensures only { IsOkUnless result Error.OutOfMemory }
     {
         let mut rest = progress;
@@ -247,6 +260,11 @@ impl<'a> Replay<'a> {
         ensures some { IfOk result (λ trees. (front : List Shown) × IsReplayed self.now.keyspaces.now self.now.persisted.now (forest_of loaded) front (forest_of trees)) }
         // What is numbered up to a watermark of a sealed journal is in sealed memtables, and all else in active ones.
         ensures parted { IfOk result (λ trees. ArePartedBy (some_reaches self.now.sealed.now) (forest_of trees)) }
+        // They are what one journal after another makes of those that were loaded: all is sealed once behind each sealed one, and never
+        // within one.
+        ensures made { IsTrue D.honest → (journals : List WholeJournal) (torn : Bool) (marks : JournalMarks) → IsHeldBy (seen (D.meaning disk.old)) ids.now end torn journals
+            → TellOf journals self.now.sealed.now marks
+            → IfOk result (λ trees. forest_of trees ≡ with_journals (counts_unpersisted self.now.keyspaces.now self.now.persisted.now) journals (forest_of loaded)) }
         ensures below { AreBefore self.now.bound (forest_of loaded) → IfOk result (λ trees. AreBefore self.now.bound (forest_of trees)) }
         ensures due { IsTrue D.honest → (journals : List WholeJournal) (torn : Bool) → IsHeldBy (seen (D.meaning disk.old)) ids.now end torn journals
             → MayTake self.now 0 (map shown (batches_in journals)) → IfErr result (IsDue (λ error. ⊥)) }

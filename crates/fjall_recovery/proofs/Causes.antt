@@ -6,7 +6,7 @@ use Rattle.fjall_base.specs.Lists.{last_of}
 use Rattle.fjall_base.specs.declared.error.Error.{Error}
 use Rattle.fjall_base.specs.declared.error.Error.TheVariants.{InvalidTag, JournalRecovery, Storage, Unrecoverable}
 use Rattle.fjall_base.specs.declared.error.JournalRecoveryError.{JournalRecoveryError}
-use Rattle.fjall_base.specs.declared.error.JournalRecoveryError.TheVariants.{InsufficientLength, TooManyItems, ChecksumMismatch, InvalidFileName}
+use Rattle.fjall_base.specs.declared.error.JournalRecoveryError.TheVariants.{InsufficientLength, TooManyItems, ChecksumMismatch, InvalidFileName, TornTail}
 use Rattle.fjall_base.specs.declared.error.StorageError.{StorageError}
 use Rattle.fjall_base.specs.declared.error.StorageError.TheVariants.{OptionInvalid, OptionMissing, RecordDamaged, TableDamaged}
 use Rattle.fjall_journal.specs.declared.batch.Tail.{Tail}
@@ -55,6 +55,7 @@ damaged_at (b ∷ bytes) InsufficientLength is = some_early (b ∷ bytes) is
 damaged_at (b ∷ bytes) TooManyItems is = some_goes_on (b ∷ bytes) is
 damaged_at (b ∷ bytes) ChecksumMismatch is = some_other (b ∷ bytes) is
 damaged_at (b ∷ bytes) InvalidFileName is = absurd is
+damaged_at (b ∷ bytes) TornTail is = absurd is
 
 -- any bytes have one tail
 pub one_tail : (bytes : List ℕ) (t u : Tail) → IsTail bytes t → IsTail bytes u → t ≡ u

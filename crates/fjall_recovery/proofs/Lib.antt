@@ -2,8 +2,9 @@ mod Adding
 mod Putting
 mod Stepping
 mod Batches
+mod LeftCounts
 mod Keeping
-mod ReplayedStores
+pub mod ReplayedStores
 mod Resting
 pub mod Behind
 mod Sealing
@@ -20,6 +21,7 @@ mod Finishing
 mod Beginnings
 mod Opened
 pub mod Kept
+pub mod Strict
 mod Numbers
 pub mod Causes
 pub mod Housing

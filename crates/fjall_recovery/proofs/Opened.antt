@@ -7,7 +7,7 @@ use Rattle.fjall_base.specs.Disk.{Image}
 use Rattle.fjall_base.specs.declared.error.Error.{Error}
 use Rattle.fjall_base.specs.declared.error.Error.TheVariants.{Storage, Unrecoverable}
 use Rattle.fjall_base.specs.declared.error.JournalRecoveryError.{JournalRecoveryError}
-use Rattle.fjall_base.specs.declared.error.JournalRecoveryError.TheVariants.{InsufficientLength, TooManyItems, ChecksumMismatch, InvalidFileName}
+use Rattle.fjall_base.specs.declared.error.JournalRecoveryError.TheVariants.{InsufficientLength, TooManyItems, ChecksumMismatch, InvalidFileName, TornTail}
 use Rattle.fjall_journal.specs.Spelling.{spelling}
 use Rattle.fjall_journal.specs.declared.batch.Tail.{Tail}
 use Rattle.fjall_journal.specs.declared.batch.Tail.TheVariants.{Clean, Torn, Damaged}
@@ -33,6 +33,7 @@ no_damage_in_nothing InsufficientLength bad = let l = ap length bad.text in absu
 no_damage_in_nothing TooManyItems bad = let l = ap length bad.text in absurd (omega (arith, l))
 no_damage_in_nothing ChecksumMismatch bad = let l = ap length bad.text in absurd (omega (arith, l))
 no_damage_in_nothing InvalidFileName bad = bad
+no_damage_in_nothing TornTail bad = bad
 
 pub clean_has_no_damage : (bytes : List ℕ) (damage : JournalRecoveryError) → IsTail bytes Clean → IsTail bytes (Damaged damage) → ⊥
 clean_has_no_damage bytes damage clean bad = no_damage_in_nothing damage (subst (λ (l : List ℕ). IsTail l (Damaged damage)) clean bad)
@@ -42,6 +43,7 @@ torn_has_no_damage bytes InsufficientLength torn bad = torn.1 bad
 torn_has_no_damage bytes TooManyItems torn bad = torn.2 bad
 torn_has_no_damage bytes ChecksumMismatch torn bad = torn.3 bad
 torn_has_no_damage bytes InvalidFileName torn bad = bad
+torn_has_no_damage bytes TornTail torn bad = bad
 
 clean_is_kept : (bytes : List ℕ) (last : Bool) (tail : Tail) (error : Error) → IsTail bytes Clean → IsTail bytes tail → TailRefuses last tail error → ⊥
 clean_is_kept bytes last (Damaged damage) error clean is refused = clean_has_no_damage bytes damage clean is

@@ -7,13 +7,15 @@ use Rattle.fjall_base.specs.declared.error.Error.TheVariants.{InvalidTag, Invali
 use Rattle.fjall_base.specs.declared.error.FormatVersion.TheVariants.{V3}
 use Rattle.fjall_base.specs.declared.error.StorageError.TheVariants.{RecordDamaged, TableDamaged}
 use Rattle.fjall_journal.specs.declared.batch.Tail.{Tail}
+use Rattle.fjall_journal.specs.declared.recovery_mode.RecoveryMode.{RecoveryMode}
+use Rattle.fjall_journal.specs.declared.recovery_mode.RecoveryMode.TheVariants.{RefuseTornTail, TolerateCorruptTail}
 use Rattle.fjall_journal.specs.declared.batch.Tail.TheVariants.{Clean, Torn, Damaged}
 use Rattle.fjall_journal.specs.Batches.{Written, shown}
 use Rattle.fjall_contents.specs.Replays.{first_fault, least_after, NamesFault}
 use Rattle.fjall_manifest.specs.Records.{Fields, HasContradiction}
 use Rattle.fjall_meta.specs.Keyspaces.{Keyspaces}
 use Rattle.fjall_meta.specs.declared.living.LivingKeyspace.{LivingKeyspace}
-use Rattle.fjall_base.specs.declared.error.JournalRecoveryError.TheVariants.{InvalidFileName}
+use Rattle.fjall_base.specs.declared.error.JournalRecoveryError.TheVariants.{InvalidFileName, TornTail}
 use Rattle.fjall_files.specs.declared.marker.Marker.{Marker}
 use Rattle.fjall_files.specs.declared.marker.Marker.TheVariants.{Whole, Unfinished}
 use Rattle.fjall_files.specs.Marker.{marker_tells}
@@ -26,7 +28,7 @@ use Rattle.fjall_manifest.specs.Homes.{Home}
 use Rattle.fjall_manifest.specs.Reading as home
 use Rattle.fjall_table.specs.Tables.{Handle}
 use Rattle.fjall_recovery.specs.Homes.{ClearsAreWithin, HasOpenableHome}
-use Rattle.fjall_recovery.specs.Journals.{WholeJournal, ReadsAs, AreJournalIds, HoldsJournals, journal_text}
+use Rattle.fjall_recovery.specs.Journals.{EndsAt, WholeJournal, ReadsAs, AreJournalIds, HoldsJournals, journal_text}
 use Rattle.fjall_recovery.specs.Naming.{JournalsAreNamed, KeyspacesAreNamed}
 
 -- `Io` is answered only where the count of faults rose
@@ -139,6 +141,38 @@ FolderRefuses image error =
     (marker_tells (marker_bytes image) ≡ Err error)
     ⊎ ((marker : Marker) × (marker_tells (marker_bytes image) ≡ Ok marker)
     × (((error ≡ JournalRecovery InvalidFileName) × (JournalsAreNamed image → ⊥)) ⊎ (JournalsAreNamed image × PartsRefuse marker image error)))
+
+-- ---- the mode that refuses a torn tail
+
+-- no journal has a fault, and behind the whole batches of the active one stands a torn tail
+pub record HasTornEnd (image : Image) : Type 0 where
+  pub journals : List WholeJournal
+  pub holds : HoldsJournals image journals
+  pub end : ℕ
+  pub ends : EndsAt image journals end true
+
+-- the folder was made to its end, no name in its root is wrong, and its active journal has a torn tail
+pub record HasTornTail (image : Image) : Type 0 where
+  pub marker : marker_tells (marker_bytes image) ≡ Ok Whole
+  pub named : JournalsAreNamed image
+  pub torn : HasTornEnd image
+
+-- What a mode makes of refusals: one of them refuses a torn tail by its name, and whatever has none as ever.
+abbrev pub RefusesBy : RecoveryMode → Type 0 → (Error → Type 0) → Error → Type 0
+RefusesBy TolerateCorruptTail IsTorn Refuses error = Refuses error
+RefusesBy RefuseTornTail IsTorn Refuses error = (IsTorn × (error ≡ JournalRecovery TornTail)) ⊎ ((IsTorn → ⊥) × Refuses error)
+
+-- why a folder that was made to its end is refused in a mode
+abbrev pub FinishedRefusesIn : RecoveryMode → Image → Error → Type 0
+FinishedRefusesIn mode image = RefusesBy mode (HasTornEnd image) (FinishedRefuses image)
+
+-- Why a folder is refused in a mode.
+abbrev pub FolderRefusesIn : RecoveryMode → Image → Error → Type 0
+FolderRefusesIn mode image = RefusesBy mode (HasTornTail image) (FolderRefuses image)
+
+-- the mode refuses a torn tail, and there is one
+abbrev pub IsTornTail : RecoveryMode → Type 0 → Error → Type 0
+IsTornTail mode IsTorn error = (mode ≡ RefuseTornTail) × IsTorn × (error ≡ JournalRecovery TornTail)
 
 -- What an opening may be refused with, over any disk at all: a fault of the disk or want of memory; damage of tables,
 -- records and stored options; damage of journals and names nearly like theirs; a marker of another version than the one

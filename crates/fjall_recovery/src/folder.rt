@@ -1,9 +1,11 @@
 //! A folder, read whole.
 
-ghost use Rattle.std.specs.Prelude.{◌≡◌, ◌<◌, ◌≤◌, ◌↔◌, [], ◌^◌, map, All, IsTrue, IfErr, IfOk, IfSome, OnOk, List, Option, Ok, Err};
+ghost use Rattle.std.specs.Prelude.{◌≡◌, ◌<◌, ◌≤◌, ◌↔◌, [], ◌^◌, true, false, map, All, IsTrue, IfErr, IfOk, IfSome, OnOk, List, Option, Ok, Err};
 ghost use Rattle.std.specs.List.Sorted.{IsStrictlyIncreasing};
 ghost use Rattle.fjall_base.specs.Disk.{Folder, Image, Took};
 ghost use Rattle.fjall_base.specs.Store.{Store};
+ghost use Rattle.fjall_base.specs.declared.error.JournalRecoveryError.TheVariants.{TornTail};
+ghost use Rattle.fjall_journal.specs.declared.recovery_mode.RecoveryMode.TheVariants.{RefuseTornTail};
 ghost use Rattle.fjall_files.specs.Calls.{seen, AllServed};
 ghost use Rattle.fjall_files.specs.Marker.{marker_tells};
 ghost use Rattle.fjall_files.specs.Names.{keyspace_folder};
@@ -15,15 +17,16 @@ ghost use Rattle.fjall_recovery.specs.Folders.{AreMade, Contents, ImageStandsFor
 ghost use Rattle.fjall_recovery.specs.Held.{IsOpenFolder};
 ghost use Rattle.fjall_recovery.specs.Journals.{AreJournalIds};
 ghost use Rattle.fjall_recovery.specs.Naming.{AreFolderIds};
-ghost use Rattle.fjall_recovery.specs.Refusals.{FinishedRefuses, FolderRefuses, HasRisen, IsDue, IsOpeningRefusal, TreeRefuses};
+ghost use Rattle.fjall_recovery.specs.Refusals.{FinishedRefusesIn, FolderRefusesIn, HasRisen, HasTornEnd, HasTornTail, IsDue, IsOpeningRefusal, IsTornTail, TreeRefuses};
 
 use crate::homes::read_homes;
 use crate::journals::{RecoveredJournals, read_journals};
 use crate::listing::{list_journals, list_keyspaces};
 use crate::unfinished::check_unfinished;
-use fjall_base::{Disk, Error, Result, StorageError};
+use fjall_base::{Disk, Error, JournalRecoveryError, Result, StorageError};
 use fjall_catalog::{Catalog, LoadedCatalog, read_catalog};
 use fjall_files::{MARKER_FILE, Marker, read_marker};
+use fjall_journal::RecoveryMode;
 use fjall_manifest::LoadedHome;
 use fjall_meta::LivingKeyspace;
 use std::alloc::Global;
@@ -114,11 +117,25 @@ fn read_tree<D: Disk>(alloc: Global, disk: &mut D, folder_ids: &[u64]) -> Result
     Ok(found)
 }
 
+/// Refuses a torn tail of the active journal, where the mode does.
+fn check_end(mode: RecoveryMode, is_torn: bool) -> Result<()>
+    ensures ok { OnOk result (mode ≡ RefuseTornTail → is_torn ≡ false) }
+    ensures cause { IfErr result (λ error. (mode ≡ RefuseTornTail) × (is_torn ≡ true) × (error ≡ Error.JournalRecovery TornTail)) }
+{
+    match (mode, is_torn) {
+        (RecoveryMode::RefuseTornTail, true) => {
+            Err(Error::JournalRecovery(JournalRecoveryError::TornTail))
+        }
+        _ => Ok(()),
+    }
+}
+
 /// Reads a folder that was made to its end: the journals of these ids, and then tree 0 and the keyspaces that it names.
 fn read_finished<D: Disk>(
     alloc: Global,
     disk: &mut D,
     journal_ids: Vec<u64>,
+    mode: RecoveryMode,
 ) -> Result<RecoveredFolder>
     ensures found { IsTrue D.honest → AreJournalIds (seen (D.meaning disk.old)) journal_ids.items → IfOk result (IsFinished (seen (D.meaning disk.old))) }
     ensures numbered { IsStrictlyIncreasing journal_ids.items → IfOk result IsNumbered }
@@ -127,13 +144,16 @@ fn read_finished<D: Disk>(
     ensures later { (D.meaning disk.old).faults ≤ (D.meaning disk.new).faults }
     ensures risen { IfErr result (HasRisen (D.meaning disk.old).faults (D.meaning disk.new).faults) }
     ensures cause { IsTrue D.honest → AreJournalIds (seen (D.meaning disk.old)) journal_ids.items
-        → IfErr result (IsDue (FinishedRefuses (seen (D.meaning disk.old)))) }
+        → IfErr result (IsDue (FinishedRefusesIn mode (seen (D.meaning disk.old)))) }
+    ensures untorn { IsTrue D.honest → AreJournalIds (seen (D.meaning disk.old)) journal_ids.items
+        → OnOk result (mode ≡ RefuseTornTail → HasTornEnd (seen (D.meaning disk.old)) → ⊥) }
     // A folder in which nothing is wrong is read.
     ensures openable { IsTrue D.honest → AreJournalIds (seen (D.meaning disk.old)) journal_ids.items → (c : Contents)
-        → IsOpenable (seen (D.meaning disk.old)) c → IfErr result (IsDue (λ error. ⊥)) }
+        → IsOpenable (seen (D.meaning disk.old)) c → IfErr result (IsDue (IsTornTail mode (HasTornEnd (seen (D.meaning disk.old))))) }
     ensures listed { IfErr result IsOpeningRefusal }
 {
     let journals = read_journals(alloc, disk, &journal_ids)?;
+    check_end(mode, journals.torn)?;
     let folder_ids = list_keyspaces(alloc, disk)?;
     let catalog = read_tree(alloc, disk, &folder_ids)?;
     let homes = read_homes(alloc, disk, &folder_ids, catalog.keyspaces.living())?;
@@ -166,27 +186,33 @@ fn read_version<D: Disk>(alloc: Global, disk: &mut D) -> Result<Marker>
 /// keyspaces. Nothing of the disk changes.
 ///
 /// The first fault in the order of reading refuses, as the formats page says: the marker (`InvalidVersion`), the names of
-/// journals (`InvalidFileName`), the journals one after another, the names in `keyspaces` (`Unrecoverable`), tree 0 with
-/// the names and options that it stores, and each keyspace by its id, its records before its tables. No block of a
-/// keyspace's table is read. A folder without its marker into which something was written is `Unrecoverable`.
-/// `OutOfMemory` and `Io` come as ever.
-pub fn read_folder<D: Disk>(alloc: Global, disk: &mut D) -> Result<Option<RecoveredFolder>>
+/// journals (`InvalidFileName`), the journals one after another, a torn tail of the active one (`TornTail`) where the mode
+/// refuses it, the names in `keyspaces` (`Unrecoverable`), tree 0 with the names and options that it stores, and each keyspace
+/// by its id, its records before its tables. No block of a keyspace's table is read. A folder without its marker into which
+/// something was written is `Unrecoverable`, in each mode. `OutOfMemory` and `Io` come as ever.
+pub fn read_folder<D: Disk>(
+    alloc: Global,
+    disk: &mut D,
+    mode: RecoveryMode,
+) -> Result<Option<RecoveredFolder>>
     ensures found { IsTrue D.honest → IfOk result (λ folder. ReadsFolder (seen (D.meaning disk.old)) folder) }
     ensures numbered { IfOk result (λ folder. IfSome folder IsNumbered) }
     ensures same { IsTrue D.honest → Took (D.meaning disk.old) (D.meaning disk.new) [] }
     ensures served { IsTrue D.honest → AllServed (D.meaning disk.old) (D.meaning disk.new) }
     ensures later { (D.meaning disk.old).faults ≤ (D.meaning disk.new).faults }
     ensures risen { IfErr result (HasRisen (D.meaning disk.old).faults (D.meaning disk.new).faults) }
-    ensures cause { IsTrue D.honest → IfErr result (IsDue (FolderRefuses (seen (D.meaning disk.old)))) }
-    // A folder in which nothing is wrong is read, unless memory runs out or the disk fails: so is each that stands for a store.
-    ensures openable { IsTrue D.honest → (folder : Option Contents) → IsOpenFolder (seen (D.meaning disk.old)) folder → IfErr result (IsDue (λ error. ⊥)) }
-    ensures sound { IsTrue D.honest → (store : Store) → ImageStandsFor (seen (D.meaning disk.old)) store → IfErr result (IsDue (λ error. ⊥)) }
+    ensures cause { IsTrue D.honest → IfErr result (IsDue (FolderRefusesIn mode (seen (D.meaning disk.old)))) }
+    ensures untorn { IsTrue D.honest → OnOk result (mode ≡ RefuseTornTail → HasTornTail (seen (D.meaning disk.old)) → ⊥) }
+    // A folder in which nothing is wrong is read, unless memory runs out, the disk fails, or the mode refuses its torn tail: so
+    // is each that stands for a store.
+    ensures openable { IsTrue D.honest → (folder : Option Contents) → IsOpenFolder (seen (D.meaning disk.old)) folder → IfErr result (IsDue (IsTornTail mode (HasTornTail (seen (D.meaning disk.old))))) }
+    ensures sound { IsTrue D.honest → (store : Store) → ImageStandsFor (seen (D.meaning disk.old)) store → IfErr result (IsDue (IsTornTail mode (HasTornTail (seen (D.meaning disk.old))))) }
     ensures listed { IfErr result IsOpeningRefusal }
 {
     let marker = read_version(alloc, disk)?;
     let journal_ids = list_journals(alloc, disk)?;
     match marker {
-        Marker::Whole => Ok(Some(read_finished(alloc, disk, journal_ids)?)),
+        Marker::Whole => Ok(Some(read_finished(alloc, disk, journal_ids, mode)?)),
         Marker::Unfinished => {
             check_unfinished(alloc, disk, &journal_ids)?;
             Ok(None)

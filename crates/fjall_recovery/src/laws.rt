@@ -11,9 +11,10 @@ ghost use Rattle.fjall_catalog.specs.Catalog.{CatalogRests, Says};
 ghost use Rattle.fjall_recovery.specs.Homes.{HasOpenableHome, HasVersions, HaveHomes, HaveVersions};
 ghost use Rattle.fjall_recovery.specs.Folders.{AreMade, Contents, ImageStandsFor, IsOpenable, IsSound, with_versions};
 ghost use Rattle.fjall_recovery.specs.Journals.{WholeJournal, HoldsJournals};
-ghost use Rattle.fjall_recovery.specs.Refusals.{AreOne, FolderRefuses};
+ghost use Rattle.fjall_recovery.specs.Refusals.{AreOne, FolderRefuses, FolderRefusesIn, HasTornTail, IsTornTail};
 ghost use Rattle.fjall_files.specs.Regions.{IsImageIn};
 ghost use Rattle.fjall_journal.specs.Batches.{Written};
+ghost use Rattle.fjall_journal.specs.declared.recovery_mode.RecoveryMode.{RecoveryMode};
 ghost use Rattle.fjall_manifest.specs.Records.{Fields};
 ghost use Rattle.fjall_files.specs.Names.{journal_name, keyspace_folder};
 ghost use Rattle.fjall_recovery.specs.Halves.{HasRoot, HasTree, Tree, is_of_keyspaces, is_of_root, outside, with_home_at};
@@ -34,6 +35,15 @@ pub fn one_contents()
 /// A folder is refused for one error alone.
 pub fn one_refusal()
     ensures { (image : Image) (first second : Error) → FolderRefuses image first → FolderRefuses image second → AreOne first second }
+{}
+
+/// In each mode a folder is refused for one error alone, and one in which nothing is wrong for its torn tail alone, where the
+/// mode refuses that.
+pub fn one_refusal_in_each_mode()
+    ensures one { (mode : RecoveryMode) (image : Image) (first second : Error) → FolderRefusesIn mode image first → FolderRefusesIn mode image second
+        → AreOne first second }
+    ensures torn { (mode : RecoveryMode) (image : Image) (folder : Option Contents) (error : Error) → IsOpenFolder image folder → FolderRefusesIn mode image error
+        → IsTornTail mode (HasTornTail image) error }
 {}
 
 /// An image of a folder stands for one store at most.

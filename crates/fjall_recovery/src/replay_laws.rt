@@ -1,17 +1,20 @@
 //! What replayed trees stand for.
 
-ghost use Rattle.std.specs.Prelude.{◌≡◌, ◌<◌, ◌++◌, ◌∷◌, [], ℕ, List, All, None};
+ghost use Rattle.std.specs.Prelude.{◌≡◌, ◌<◌, ◌++◌, ◌∷◌, [], ℕ, List, All, None, Some, length};
 ghost use Rattle.fjall_base.specs.Pairs.{Bytes};
 ghost use Rattle.fjall_contents.specs.Contents.{Stored, store_held};
 ghost use Rattle.fjall_journal.specs.Batches.{Shown, shown};
 ghost use Rattle.fjall_journal.specs.Changes.{Emptied, Items, of_change};
 ghost use Rattle.fjall_journal.specs.Ops.{BatchItem, items_refusal};
-ghost use Rattle.fjall_tree.specs.Trees.{emptied, sealed_off};
+ghost use Rattle.fjall_tree.specs.Trees.{Shape, emptied, sealed_off};
 ghost use Rattle.fjall_trees.specs.MapTables.{store_with};
 ghost use Rattle.fjall_meta.specs.Keyspaces.{AreKeyspaces, Keyspaces, keyspace_at, with_keyspace, without_keyspace};
 ghost use Rattle.fjall_recovery.specs.Beside.{AreReplayedWith, IsUnstored, MayComeNext};
+ghost use Rattle.fjall_recovery.specs.Homes.{Homes};
+ghost use Rattle.fjall_recovery.specs.Journals.{WholeJournal};
+ghost use Rattle.fjall_recovery.specs.Parted.{AreLeftBy, count_changing, counts_beyond_homes};
 ghost use Rattle.fjall_table.specs.Blocks.{Entry};
-ghost use Rattle.fjall_trees.specs.Forests.{Forest, altered_at, without};
+ghost use Rattle.fjall_trees.specs.Forests.{Forest, altered_at, tree_at, without};
 ghost use Rattle.fjall_trees.specs.Tables.{AreSameTrees};
 ghost use Rattle.fjall_trees.specs.Writes.{pushed, with_tree};
 
@@ -20,6 +23,13 @@ ghost use Rattle.fjall_trees.specs.Writes.{pushed, with_tree};
 pub fn replayed_trees_beside_tables_show_the_store()
     ensures { (entries : ℕ → List (List Entry)) (s : Keyspaces) (stored : ℕ → Stored) (batches : List Shown) (trees : Forest) → AreReplayedWith entries s stored batches trees
         → store_with entries s trees ≡ store_held s stored batches }
+{}
+
+/// Where what trees have in memory is what journals left there, each tree has as many sealed memtables as there are sealed journals that
+/// have something of its keyspace beyond the keyspace's home.
+pub fn a_sealed_journal_leaves_one_memtable()
+    ensures { (s : Keyspaces) (homes : Homes) (journals : List WholeJournal) (trees : Forest) (id : ℕ) (shape : Shape) → AreLeftBy s homes journals trees → tree_at id trees ≡ Some shape
+        → length shape.memory.sealed ≡ count_changing (counts_beyond_homes s homes) id journals }
 {}
 
 /// A change that comes next is one batch more: trees that took it show what files hold and what all batches make with it. Its items

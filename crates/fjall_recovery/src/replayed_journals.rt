@@ -9,12 +9,13 @@ ghost use Rattle.fjall_memtable.specs.Parts.{holds_nothing};
 ghost use Rattle.fjall_recovery.specs.Beside.{AreEndedBy, AreReplayedWith, MayFollow, all_at_rest};
 ghost use Rattle.fjall_recovery.specs.Parted.{ActivesPass};
 ghost use Rattle.fjall_recovery.specs.Replayed.{AreTold, MayReplay, ids_of};
+ghost use Rattle.fjall_recovery.specs.Steps.{with_batches};
 ghost use Rattle.fjall_table.specs.Blocks.{Entry};
 ghost use Rattle.fjall_trees.specs.Forests.{AreBefore};
 ghost use Rattle.fjall_trees.specs.Sealing.{all_sealed, first_sealed};
 ghost use Rattle.fjall_trees.specs.Tables.{AreReadOn};
 ghost use Rattle.fjall_trees.specs.Views.{forest_of};
-ghost use Rattle.fjall_contents.specs.Replays.{first_fault, least_after};
+ghost use Rattle.fjall_contents.specs.Replays.{counts_unpersisted, first_fault, least_after};
 
 use crate::replaying::take;
 use fjall_base::{Error, Result};
@@ -39,6 +40,8 @@ pub fn replay_journal(
     ensures ok { (entries : ℕ → List (List Entry)) (stored : ℕ → Stored) (before : List Shown) → AreTold keyspaces.now stored persisted.now → AreWithin keyspaces.now stored
         → (least : ℕ) → first_fault least (before ++ map view batches.now) ≡ None → AreReplayedWith entries keyspaces.now stored before (forest_of trees.old)
         → OnOk result (AreReplayedWith entries keyspaces.now stored (before ++ map view batches.now) (forest_of trees.new)) }
+    // Each batch is taken by itself, in the batches' order.
+    ensures made { OnOk result (forest_of trees.new ≡ with_batches (counts_unpersisted keyspaces.now persisted.now) (map view batches.now) (forest_of trees.old)) }
     // Nothing of the trees changes but what is in their active memtables, which begin where they did.
     ensures rest { OnOk result (all_at_rest (forest_of trees.new) ≡ all_at_rest (forest_of trees.old)) }
     ensures ids { OnOk result (ids_of (forest_of trees.new) ≡ ids_of (forest_of trees.old)) }

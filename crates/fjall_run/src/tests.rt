@@ -2,7 +2,7 @@
 
 use fjall_base::Result as BaseResult;
 use fjall_memory::MemoryDisk;
-use fjall_script::{Command, Memory, Place, Status, run_memory, run_over};
+use fjall_script::{Command, Memory, Place, RecoveryMode, Status, run_memory, run_over};
 use std::alloc::Global;
 use std::io;
 use std::io::{Error, ErrorKind, Read, Write};
@@ -44,7 +44,13 @@ fn a_failing_input_is_told(rt: HostRuntime) {
     for calls in 0..3 {
         let mut output = Vec::new(alloc);
         let mut errors = Vec::new(alloc);
-        let status = run_memory(alloc, &mut Failing { calls }, &mut output, &mut errors);
+        let status = run_memory(
+            alloc,
+            RecoveryMode::default(),
+            &mut Failing { calls },
+            &mut output,
+            &mut errors,
+        );
         assert_eq!(rt;
             (status, output.as_slice(), errors.as_slice()),
             (Status::Failure, b"".as_slice(), b"error 1 Io\n".as_slice()),
@@ -57,7 +63,13 @@ fn a_failing_input_is_told(rt: HostRuntime) {
 fn ends_so(alloc: Global, calls: usize, want: Status, told: &str) -> bool {
     let mut input = b"persist\n".as_slice();
     let mut errors = Vec::new(alloc);
-    let status = run_memory(alloc, &mut input, &mut Failing { calls }, &mut errors);
+    let status = run_memory(
+        alloc,
+        RecoveryMode::default(),
+        &mut input,
+        &mut Failing { calls },
+        &mut errors,
+    );
     (status, errors.as_slice()) == (want, told.as_bytes())
 }
 
@@ -139,7 +151,8 @@ fn ran(
     let mut output = with_room(alloc, room);
     let mut errors = with_room(alloc, hearing);
     let place = Flawed { alloc, call };
-    let status = run_over(alloc, &place, &mut input, &mut output, &mut errors);
+    let mode = RecoveryMode::default();
+    let status = run_over(alloc, &place, mode, &mut input, &mut output, &mut errors);
     (status, output.taken, errors.taken)
 }
 

@@ -7,6 +7,7 @@ use Rattle.std.proofs.lemmas.Bool.{true≢false}
 use Rattle.std.proofs.lemmas.List.{append-nil}
 use Rattle.std.proofs.lemmas.List.Elements.{All-head, All-tail}
 use Rattle.std.proofs.lemmas.Fmt.{first_decimal, decimal_nonempty}
+use Rattle.fjall_journal.specs.declared.recovery_mode.RecoveryMode.{RecoveryMode}
 use Rattle.fjall_base.specs.declared.error.Error.{Error}
 use Rattle.fjall_base.specs.declared.error.Error.TheVariants.{Io}
 use Rattle.fjall_base.specs.Errors.{number_of, name_of}
@@ -487,27 +488,27 @@ AllZip-append (c ∷ a) b [] y h g = absurd h
 AllZip-append (c ∷ a) b (p ∷ x) y h g = (h.0, AllZip-append a b x y h.1 g)
 
 -- a crash or a reopening is answered by ok, which is no bad line
-ok_answer : (honest : Bool) (stop : Option Command) (old new : Held) → Restarts honest stop old new → IsAnswer stop ok_line
-ok_answer honest (Some (Crash keep)) old new h = record { said = refl; bad = λ e. absurd (ok_is_good e) }
-ok_answer honest (Some Reopen) old new h = record { said = refl; bad = λ e. absurd (ok_is_good e) }
-ok_answer honest (Some (Ask request)) old new h = absurd h
-ok_answer honest None old new h = absurd h
+ok_answer : (mode : RecoveryMode) (honest : Bool) (stop : Option Command) (old new : Held) → Restarts mode honest stop old new → IsAnswer stop ok_line
+ok_answer mode honest (Some (Crash keep)) old new h = record { said = refl; bad = λ e. absurd (ok_is_good e) }
+ok_answer mode honest (Some Reopen) old new h = record { said = refl; bad = λ e. absurd (ok_is_good e) }
+ok_answer mode honest (Some (Ask request)) old new h = absurd h
+ok_answer mode honest None old new h = absurd h
 
 -- the commands that a session has gone through have an answer each
-pub answered : (honest : Bool) (commands rest : List (Option Command)) (ran : Bool) (core : Held) (kept : Kept) (printed : List (List ℕ)) → Session honest commands ran core kept printed rest
+pub answered : (mode : RecoveryMode) (honest : Bool) (commands rest : List (Option Command)) (ran : Bool) (core : Held) (kept : Kept) (printed : List (List ℕ)) → Session mode honest commands ran core kept printed rest
     → (front : List (Option Command)) × (commands ≡ front ++ rest) × AllZip IsAnswer front printed
-answered honest commands _ _ _ _ _ (begun core h) = ([], refl, tt)
-answered honest commands _ _ _ _ _ (run old new before after printed lines rest made replies s alone stop are runs) =
-    let so_far = answered honest commands (lines ++ rest) false old before printed s in
+answered mode honest commands _ _ _ _ _ (begun core h) = ([], refl, tt)
+answered mode honest commands _ _ _ _ _ (run old new before after printed lines rest made replies s alone stop are runs) =
+    let so_far = answered mode honest commands (lines ++ rest) false old before printed s in
     let earlier = numbers_before commands (lines ++ rest) in
     let here = front_answers lines none_so_far earlier earlier [] made replies runs.made runs.told old new alone are runs.comes runs.owes in
     (so_far.0 ++ lines, so_far.1 ∙ sym (append_assoc so_far.0 lines rest), AllZip-append so_far.0 lines printed (answers_to earlier lines (counts_of made) replies) so_far.2 here)
-answered honest commands _ _ _ _ _ (restarted old new before printed stop rest s r) =
-    let so_far = answered honest commands (stop ∷ rest) true old before printed s in
-    (so_far.0 ++ stop ∷ [], so_far.1 ∙ sym (append_assoc so_far.0 (stop ∷ []) rest), AllZip-append so_far.0 (stop ∷ []) printed (ok_line ∷ []) so_far.2 (ok_answer honest stop old new r, tt))
+answered mode honest commands _ _ _ _ _ (restarted old new before printed stop rest s r) =
+    let so_far = answered mode honest commands (stop ∷ rest) true old before printed s in
+    (so_far.0 ++ stop ∷ [], so_far.1 ∙ sym (append_assoc so_far.0 (stop ∷ []) rest), AllZip-append so_far.0 (stop ∷ []) printed (ok_line ∷ []) so_far.2 (ok_answer mode honest stop old new r, tt))
 
-pub all_answered : (honest : Bool) (commands : List (Option Command)) (ran : Bool) (core : Held) (kept : Kept) (printed : List (List ℕ)) → Session honest commands ran core kept printed [] → AllZip IsAnswer commands printed
-all_answered honest commands ran core kept printed s =
-    let h = answered honest commands [] ran core kept printed s in
+pub all_answered : (mode : RecoveryMode) (honest : Bool) (commands : List (Option Command)) (ran : Bool) (core : Held) (kept : Kept) (printed : List (List ℕ)) → Session mode honest commands ran core kept printed [] → AllZip IsAnswer commands printed
+all_answered mode honest commands ran core kept printed s =
+    let h = answered mode honest commands [] ran core kept printed s in
     let same : commands ≡ h.0 = h.1 ∙ append-nil h.0 in
     rw same h.2

@@ -7,6 +7,7 @@ use Rattle.std.proofs.lemmas.List.Splits.{slice_split_at, slice_split_none}
 use Rattle.std.proofs.lemmas.Grind.{flat_map-append}
 use Rattle.std.specs.List.{slice_split}
 use Rattle.std.specs.Prelude.{All}
+use Rattle.fjall_journal.specs.declared.recovery_mode.RecoveryMode.{RecoveryMode}
 use Rattle.fjall_base.specs.Store.{Store, fold, kept}
 use Rattle.fjall_base.specs.Store as store
 use Rattle.fjall_base.specs.Crash.{crashed}
@@ -28,7 +29,7 @@ use Rattle.fjall_core.proofs.Lives.{lives_blame, lives_hold, lives_open}
 use Rattle.fjall_core.proofs.Reopening.{holds_store_amid}
 use Rattle.fjall_core.proofs.RunsOverCrashes.{no_run}
 use Rattle.fjall_transactions.specs.Standing.{StandFor}
-use Rattle.fjall_transactions.specs.Transactions.{Kept}
+use Rattle.fjall_transactions.specs.Transactions.{Kept, none_kept}
 use Rattle.fjall_transactions.proofs.Standing.{opening_stands}
 use Rattle.fjall_calls.specs.declared.call.TxCall.{TxCall}
 use Rattle.fjall_calls.specs.Steps.{NoCall}
@@ -39,7 +40,7 @@ use Rattle.fjall_lines.specs.declared.command.Command.TheVariants.{Ask, Crash, R
 use Rattle.fjall_lines.specs.declared.command.Request.{Request}
 use Rattle.fjall_script.specs.Answers.{bad_line, ok_line, reply_text, reply_to}
 use Rattle.fjall_script.specs.Lived.{AreServed, Asked, GoesThrough, HasLived, IsServed, made_of, replies_of, served_in, told_as, unasked}
-use Rattle.fjall_script.specs.Machine.{BeginsSession, ClosesCore, Crashes, OpenedOn, new_disk, none_kept}
+use Rattle.fjall_script.specs.Machine.{BeginsSession, ClosesCore, Crashes, OpenedOn, new_disk}
 use Rattle.fjall_script.specs.Requests.{AreCalls, AreCallsBehind, SoFar, all_calls, asked_with, asks_number, behind, counts_of, is_stop, none_so_far, request_of, requests_of, numbers_before, numbers_in}
 use Rattle.fjall_script.specs.Sessions as sessions
 use Rattle.fjall_script.specs.Sessions.{Restarts, Session, answers_to}
@@ -298,8 +299,8 @@ record LivedSo (commands rest : List (Option Command)) (ran : Bool) (printed : L
 start_holds : HoldsAmid (state_in new_disk) (bare no_keyspaces) []
 start_holds = holds_store_amid (state_in new_disk) (bare no_keyspaces) bare_holds
 
-begins_so : (commands : List (Option Command)) (core : Held) → BeginsSession true core → LivedSo commands commands false [] core none_kept
-begins_so commands core h =
+begins_so : (mode : RecoveryMode) (commands : List (Option Command)) (core : Held) → BeginsSession mode true core → LivedSo commands commands false [] core none_kept
+begins_so mode commands core h =
     let same = h.fresh refl in
     let opened = h.opened.amid refl (bare no_keyspaces) [] (subst (λ (m : Meaning). HoldsAmid (state_in m) (bare no_keyspaces) []) (sym same) start_holds) in
     let store = kept (fold (bare no_keyspaces) opened.front) in
@@ -391,10 +392,10 @@ abbrev life_of : (commands rest : List (Option Command)) (printed : List (List �
 life_of commands rest printed old beside s synced = record { calls = s.calls; replies = s.replies; tried = s.run.tried; synced = synced }
 
 -- one life more, of a core that ended so, and another opened on what it left
-again : (commands : List (Option Command)) (stop : Option Command) (rest : List (Option Command)) (printed : List (List ℕ)) (old new : Held) (beside : Kept) (s : LivedSo commands (stop ∷ rest) true printed old beside) → is_stop stop ≡ true
+again : (mode : RecoveryMode) (commands : List (Option Command)) (stop : Option Command) (rest : List (Option Command)) (printed : List (List ℕ)) (old new : Held) (beside : Kept) (s : LivedSo commands (stop ∷ rest) true printed old beside) → is_stop stop ≡ true
     → (synced : List store.Command) (end : DiskState) (next : Store) (waits : List store.Command) → Ended s.first old (kept (fold s.base s.opened.front)) s.calls s.replies s.opened.opens s.run synced end next waits
-    → (disk : Meaning) → state_in disk ≡ end → OpenedOn true disk new → LivedSo commands rest false (printed ++ ok_line ∷ []) new none_kept
-again commands stop rest printed old new beside s stops synced end next waits ended disk same o =
+    → (disk : Meaning) → state_in disk ≡ end → OpenedOn mode true disk new → LivedSo commands rest false (printed ++ ok_line ∷ []) new none_kept
+again mode commands stop rest printed old new beside s stops synced end next waits ended disk same o =
     let life = life_of commands (stop ∷ rest) printed old beside s synced in
     let lives = s.lives ++ life ∷ [] in
     let one = OneMore s.lives life s.disk s.base s.pending end next waits s.before (Opened s.first old s.calls s.replies synced end next waits s.opened s.run ended) in
@@ -448,44 +449,44 @@ again commands stop rest printed old new beside s stops synced end next waits en
     ok_said earlier (Some (Ask request)) is = absurd (true≢false (sym is))
 
 -- a reopening, whether the closing was refused or not
-reopened : (commands rest : List (Option Command)) (printed : List (List ℕ)) (old new : Held) (beside : Kept) (s : LivedSo commands (Some Reopen ∷ rest) true printed old beside) (closing : Result Unit Error) (closed : Meaning) → ClosesCore true old closing closed → (disk : Meaning) → disk ≡ closed
-    → OpenedOn true disk new → LivedSo commands rest false (printed ++ ok_line ∷ []) new none_kept
-reopened commands rest printed old new beside s (Ok _) closed closes disk same o =
-    again commands (Some Reopen) rest printed old new beside s refl s.run.tried (state_in closed) (kept (present s.run.state)) [] (Closed closed closes.owes (closes.safe refl)) disk (ap state_in same) o
-reopened commands rest printed old new beside s (Err error) closed closes disk same o =
+reopened : (mode : RecoveryMode) (commands rest : List (Option Command)) (printed : List (List ℕ)) (old new : Held) (beside : Kept) (s : LivedSo commands (Some Reopen ∷ rest) true printed old beside) (closing : Result Unit Error) (closed : Meaning) → ClosesCore true old closing closed → (disk : Meaning) → disk ≡ closed
+    → OpenedOn mode true disk new → LivedSo commands rest false (printed ++ ok_line ∷ []) new none_kept
+reopened mode commands rest printed old new beside s (Ok _) closed closes disk same o =
+    again mode commands (Some Reopen) rest printed old new beside s refl s.run.tried (state_in closed) (kept (present s.run.state)) [] (Closed closed closes.owes (closes.safe refl)) disk (ap state_in same) o
+reopened mode commands rest printed old new beside s (Err error) closed closes disk same o =
     let last = a_last_sync s.first old (kept (fold s.base s.opened.front)) s.calls s.replies s.opened.opens s.run in
     let safely = closes.safe refl in
     let after = (safely s.run.state s.run.durable s.run.stands s.run.reads s.run.on).after in
-    again commands (Some Reopen) rest printed old new beside s refl last.0 (state_in closed) after.base after.pending (Unclosed last.0 error closed last.1 safely) disk (ap state_in same) o
+    again mode commands (Some Reopen) rest printed old new beside s refl last.0 (state_in closed) after.base after.pending (Unclosed last.0 error closed last.1 safely) disk (ap state_in same) o
 
 -- what a crash leaves
-crashes : (commands rest : List (Option Command)) (printed : List (List ℕ)) (old new : Held) (beside : Kept) (keep : ℕ) (s : LivedSo commands (Some (Crash keep) ∷ rest) true printed old beside) → Crashes true keep old new → LivedSo commands rest false (printed ++ ok_line ∷ []) new none_kept
-crashes commands rest printed old new beside keep s h =
+crashes : (mode : RecoveryMode) (commands rest : List (Option Command)) (printed : List (List ℕ)) (old new : Held) (beside : Kept) (keep : ℕ) (s : LivedSo commands (Some (Crash keep) ∷ rest) true printed old beside) → Crashes mode true keep old new → LivedSo commands rest false (printed ++ ok_line ∷ []) new none_kept
+crashes mode commands rest printed old new beside keep s h =
     let d = s.run.durable in
     let image = crashed keep (state_in old.disk) in
     let is = h.image refl in
     let last = a_last_sync s.first old (kept (fold s.base s.opened.front)) s.calls s.replies s.opened.opens s.run in
     let amid = s.run.on.rests image (subst (λ (m : Meaning). IsImage (state_in m) image) (sym s.run.on.same) is) in
     let left = kept (fold d.base amid.front) in
-    again commands (Some (Crash keep)) rest printed old new beside s refl last.0 (disk_of image) left [] (CutBehind last.0 image left last.1 is amid.stands) h.disk (h.left refl) h.opened
+    again mode commands (Some (Crash keep)) rest printed old new beside s refl last.0 (disk_of image) left [] (CutBehind last.0 image left last.1 is amid.stands) h.disk (h.left refl) h.opened
 
-restarts : (stop : Option Command) (commands rest : List (Option Command)) (printed : List (List ℕ)) (old new : Held) (beside : Kept) → LivedSo commands (stop ∷ rest) true printed old beside → Restarts true stop old new → LivedSo commands rest false (printed ++ ok_line ∷ []) new none_kept
-restarts (Some (Crash keep)) commands rest printed old new beside s h = crashes commands rest printed old new beside keep s h
-restarts (Some Reopen) commands rest printed old new beside s h = reopened commands rest printed old new beside s h.closing h.closed h.closes h.disk (h.same refl) h.opened
-restarts None commands rest printed old new beside s h = absurd h
-restarts (Some (Ask request)) commands rest printed old new beside s h = absurd h
+restarts : (mode : RecoveryMode) (stop : Option Command) (commands rest : List (Option Command)) (printed : List (List ℕ)) (old new : Held) (beside : Kept) → LivedSo commands (stop ∷ rest) true printed old beside → Restarts mode true stop old new → LivedSo commands rest false (printed ++ ok_line ∷ []) new none_kept
+restarts mode (Some (Crash keep)) commands rest printed old new beside s h = crashes mode commands rest printed old new beside keep s h
+restarts mode (Some Reopen) commands rest printed old new beside s h = reopened mode commands rest printed old new beside s h.closing h.closed h.closes h.disk (h.same refl) h.opened
+restarts mode None commands rest printed old new beside s h = absurd h
+restarts mode (Some (Ask request)) commands rest printed old new beside s h = absurd h
 
 -- ---- a session
 
-lived_so : (commands rest : List (Option Command)) (ran : Bool) (core : Held) (beside : Kept) (printed : List (List ℕ)) → Session true commands ran core beside printed rest → LivedSo commands rest ran printed core beside
-lived_so commands _ _ _ _ _ (sessions.begun core h) = begins_so commands core h
-lived_so commands _ _ _ _ _ (sessions.run old new before after printed lines rest made replies s alone stop are ran) =
-    runs commands lines rest old new before after printed made replies (lived_so commands (lines ++ rest) false old before printed s) alone are ran
-lived_so commands _ _ _ _ _ (sessions.restarted old new before printed stop rest s h) = restarts stop commands rest printed old new before (lived_so commands (stop ∷ rest) true old before printed s) h
+lived_so : (mode : RecoveryMode) (commands rest : List (Option Command)) (ran : Bool) (core : Held) (beside : Kept) (printed : List (List ℕ)) → Session mode true commands ran core beside printed rest → LivedSo commands rest ran printed core beside
+lived_so mode commands _ _ _ _ _ (sessions.begun core h) = begins_so mode commands core h
+lived_so mode commands _ _ _ _ _ (sessions.run old new before after printed lines rest made replies s alone stop are ran) =
+    runs commands lines rest old new before after printed made replies (lived_so mode commands (lines ++ rest) false old before printed s) alone are ran
+lived_so mode commands _ _ _ _ _ (sessions.restarted old new before printed stop rest s h) = restarts mode stop commands rest printed old new before (lived_so mode commands (stop ∷ rest) true old before printed s) h
 
-has_lived : (commands rest : List (Option Command)) (ran : Bool) (core : Held) (beside : Kept) (printed : List (List ℕ)) → Session true commands ran core beside printed rest → HasLived commands rest printed core beside
-has_lived commands rest ran core beside printed session =
-    let s = lived_so commands rest ran core beside printed session in
+has_lived : (mode : RecoveryMode) (commands rest : List (Option Command)) (ran : Bool) (core : Held) (beside : Kept) (printed : List (List ℕ)) → Session mode true commands ran core beside printed rest → HasLived commands rest printed core beside
+has_lived mode commands rest ran core beside printed session =
+    let s = lived_so mode commands rest ran core beside printed session in
     let behind = lives_open (state_in new_disk) (bare no_keyspaces) s.lives s.disk s.base s.pending s.first start_holds s.before s.opened in
     record {
       front = s.front;
@@ -512,7 +513,7 @@ has_lived commands rest ran core beside printed session =
     }
 
 -- over a disk that returns what it holds
-pub session_lived : (honest : Bool) (commands rest : List (Option Command)) (ran : Bool) (core : Held) (beside : Kept) (printed : List (List ℕ)) → Session honest commands ran core beside printed rest → IsTrue honest
+pub session_lived : (mode : RecoveryMode) (honest : Bool) (commands rest : List (Option Command)) (ran : Bool) (core : Held) (beside : Kept) (printed : List (List ℕ)) → Session mode honest commands ran core beside printed rest → IsTrue honest
     → HasLived commands rest printed core beside
-session_lived true commands rest ran core beside printed s h = has_lived commands rest ran core beside printed s
-session_lived false commands rest ran core beside printed s h = absurd (true≢false (sym h))
+session_lived mode true commands rest ran core beside printed s h = has_lived mode commands rest ran core beside printed s
+session_lived mode false commands rest ran core beside printed s h = absurd (true≢false (sym h))

@@ -1,6 +1,7 @@
 -- A core that a session begins with.
 use Rattle.std.proofs.Common.{Bool, false, IsTrue, [], None, Result, Ok, Err, refl, subst, sym, inr}
 use Rattle.std.specs.Prelude.{IfErr, IfOk}
+use Rattle.fjall_journal.specs.declared.recovery_mode.RecoveryMode.{RecoveryMode}
 use Rattle.fjall_base.specs.Disk.{DiskState, Meaning, Missing, standing, state_in}
 use Rattle.fjall_base.specs.declared.error.Error.{Error}
 use Rattle.fjall_meta.specs.Keyspaces.{no_keyspaces}
@@ -35,16 +36,17 @@ bare_holds = (
 new_holds : (disk : Meaning) → IsNew disk → HoldsStore (state_in disk) (bare no_keyspaces)
 new_holds disk new = subst (λ (d : Meaning). HoldsStore (state_in d) (bare no_keyspaces)) (sym new) bare_holds
 
-pub begun : (honest : Bool) (disk : Meaning) (r : Result Held Error) → (IsTrue honest → IsNew disk) → IfOk r (λ core. OpenedOn honest disk core) → IfOk r (λ core. BeginsSession honest core)
-begun honest disk (Ok core) fresh opened = record {
+pub begun : {Opened : Type 0} (mode : RecoveryMode) (honest : Bool) (disk : Meaning) (r : Result Opened Error) (engine : Opened → Held) → (IsTrue honest → IsNew disk)
+    → IfOk r (λ core. OpenedOn mode honest disk (engine core)) → IfOk r (λ core. BeginsSession mode honest (engine core))
+begun mode honest disk (Ok core) engine fresh opened = record {
   disk = disk;
   fresh = fresh;
   opened = opened;
   empty = λ h. opened.safe h (bare no_keyspaces) (new_holds disk (fresh h));
 }
-begun honest disk (Err error) fresh opened = tt
+begun mode honest disk (Err error) engine fresh opened = tt
 
 -- the opening was refused
-pub not_begun : (honest : Bool) (disk : Meaning) (r : Result Held Error) → (IsTrue honest → IsNew disk) → IfErr r (λ error. RefusedOn honest disk error) → IfErr r (λ error. NotBegun honest error)
-not_begun honest disk (Ok core) fresh h = tt
-not_begun honest disk (Err error) fresh h = inr (disk, fresh, h)
+pub not_begun : {Opened : Type 0} (mode : RecoveryMode) (honest : Bool) (disk : Meaning) (r : Result Opened Error) → (IsTrue honest → IsNew disk) → IfErr r (λ error. RefusedOn mode honest disk error) → IfErr r (λ error. NotBegun mode honest error)
+not_begun mode honest disk (Ok core) fresh h = tt
+not_begun mode honest disk (Err error) fresh h = inr (disk, fresh, h)

@@ -20,7 +20,7 @@ refusal_line error = refusal_text error ++ 10 ∷ []
 
 -- the line that wrong arguments are answered
 abbrev pub usage_line : List ℕ
-usage_line = codes "usage: fjall-run memory|FOLDER" ++ 10 ∷ []
+usage_line = codes "usage: fjall-run memory|FOLDER [strict]" ++ 10 ∷ []
 
 -- a pair: the key, an equals sign and the value
 abbrev pub pair_word : Bytes × Bytes → List ℕ

@@ -1,12 +1,13 @@
 -- What a session prints: the answers to its commands, in turn.
 use Rattle.std.specs.Prelude.{◌≡◌, ℕ, ◌+◌, Bool, true, false, List, [], ◌∷◌, ◌++◌, take, drop, Option, Some, None, Result, Err, IsTrue, All, ◌⊎◌}
 use Rattle.std.specs.Io.KnownBytes.{Appends, Keeps}
+use Rattle.fjall_journal.specs.declared.recovery_mode.RecoveryMode.{RecoveryMode}
 use Rattle.fjall_base.specs.Crash.{crashed}
 use Rattle.fjall_base.specs.Disk.{Meaning, IsImage, disk_of, state_in}
 use Rattle.fjall_base.specs.declared.error.Error.{Error}
 use Rattle.fjall_base.specs.declared.error.Error.TheVariants.{OutOfMemory}
 use Rattle.fjall_core.specs.Holding.{Held}
-use Rattle.fjall_transactions.specs.Transactions.{Kept}
+use Rattle.fjall_transactions.specs.Transactions.{Kept, none_kept}
 use Rattle.fjall_calls.specs.declared.call.TxCall.{TxCall}
 use Rattle.fjall_calls.specs.Serving.{RunsTx}
 use Rattle.fjall_history.specs.declared.reply.Reply.{Reply}
@@ -18,7 +19,7 @@ use Rattle.fjall_lines.specs.declared.command.Request.TheVariants.{Keyspace, Del
 use Rattle.fjall_script.specs.Answers.{reply_text, reply_to, bad_line, ok_line, text_of}
 use Rattle.fjall_script.specs.Outputs.{AppendsFront, IsIo}
 use Rattle.fjall_script.specs.Requests.{AreCalls, all_calls, asked_with, counts_of, is_stop, numbers_before, numbers_in}
-use Rattle.fjall_script.specs.Machine.{BeginsSession, ClosesCore, Crashes, IsNoDisk, RefusedOn, Reopens, IsClosed, none_kept}
+use Rattle.fjall_script.specs.Machine.{BeginsSession, ClosesCore, Crashes, IsNoDisk, RefusedOn, Reopens, IsClosed}
 
 -- The answers to lines by the replies to their calls, in turn, so many to each request, where so many numbers were asked for before: ok
 -- for a crash and a reopening, and a line that is no command has an answer of its own.
@@ -89,10 +90,10 @@ RestartLeaves (Some (Crash keep)) old new = IsImage (state_in old) (crashed keep
 RestartLeaves stop old new = new ≡ old
 
 -- the line opens the core again, after a crash or not
-abbrev pub Restarts : Bool → Option Command → Held → Held → Type 0
-Restarts honest (Some (Crash keep)) old new = Crashes honest keep old new
-Restarts honest (Some Reopen) old new = Reopens honest old new
-Restarts honest found old new = ⊥
+abbrev pub Restarts : RecoveryMode → Bool → Option Command → Held → Held → Type 0
+Restarts mode honest (Some (Crash keep)) old new = Crashes mode honest keep old new
+Restarts mode honest (Some Reopen) old new = Reopens mode honest old new
+Restarts mode honest found old new = ⊥
 
 -- what such a line opens the core on: what the crash leaves, or the disk of the old core, which was closed, with success or not
 abbrev pub OpensAgain : Bool → Option Command → Held → Meaning → Type 0
@@ -101,53 +102,53 @@ OpensAgain honest (Some Reopen) old disk = (closing : Result Unit Error) × (clo
 OpensAgain honest found old disk = ⊥
 
 -- the opening of such a line was refused
-abbrev pub NotRestarted : Bool → Option Command → Held → Error → Type 0
-NotRestarted honest stop old error = IsNoDisk honest error ⊎ ((disk : Meaning) × OpensAgain honest stop old disk × RefusedOn honest disk error)
+abbrev pub NotRestarted : RecoveryMode → Bool → Option Command → Held → Error → Type 0
+NotRestarted mode honest stop old error = IsNoDisk honest error ⊎ ((disk : Meaning) × OpensAgain honest stop old disk × RefusedOn mode honest disk error)
 
 -- A session of these commands: whether the calls up to the next crash or reopening have run, the core as it stands and what is kept
 -- beside it, what was printed so far, and the commands to come. The calls up to a crash, a reopening or the end are one run. Each core
 -- that opens begins without transactions.
-pub data Session (honest : Bool) (commands : List (Option Command)) : Bool → Held → Kept → List (List ℕ) → List (Option Command) → Type 0 where
-  begun : (core : Held) → BeginsSession honest core → Session honest commands false core none_kept [] commands
+pub data Session (mode : RecoveryMode) (honest : Bool) (commands : List (Option Command)) : Bool → Held → Kept → List (List ℕ) → List (Option Command) → Type 0 where
+  begun : (core : Held) → BeginsSession mode honest core → Session mode honest commands false core none_kept [] commands
   run : (old new : Held) (before after : Kept) (printed : List (List ℕ)) (lines rest : List (Option Command)) (made : List (List TxCall)) (replies : List Reply)
-      → Session honest commands false old before printed (lines ++ rest) → All (λ found. is_stop found ≡ false) lines → IsAtStop rest
+      → Session mode honest commands false old before printed (lines ++ rest) → All (λ found. is_stop found ≡ false) lines → IsAtStop rest
       → AreCalls (numbers_before commands (lines ++ rest)) lines made → RunsTx honest old before (all_calls made) replies new after
-      → Session honest commands true new after (printed ++ answers_to (numbers_before commands (lines ++ rest)) lines (counts_of made) replies) rest
+      → Session mode honest commands true new after (printed ++ answers_to (numbers_before commands (lines ++ rest)) lines (counts_of made) replies) rest
   restarted : (old new : Held) (before : Kept) (printed : List (List ℕ)) (stop : Option Command) (rest : List (Option Command))
-      → Session honest commands true old before printed (stop ∷ rest) → Restarts honest stop old new
-      → Session honest commands false new none_kept (printed ++ ok_line ∷ []) rest
+      → Session mode honest commands true old before printed (stop ∷ rest) → Restarts mode honest stop old new
+      → Session mode honest commands false new none_kept (printed ++ ok_line ∷ []) rest
 
 -- How a session fails, with its core as it stands and these commands to come: memory ran out for a list of calls as a whole or
 -- for an answer, the opening of a crash or a reopening was refused, or the closing at the end.
-pub data SessionFails (honest : Bool) (core : Held) : Bool → List (Option Command) → Error → Type 0 where
-  no_memory : (ran : Bool) (rest : List (Option Command)) → SessionFails honest core ran rest OutOfMemory
-  not_restarted : (stop : Option Command) (rest : List (Option Command)) (error : Error) → is_stop stop ≡ true → NotRestarted honest stop core error
-      → SessionFails honest core true (stop ∷ rest) error
-  not_closed : (error : Error) (disk : Meaning) → ClosesCore honest core (Err error) disk → SessionFails honest core true [] error
+pub data SessionFails (mode : RecoveryMode) (honest : Bool) (core : Held) : Bool → List (Option Command) → Error → Type 0 where
+  no_memory : (ran : Bool) (rest : List (Option Command)) → SessionFails mode honest core ran rest OutOfMemory
+  not_restarted : (stop : Option Command) (rest : List (Option Command)) (error : Error) → is_stop stop ≡ true → NotRestarted mode honest stop core error
+      → SessionFails mode honest core true (stop ∷ rest) error
+  not_closed : (error : Error) (disk : Meaning) → ClosesCore honest core (Err error) disk → SessionFails mode honest core true [] error
 
 -- all commands were answered, what was printed was written, and then the core was closed
-pub record PrintsAll (honest : Bool) (commands : List (Option Command)) (old new : Option (List ℕ)) : Type 0 where
+pub record PrintsAll (mode : RecoveryMode) (honest : Bool) (commands : List (Option Command)) (old new : Option (List ℕ)) : Type 0 where
   pub core : Held
   pub kept : Kept
   pub printed : List (List ℕ)
-  pub session : Session honest commands true core kept printed []
+  pub session : Session mode honest commands true core kept printed []
   pub closed : IsClosed honest core
   pub appends : Appends old new (text_of printed)
 
 -- A session of these commands came so far, and was ended by a refusal: it failed, and all that was printed before was written;
 -- or the output failed, and a beginning of it was.
-pub data EndsBy (honest : Bool) (core : Held) (ran : Bool) (rest : List (Option Command)) (printed : List (List ℕ)) (old new : Option (List ℕ)) : Error → Type 0 where
-  failed : (error : Error) → SessionFails honest core ran rest error → Appends old new (text_of printed) → EndsBy honest core ran rest printed old new error
-  unwritten : (error : Error) → IsIo error → AppendsFront old new (text_of printed) → EndsBy honest core ran rest printed old new error
+pub data EndsBy (mode : RecoveryMode) (honest : Bool) (core : Held) (ran : Bool) (rest : List (Option Command)) (printed : List (List ℕ)) (old new : Option (List ℕ)) : Error → Type 0 where
+  failed : (error : Error) → SessionFails mode honest core ran rest error → Appends old new (text_of printed) → EndsBy mode honest core ran rest printed old new error
+  unwritten : (error : Error) → IsIo error → AppendsFront old new (text_of printed) → EndsBy mode honest core ran rest printed old new error
 
-pub record PrintsUntil (honest : Bool) (commands : List (Option Command)) (error : Error) (old new : Option (List ℕ)) : Type 0 where
+pub record PrintsUntil (mode : RecoveryMode) (honest : Bool) (commands : List (Option Command)) (error : Error) (old new : Option (List ℕ)) : Type 0 where
   pub ran : Bool
   pub core : Held
   pub kept : Kept
   pub printed : List (List ℕ)
   pub rest : List (Option Command)
-  pub session : Session honest commands ran core kept printed rest
-  pub ends : EndsBy honest core ran rest printed old new error
+  pub session : Session mode honest commands ran core kept printed rest
+  pub ends : EndsBy mode honest core ran rest printed old new error
 
 -- The calls before the first crash or reopening were one run, where so many numbers were asked for before.
 pub record RunsLines (honest : Bool) (earlier : ℕ) (commands rest : List (Option Command)) (core : Held) (kept : Kept) (after : Held) (left : Kept) (printed : List (List ℕ)) : Type 0 where

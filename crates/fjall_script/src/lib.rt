@@ -8,6 +8,7 @@ mod place;
 mod program;
 mod session;
 
+pub use fjall_journal::RecoveryMode;
 pub use fjall_lines::Command;
 pub use place::{Folder, Memory, Place};
 pub use program::{Status, fail, run, run_folder, run_memory, run_over, usage};

@@ -2,6 +2,7 @@
 
 ghost use Rattle.std.specs.Prelude.{◌≡◌, ◌<◌, ◌+◌, ◌^◌, true, IfErr, IfOk, IsOkUnless, OnOk, drop, length, string_bytes, take};
 ghost use Rattle.std.specs.List.{position};
+ghost use Rattle.fjall_transactions.specs.Transactions.{none_kept};
 ghost use Rattle.fjall_script.specs.Answers.{text_of};
 ghost use Rattle.fjall_script.specs.Machine.{BeginsSession, NotBegun, OpenedOn, RefusedOn};
 ghost use Rattle.fjall_script.specs.Requests.{is_stop};
@@ -13,9 +14,10 @@ use crate::output::write_text;
 use crate::place::Place;
 use fjall_base::{Disk, Error, Result};
 use fjall_calls::run;
-use fjall_core::{Config, Core, Reply};
+use fjall_core::{Config, Reply};
+use fjall_journal::RecoveryMode;
 use fjall_lines::Command;
-use fjall_transactions::Transactions;
+use fjall_transactions::Core;
 use std::alloc::{AllocError, Global};
 use std::io::Write;
 
@@ -83,18 +85,17 @@ fn answers_to(
 fn answer_front<'a, D: Disk>(
     alloc: Global,
     core: &mut Core<D>,
-    transactions: &mut Transactions,
     commands: &'a [Option<Command>],
     earlier: usize,
 ) -> Result<(&'a [Option<Command>], String, usize)>
     requires { earlier + length commands.now < 2 ^ 63 }
-    ensures ok { IfOk result (λ front. AnsweredFront D.honest earlier commands.now front.0.now core.old transactions.old core.new transactions.new (string_bytes front.1) front.2) }
+    ensures ok { IfOk result (λ front. AnsweredFront D.honest earlier commands.now front.0.now core.old.engine core.old.transactions core.new.engine core.new.transactions (string_bytes front.1) front.2) }
     ensures only { IsOkUnless result Error.OutOfMemory }
 {
     let end = first_stop(commands).unwrap_or(commands.len());
     let (front, rest) = commands.split_at(end);
     let LineCalls { calls, counts, .. } = LineCalls::of_lines(alloc, front, earlier)?;
-    let replies = run(alloc, core, transactions, calls)?;
+    let replies = run(alloc, core, calls)?;
     let text = answers_to(alloc, front, counts.as_slice(), replies.as_slice(), earlier)?;
     Ok((rest, text, asked_in(earlier, front)))
 }
@@ -104,25 +105,25 @@ fn answer_front<'a, D: Disk>(
 fn run_front<'a, D: Disk, W: Write>(
     alloc: Global,
     core: &mut Core<D>,
-    transactions: &mut Transactions,
     commands: &'a [Option<Command>],
     earlier: usize,
     output: &mut W,
 ) -> Result<(&'a [Option<Command>], usize)>
     requires { earlier + length commands.now < 2 ^ 63 }
-    ensures ok { IfOk result (λ front. RunsFront D.honest earlier commands.now front.0.now core.old transactions.old core.new transactions.new
+    ensures ok { IfOk result (λ front. RunsFront D.honest earlier commands.now front.0.now core.old.engine core.old.transactions core.new.engine core.new.transactions
         (W.contents output.old) (W.contents output.new) front.1) }
-    ensures err { IfErr result (FrontFails D.honest earlier commands.now core.old transactions.old core.new transactions.new
+    ensures err { IfErr result (FrontFails D.honest earlier commands.now core.old.engine core.old.transactions core.new.engine core.new.transactions
         (W.contents output.old) (W.contents output.new)) }
 {
-    let (rest, text, asked) = answer_front(alloc, core, transactions, commands, earlier)?;
+    let (rest, text, asked) = answer_front(alloc, core, commands, earlier)?;
     write_text(text.as_bytes(), output)?;
     Ok((rest, asked))
 }
 
 fn opened<D: Disk + Drop>(alloc: Global, config: Config, disk: D) -> Result<Core<D>>
-    ensures ok { IfOk result (λ core. OpenedOn D.honest (D.meaning disk) core) }
-    ensures err { IfErr result (RefusedOn D.honest (D.meaning disk)) }
+    ensures ok { IfOk result (λ core. OpenedOn config.journal_recovery_mode D.honest (D.meaning disk) core.engine) }
+    ensures none { IfOk result (λ core. core.transactions ≡ none_kept) }
+    ensures err { IfErr result (RefusedOn config.journal_recovery_mode D.honest (D.meaning disk)) }
 {
     match Core::open(alloc, config, disk) {
         Ok(core) => Ok(core),
@@ -131,61 +132,61 @@ fn opened<D: Disk + Drop>(alloc: Global, config: Config, disk: D) -> Result<Core
 }
 
 /// The core that a session begins with, on the disk of a place.
-pub(crate) fn begun<P: Place>(alloc: Global, place: &P) -> Result<Core<P::Disk>>
-    ensures ok { IfOk result (λ core. BeginsSession P.Disk.honest core) }
-    ensures err { IfErr result (NotBegun P.Disk.honest) }
+pub(crate) fn begun<P: Place>(alloc: Global, place: &P, mode: RecoveryMode) -> Result<Core<P::Disk>>
+    ensures ok { IfOk result (λ core. BeginsSession mode P.Disk.honest core.engine) }
+    ensures none { IfOk result (λ core. core.transactions ≡ none_kept) }
+    ensures err { IfErr result (NotBegun mode P.Disk.honest) }
 {
-    opened(alloc, Config::new(alloc, "")?, place.disk()?)
+    let mut config = Config::new(alloc, "")?;
+    config.journal_recovery_mode = mode;
+    opened(alloc, config, place.disk()?)
 }
 
 // The core after a crash or a reopening. That the closing is refused does not matter.
 fn restarted<P: Place>(
     alloc: Global,
     place: &P,
+    mode: RecoveryMode,
     core: Core<P::Disk>,
     stop: &Option<Command>,
 ) -> Result<Core<P::Disk>>
     requires { is_stop stop.now ≡ true }
-    ensures ok { IfOk result (λ after. Restarts P.Disk.honest stop.now core after) }
-    ensures err { IfErr result (NotRestarted P.Disk.honest stop.now core) }
+    ensures ok { IfOk result (λ after. Restarts mode P.Disk.honest stop.now core.engine after.engine) }
+    ensures none { IfOk result (λ after. after.transactions ≡ none_kept) }
+    ensures err { IfErr result (NotRestarted mode P.Disk.honest stop.now core.engine) }
 {
     let disk = match stop {
         Some(Command::Crash(_)) => core.into_disk(),
         _ => core.close().0,
     };
-    opened(alloc, Config::new(alloc, "")?, place.restart(disk, stop)?)
+    let mut config = Config::new(alloc, "")?;
+    config.journal_recovery_mode = mode;
+    opened(alloc, config, place.restart(disk, stop)?)
 }
 
 /// Runs commands over a core that was opened on the disk of a place, and prints a line for each. The calls up to a crash, a
-/// reopening or the end are one list, whose answers are written as soon as it has run. Each core that opens begins without
-/// transactions. A list of calls that is refused as a whole, an opening that is refused, an output that fails and a refused
+/// reopening or the end are one list, whose answers are written as soon as it has run. Each core opens in this mode, and begins
+/// without transactions. A list of calls that is refused as a whole, an opening that is refused, an output that fails and a refused
 /// closing at the end end it.
 pub(crate) fn run_session<P: Place, W: Write>(
     alloc: Global,
     place: &P,
+    mode: RecoveryMode,
     core: Core<P::Disk>,
     commands: &[Option<Command>],
     output: &mut W,
 ) -> Result<()>
-    requires { BeginsSession P.Disk.honest core }
-    ensures ok { OnOk result (PrintsAll P.Disk.honest commands.now (W.contents output.old) (W.contents output.new)) }
-    ensures err { IfErr result (λ error. PrintsUntil P.Disk.honest commands.now error (W.contents output.old) (W.contents output.new)) }
+    requires begins { BeginsSession mode P.Disk.honest core.engine }
+    requires none { core.transactions ≡ none_kept }
+    ensures ok { OnOk result (PrintsAll mode P.Disk.honest commands.now (W.contents output.old) (W.contents output.new)) }
+    ensures err { IfErr result (λ error. PrintsUntil mode P.Disk.honest commands.now error (W.contents output.old) (W.contents output.new)) }
 {
     let mut core = core;
-    let mut transactions = Transactions::new(alloc);
-    let (mut rest, mut asked) = run_front(
-        alloc,
-        &mut core,
-        &mut transactions,
-        commands,
-        0,
-        output,
-    )?;
+    let (mut rest, mut asked) = run_front(alloc, &mut core, commands, 0, output)?;
     while let Some((stop, after)) = rest.split_first() {
-        core = restarted(alloc, place, core, stop)?;
-        transactions = Transactions::new(alloc);
+        core = restarted(alloc, place, mode, core, stop)?;
         write_text(b"ok\n", output)?;
-        (rest, asked) = run_front(alloc, &mut core, &mut transactions, after, asked, output)?;
+        (rest, asked) = run_front(alloc, &mut core, after, asked, output)?;
     }
     core.close().1
 }

@@ -5,7 +5,7 @@ use crate::calls::read_page;
 use crate::list::Wording;
 use crate::session::Session;
 use fjall_base::Result;
-use fjall_core::{Core, Reply, Ticket, View, pairs_reply, reply_of, value_reply};
+use fjall_core::{Engine, Reply, Ticket, View, pairs_reply, reply_of, value_reply};
 use fjall_recorder::{Handle, LineError, Parsed, bytes, number, size};
 use std::alloc::Global;
 
@@ -17,7 +17,7 @@ fn ticket_reply(opened: Result<Ticket>) -> Reply {
 }
 
 // A page of a snapshot.
-fn page(alloc: Global, core: &mut Core<Handle>, view: View, words: &[&str]) -> Parsed<Reply> {
+fn page(alloc: Global, core: &mut Engine<Handle>, view: View, words: &[&str]) -> Parsed<Reply> {
     let page = read_page(alloc, words)?;
     Ok(pairs_reply(core.page_at(view, page.id, &page.range, page.is_back, page.max)))
 }
@@ -25,7 +25,7 @@ fn page(alloc: Global, core: &mut Core<Handle>, view: View, words: &[&str]) -> P
 // What a core replies to a line that names this snapshot.
 fn asked(
     alloc: Global,
-    core: &mut Core<Handle>,
+    core: &mut Engine<Handle>,
     ticket: Ticket,
     words: &[&str],
 ) -> Parsed<(Wording, Reply)> {

@@ -3,18 +3,18 @@
 use crate::answer::{pairs, word};
 use crate::session::{SHUT, Session};
 use fjall_base::{Result, Slice};
-use fjall_core::{Config, Core, View};
+use fjall_core::{Config, Engine, View};
 use fjall_memory::MemoryDisk;
 use fjall_options::KeyspaceCreateOptions;
 use fjall_recorder::{Handle, LineError, Parsed};
-use fjall_transactions::Transactions;
+use fjall_transactions::Core;
 use std::alloc::Global;
 use std::ops::Bound;
 
 // Adds the pairs of the keyspace of a name.
 fn show_keyspace(
     alloc: Global,
-    core: &mut Core<Handle>,
+    core: &mut Engine<Handle>,
     name: &Slice,
     out: &mut String,
 ) -> Result<()> {
@@ -34,7 +34,6 @@ impl Session {
         }
         let disk = self.disk.share()?;
         let config = Config::new(self.alloc, "db")?;
-        self.transactions = Transactions::new(self.alloc);
         for ticket in &mut self.tickets {
             *ticket = None;
         }

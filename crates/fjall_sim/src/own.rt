@@ -43,13 +43,21 @@ impl Session {
     /// What such a line is answered.
     pub(crate) fn own(&mut self, words: &[&str]) -> Parsed<String> {
         match words {
-            ["count", "kept"] => Ok(count(self.alloc, self.transactions.len())?),
+            ["count", "kept"] => self.count_kept(),
             ["len", name] => self.file_len(name),
             [word, ..] if is_of_opening(word) => self.of_opening(words),
             [word, ..] if is_of_record(word) => self.of_record(words),
             [word, ..] if is_of_look(word) => self.of_look(words),
             _ => self.of_disk(words),
         }
+    }
+
+    // How many commits are kept, where a database is open.
+    fn count_kept(&self) -> Parsed<String> {
+        Ok(match &*self.core {
+            Some(core) => count(self.alloc, core.kept_commits())?,
+            None => String::from_str(self.alloc, SHUT)?,
+        })
     }
 
     // A line of openings.

@@ -5,9 +5,9 @@ use crate::list::{List, Wording};
 use crate::own::is_own;
 use fjall_base::{Error, Result};
 use fjall_calls::{TxCall, run};
-use fjall_core::{Core, Reply, Ticket};
+use fjall_core::{Reply, Ticket};
 use fjall_recorder::{Handle, LineError, Parsed, Tape};
-use fjall_transactions::Transactions;
+use fjall_transactions::Core;
 use std::alloc::Global;
 use std::mem;
 
@@ -28,7 +28,6 @@ pub struct Session {
     pub(crate) alloc: Global,
     pub(crate) disk: Handle,
     pub(crate) core: Box<Option<Core<Handle>>>,
-    pub(crate) transactions: Transactions,
     pub(crate) list: List,
     // how the reply to each line of the list is worded, or why the line isn't done
     wordings: Vec<Parsed<Wording>>,
@@ -57,7 +56,6 @@ impl Session {
             alloc,
             disk,
             core,
-            transactions: Transactions::new(alloc),
             list: List::new(alloc, 0),
             wordings: Vec::new(alloc),
             tapes: Vec::new(alloc),
@@ -70,7 +68,7 @@ impl Session {
     // Makes the calls of a list.
     fn run(&mut self, calls: Vec<TxCall>) -> std::result::Result<Vec<Reply>, Unserved> {
         match &mut *self.core {
-            Some(core) => match run(self.alloc, core, &mut self.transactions, calls) {
+            Some(core) => match run(self.alloc, core, calls) {
                 Ok(replies) => Ok(replies),
                 Err(error) => Err(Unserved::Refused(error)),
             },

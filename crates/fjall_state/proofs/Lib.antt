@@ -1,1 +1,2 @@
 mod Inside
+mod MadeFlushes

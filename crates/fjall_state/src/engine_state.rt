@@ -154,6 +154,13 @@ impl EngineState {
         }
     }
 
+    /// Sets for how many bytes of memory the blocks of tables may count that reads leave in memory, of all keyspaces together.
+    pub fn set_kept_bound(&mut self, bytes: u64)
+        ensures { self.new ≡ self.old }
+    {
+        self.trees.set_kept_bound(bytes);
+    }
+
     /// The keyspaces that live, and the id that the next one gets.
     pub fn keyspaces(&self) -> &MetaKeyspace
         ensures value { result.now ≡ self.now.keyspaces }

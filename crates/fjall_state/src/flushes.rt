@@ -1,6 +1,6 @@
 //! Flushes in memory: how they begin, and how they end, on the disk and in memory.
 
-ghost use Rattle.std.specs.Prelude.{◌≡◌, ◌==◌, ◌||◌, ◌&&◌, ◌⊎◌, ◌<◌, ◌≤◌, ◌+◌, ◌-◌, ◌^◌, ℕ, None, false, true, nat_le, length, IfErr, IfOk, IsOkUnless, IsTrue, OnErr, OnOk};
+ghost use Rattle.std.specs.Prelude.{◌≡◌, ◌==◌, ◌||◌, ◌&&◌, ◌⊎◌, ◌<◌, ◌≤◌, ◌+◌, ◌-◌, ◌^◌, ℕ, None, false, true, nat_le, length, IfErr, IfOk, IsOk, IsOkUnless, IsTrue, OnErr, OnOk};
 ghost use Rattle.std.specs.FinMap.{contains_key, insert};
 ghost use Rattle.fjall_base.specs.Disk.{IsNoFolder, LeavesOnly, state_in};
 ghost use Rattle.fjall_files.specs.Calls.{AllServed};
@@ -10,9 +10,10 @@ ghost use Rattle.fjall_files.specs.Tidy.{StaysTidy};
 ghost use Rattle.fjall_compaction.specs.Flushes.{flush_of as finished_with};
 ghost use Rattle.fjall_compaction.specs.FlushPlans.{HaveFiles, IsFlushPlan, IsFlushPlanRefusal, KeepsTables};
 ghost use Rattle.fjall_jobs.specs.Flushes.{flush_task};
+ghost use Rattle.fjall_jobs.specs.Tasks.{Task};
 ghost use Rattle.fjall_journal.specs.Writer.{IsIo};
 ghost use Rattle.fjall_recovery.specs.Known.{last_known};
-ghost use Rattle.fjall_tree.specs.Jobs.{IsFlushing, flush_finished, flush_of};
+ghost use Rattle.fjall_tree.specs.Jobs.{IsFlushing, flush_finished, flush_of, is_flush_out};
 ghost use Rattle.fjall_tree.specs.Trees.{Flushing};
 ghost use Rattle.fjall_trees.specs.Maps.{store_of};
 ghost use Rattle.fjall_recovery.specs.Halves.{HasTree};
@@ -23,7 +24,8 @@ ghost use Rattle.fjall_trees.specs.Tables.{HasRoomAt, shape_in};
 ghost use Rattle.fjall_trees.specs.Views.{forest_of};
 ghost use Rattle.fjall_machine.specs.Finishing.{AreReadersOf, ForFinishing, ForFlush, IsFinishRefusal, IsFlushFinished, keyspace_of};
 ghost use Rattle.fjall_machine.specs.Machine.{begins_flush, flush_with, is_flushing, is_living};
-ghost use Rattle.fjall_machine.specs.Remembered.{IsLawful, Remembered, flush_gone, flush_out};
+ghost use Rattle.fjall_machine.specs.Remembered.{IsLawful, KnowsTask, Remembered, flush_gone, flush_out};
+ghost use Rattle.fjall_state.specs.Flushes.{IsOfFlush};
 
 use crate::engine_state::EngineState;
 use crate::refusals::JOURNAL_LIMIT;
@@ -119,31 +121,48 @@ fn plan(alloc: Global, last: &Record, number: u64, made: &FlushMade) -> Result<P
     Ok(PlannedFlush { writes, readers })
 }
 
-/// Finishes a flush in memory, where there is room in the keyspace's tree and its last record is kept. It takes no memory.
-fn settle(trees: &mut Trees, records: &mut LastRecords, made: &FlushMade, planned: PlannedFlush)
-    requires room { HasRoomAt (keyspace_of made.now) trees.old (length planned.readers.items) (length (flush_task made.now.job).clears) }
-    requires out { IsFlushing (shape_in (keyspace_of made.now) (forest_of trees.old)) (flush_task made.now.job) }
+/// Finishes a flush in memory, where its keyspace's last record is kept. It takes no memory where the tree has room for what was made of
+/// the flush that is out; else it is refused for want of memory alone, and an `Err` leaves all as it was.
+fn settle(
+    trees: &mut Trees,
+    records: &mut LastRecords,
+    made: &FlushMade,
+    planned: PlannedFlush,
+) -> Result<()>
+    requires out { is_flush_out (flush_task made.now.job).id (shape_in (keyspace_of made.now) (forest_of trees.old)).flush ≡ true }
     requires kept { contains_key records.old (keyspace_of made.now) ≡ true }
     ensures trees { (out : Flushing) → (shape_in (keyspace_of made.now) (forest_of trees.old)).flush ≡ Some out
-        → forest_of trees.new ≡ altered_at (keyspace_of made.now) (flush_finished planned.readers.items out) (forest_of trees.old) }
-    ensures records { records.new ≡ insert records.old (keyspace_of made.now) (view planned.writes.record) }
+        → OnOk result (forest_of trees.new ≡ altered_at (keyspace_of made.now) (flush_finished planned.readers.items out) (forest_of trees.old)) }
+    ensures records { OnOk result (records.new ≡ insert records.old (keyspace_of made.now) (view planned.writes.record)) }
+    ensures same_trees { OnErr result (forest_of trees.new ≡ forest_of trees.old) }
+    ensures same_records { OnErr result (records.new ≡ records.old) }
+    ensures only { IsOkUnless result Error.OutOfMemory }
+    ensures ready { HasRoomAt (keyspace_of made.now) trees.old (length planned.readers.items) (length (flush_task made.now.job).clears)
+        → IsFlushing (shape_in (keyspace_of made.now) (forest_of trees.old)) (flush_task made.now.job) → IsOk result }
 {
     let PlannedFlush { writes, readers } = planned;
     match trees.finish_flush(made, readers) {
-        Ok(true) => records.replace(made.keyspace_id(), writes.record),
-        _ => unreachable!(),
+        Ok(true) => {
+            records.replace(made.keyspace_id(), writes.record);
+            Ok(())
+        }
+        Ok(false) => unreachable!(),
+        Err(error) => Err(error),
     }
 }
 
 impl EngineState {
-    /// Finishes the flush of this job, which is out of a keyspace that lives: writes its table and the keyspace's record, and then
-    /// puts the table in the place of the memtables that the flush was begun with. It covers all changes below where the memtables
-    /// begin that stay. A file that nothing names, under the new table's id, is taken away first. All memory is got before the disk is
-    /// changed.
+    /// Finishes the flush of a job of this number, which is out of a keyspace that lives: writes its table and the keyspace's record,
+    /// and then puts the table in the place of the memtables that the flush was begun with. It covers all changes below where the
+    /// memtables begin that stay. A file that nothing names, under the new table's id, is taken away first. All memory is got before the
+    /// disk is changed.
     ///
-    /// Refusals: `NumbersUsedUp` where a table was made and no id is left for it, `TooManyItems` where the record has no room for
-    /// the table and the clears, `OutOfMemory`: these leave the disk as it was. Where the disk fails, the flush may have reached it
+    /// Refusals: `TooManyItems` where the record has no room for the table and the clears, else `NumbersUsedUp` where a table was
+    /// made and no id is left for it, else `OutOfMemory`: these leave the disk as it was. Where the disk fails, the flush may have reached it
     /// or not. After each of them what is held in memory is as before.
+    ///
+    /// What a job of another engine made under the number isn't told from what this flush's job made: it stands in the memtables' place
+    /// then, or, where memory has no room for it once it is written, is refused with `OutOfMemory`, and this engine is poisoned.
     pub fn finish_flush<D: Disk>(
         &mut self,
         alloc: Global,
@@ -151,34 +170,38 @@ impl EngineState {
         made: &FlushMade,
     ) -> Result<()>
         requires living { is_living (store_of self.old.keyspaces self.old.trees) (keyspace_of made.now) ≡ true }
-        requires out { IsFlushing (shape_in (keyspace_of made.now) self.old.trees) (flush_task made.now.job) }
-        ensures ok { ForFlush self.old (keyspace_of made.now) (λ k out. OnOk result (IsFlushFinished self.old (keyspace_of made.now) (last_known self.old.records k) out made.now.tables.items self.new)) }
+        requires out { is_flush_out (flush_task made.now.job).id (shape_in (keyspace_of made.now) self.old.trees).flush ≡ true }
+        ensures ok { IsOfFlush self.old made.now → ForFlush self.old (keyspace_of made.now) (λ k out. OnOk result (IsFlushFinished self.old (keyspace_of made.now) (last_known self.old.records k) out made.now.tables.items self.new)) }
         ensures lawful { IsLawful self.old }
-        ensures unchanged { OnErr result (self.new ≡ self.old) }
-        ensures untouched { IfErr result (λ e. (IsIo e → ⊥) → D.meaning disk.new ≡ D.meaning disk.old) }
+        ensures unchanged { IsOfFlush self.old made.now → OnErr result (self.new ≡ self.old) }
+        ensures untouched { IsOfFlush self.old made.now → IfErr result (λ e. (IsIo e → ⊥) → D.meaning disk.new ≡ D.meaning disk.old) }
         ensures later { (D.meaning disk.old).faults ≤ (D.meaning disk.new).faults }
-        ensures cause { ForFlush self.old (keyspace_of made.now) (λ k out. IfErr result
+        // Whatever was made, a refusal leaves the disk as it was, or it is of the disk, or this is poisoned; and what is known of flushes
+        // stays known.
+        ensures poisons { IfErr result (λ e. (IsIo e → ⊥) → (D.meaning disk.new ≡ D.meaning disk.old) ⊎ (self.new.poisoned ≡ true)) }
+        ensures keeps { (task : Task) → KnowsTask self.old task → KnowsTask self.new task }
+        ensures cause { IsOfFlush self.old made.now → ForFlush self.old (keyspace_of made.now) (λ k out. IfErr result
             (IsFinishRefusal (last_known self.old.records k) (flush_with (shape_in (keyspace_of made.now) self.old.trees) out made.now.tables.items)
             (D.meaning disk.old).faults (D.meaning disk.new).faults)) }
         // Nothing outside the keyspace's folder changes.
         ensures within { IsTrue D.honest → Within (keyspace_folder (keyspace_of made.now)) (D.meaning disk.old) (D.meaning disk.new) }
         // A crash at any moment, also at the last one of a call that fails, leaves the tree before or the one after, whole.
-        ensures any_moment { IsTrue D.honest → ForFinishing (D.meaning disk.old) self.old made.now (λ id records t h next.
+        ensures any_moment { IsTrue D.honest → IsOfFlush self.old made.now → ForFinishing (D.meaning disk.old) self.old made.now (λ id records t h next.
             LeavesOnly (D.meaning disk.old) (D.meaning disk.new) (λ image. HasTree image t ⊎ HasTree image next)) }
-        ensures lies { IsTrue D.honest → ForFinishing (D.meaning disk.old) self.old made.now (λ id records t h next.
+        ensures lies { IsTrue D.honest → IsOfFlush self.old made.now → ForFinishing (D.meaning disk.old) self.old made.now (λ id records t h next.
             OnOk result (LiesInTree (state_in (D.meaning disk.new)) records next)) }
         // Where no folder has the table's name, each call was one that a disk can serve.
-        ensures served { IsTrue D.honest → ForFinishing (D.meaning disk.old) self.old made.now (λ id records t h next.
+        ensures served { IsTrue D.honest → IsOfFlush self.old made.now → ForFinishing (D.meaning disk.old) self.old made.now (λ id records t h next.
             IsNoFolder (state_in (D.meaning disk.old) (table_name id h.last.next_table_id)).now → AllServed (D.meaning disk.old) (D.meaning disk.new)) }
         ensures kinds { IsTrue D.honest → StaysTidy (D.meaning disk.old) (D.meaning disk.new) }
         // Whatever lies on the disk, each table of the keyspace but the new one stands in sight as it did.
-        ensures beside { IsTrue D.honest → ForFlush self.old (keyspace_of made.now) (λ k out.
+        ensures beside { IsTrue D.honest → IsOfFlush self.old made.now → ForFlush self.old (keyspace_of made.now) (λ k out.
             KeepsTables (keyspace_of made.now) (last_known self.old.records k).next_table_id (D.meaning disk.old) (D.meaning disk.new)) }
         // At Ok the table's file has its bytes.
-        ensures files { IsTrue D.honest → ForFlush self.old (keyspace_of made.now) (λ k out.
+        ensures files { IsTrue D.honest → IsOfFlush self.old made.now → ForFlush self.old (keyspace_of made.now) (λ k out.
             OnOk result (HaveFiles (D.meaning disk.new) (keyspace_of made.now) (last_known self.old.records k).next_table_id made.now.tables.items)) }
         // Its id, and those that were given out before it, have their place.
-        ensures fits { ForFlush self.old (keyspace_of made.now) (λ k out. OnOk result ((last_known self.old.records k).next_table_id + length made.now.tables.items < 2 ^ 64)) }
+        ensures fits { IsOfFlush self.old made.now → ForFlush self.old (keyspace_of made.now) (λ k out. OnOk result ((last_known self.old.records k).next_table_id + length made.now.tables.items < 2 ^ 64)) }
     {
         let id = made.keyspace_id();
         let Some(last) = self.records.get(id) else {
@@ -189,7 +212,10 @@ impl EngineState {
         self.trees
             .reserve(id, planned.readers.len(), made.clears().len())?;
         write_flush(disk, &planned.writes, made)?;
-        settle(&mut self.trees, &mut self.records, made, planned);
+        if let Err(error) = settle(&mut self.trees, &mut self.records, made, planned) {
+            self.poison();
+            return Err(error);
+        }
         Ok(())
     }
 }

@@ -109,8 +109,8 @@ impl EngineState {
     /// Plans an ingestion of these items, by key ascending, under the next number into a keyspace that lives. It changes nothing, and
     /// takes all the memory that the ingestion needs.
     ///
-    /// Refusals: `NumbersUsedUp` where no id is left for its tables, `TooManyItems` where the keyspace's record has no room for them,
-    /// and `OutOfMemory`.
+    /// Refusals: `TooManyItems` where the keyspace's record has no room for its tables, else `NumbersUsedUp` where no id is left for
+    /// them, and `OutOfMemory`, which where something is in memory may come before both.
     pub fn plan_ingestion(
         &self,
         alloc: Global,

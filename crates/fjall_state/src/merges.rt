@@ -226,8 +226,8 @@ impl EngineState {
     /// are taken away first. All memory is got before the disk is changed. It answers the names of the tables that it took, which nothing
     /// names any more, and whose files stand still.
     ///
-    /// Refusals: `NumbersUsedUp` where too few ids are left for the tables that were made, `TooManyItems` where the record has no room for
-    /// the tables and the clears, `OutOfMemory`: these leave the disk as it was. Where the disk fails, the merge may have reached it or
+    /// Refusals: `TooManyItems` where the record has no room for the tables and the clears, else `NumbersUsedUp` where too few ids are left
+    /// for the tables that were made, else `OutOfMemory`: these leave the disk as it was. Where the disk fails, the merge may have reached it or
     /// not. After each of them what is held in memory is as before.
     pub fn finish_merge<D: Disk>(
         &mut self,

@@ -108,6 +108,7 @@ block_placed text vs is e = record {
   some = let s = is.some in let l = places_len 8 vs in omega arith;
   fits = fits_all 8 (length text) vs (let w = payload_within vs in let l = ap length e in omega arith);
   ordered = let read = block_entries text vs e in subst IsOrdered (sym read) is.ordered;
+  block = e ∙ ap block_text (sym (block_entries text vs e));
 }
 
 -- ---- a loop over entries

@@ -1,6 +1,8 @@
 -- Readers of tables: what they keep, and what they find.
-use Rattle.std.proofs.Common.{◌≡◌, ℕ, zero, suc, ◌+◌, ◌-◌, ◌<◌, ◌≤◌, Bool, IsTrue, List, [], ◌∷◌, ◌++◌, length, take, drop, map, set, slice_get, Option, Some, None, IfSome, refl, sym, ap, subst, ◌∙◌, arith, ◌⊎◌, inl, inr, ◌&&◌, true, false, get_or, replicate, nat_lt}
-use Rattle.std.proofs.lemmas.List.{append-nil, length-map}
+use Rattle.std.proofs.Common.{◌≡◌, ℕ, zero, suc, ◌+◌, ◌-◌, ◌<◌, ◌≤◌, ◌^◌, min, Bool, IsTrue, List, [], ◌∷◌, ◌++◌, length, take, drop, map, set, slice_get, Option, Some, None, IfSome, refl, sym, ap, subst, ◌∙◌, arith, ◌⊎◌, inl, inr, ◌&&◌, true, false, get_or, replicate, nat_lt}
+use Rattle.std.specs.List.{sum_by}
+use Rattle.std.proofs.lemmas.List.{append-nil, length-map, length-set}
+use Rattle.std.proofs.lemmas.List.Sums.{sum_by-cons}
 use Rattle.std.proofs.lemmas.List.Elements.{filter-append}
 use Rattle.fjall_base.specs.Disk as disk
 use Rattle.fjall_base.specs.Disk.{DiskState, IsFile, Meaning, Took, state_in}
@@ -17,7 +19,7 @@ use Rattle.std.proofs.lemmas.Slice.Eq.{bytes_eq-Decides}
 use Rattle.fjall_table.proofs.TableReading.{got, got_map}
 use Rattle.fjall_table.proofs.Lookups.{fails, wanted}
 use Rattle.fjall_table.proofs.TableBlocks.{blocks_in, entries_joined, more_taken, one_index, parts_of, read_is, some_at, stands_at, table_has}
-use Rattle.fjall_table_reader.specs.Readers.{HoldsAWrongBlock, IsReader, IsSameTable, IsTableBut, LooksOn, Reader, Reads, ReadsBlocks, keeping, none_kept, unread}
+use Rattle.fjall_table_reader.specs.Readers.{HoldsAWrongBlock, HoldsAWrongBlockFor, IsCountedReader, IsReader, IsSameTable, IsTableBut, LooksOn, Reader, Reads, ReadsBlocks, SomeTableIsWrong, SomeTableIsWrongFor, block_size, keeping, none_kept, size_at, unread}
 use Rattle.fjall_table_reader.proofs.Spans.{block_of, versions_before, versions_behind}
 
 -- ---- a table all of whose blocks are right
@@ -104,8 +106,10 @@ kept_too disk t blocks at block r here = record {
 
 -- ---- what a look-up goes through
 
--- The blocks before some place hold no version of the key; and the reader reads the table that it read at first.
+-- A place from the first block on that may hold the key: the blocks before it hold no version of the key; and the reader reads
+-- the table that it read at first.
 pub record Finding (honest : Bool) (old new : Meaning) (before after : Reader) (key : List ℕ) (instant at : ℕ) : Type 0 where
+  pub from : blocks_below key before.handles - 1 ≤ at
   pub table : IsSameTable before after
   pub disk : LooksOn honest old new
   pub reads : IsTrue honest → (blocks : List (List Entry)) → ReadsBlocks old before blocks → ReadsBlocks new after blocks
@@ -113,6 +117,7 @@ pub record Finding (honest : Bool) (old new : Meaning) (before after : Reader) (
 
 pub finding_none : (honest : Bool) (old : Meaning) (t : Reader) (key : List ℕ) (instant at : ℕ) → Ascend t.handles → at ≡ blocks_below key t.handles - 1 → Finding honest old old t t key instant at
 finding_none honest old t key instant at up e = record {
+  from = omega (arith, e);
   table = same_none t;
   disk = looks_none honest old;
   reads = λ h blocks r. r;
@@ -143,6 +148,7 @@ pub finding_more : (honest : Bool) (old mid new : Meaning) (before mid_reader af
     → slice_get (versions_at key instant b) 0 ≡ None
     → Finding honest old new before after key instant (at + 1)
 finding_more honest old mid new before mid_reader after key instant at b f same looks reads block miss = record {
+  from = omega (arith, f.from);
   table = same_again before mid_reader after f.table same;
   disk = looks_again honest old mid new f.disk looks;
   reads = λ h blocks r. reads h blocks (f.reads h blocks r);
@@ -163,21 +169,59 @@ found_nowhere disk t key instant at blocks entries up r all none le =
     ap (λ (v : List Entry). slice_get (versions_at key instant v) 0) (all ∙ parts_of blocks at)
     ∙ ap (λ (v : List Entry). slice_get v 0) (filter-append (wanted key instant) (entries_of (take at blocks)) (entries_of (drop at blocks)) ∙ ap (λ (v : List Entry). v ++ versions_at key instant (entries_of (drop at blocks))) none ∙ versions_behind key instant t.handles at blocks r.table.are r.index up le)
 
--- a block that is wrong is one of the table's
-pub wrong_at : (old mid : Meaning) (before after : Reader) (at : ℕ) → state_in mid ≡ state_in old → IsSameTable before after → at < length after.handles → IfSome (slice_get after.handles at) (HoldsNoBlock (entry_at mid after.name)) → HoldsAWrongBlock (entry_at old before.name) before.handles
-wrong_at old mid before after at same table lt none =
+-- a block that is wrong at a place
+wrong_there : (old mid : Meaning) (before after : Reader) (at : ℕ) → state_in mid ≡ state_in old → IsSameTable before after → at < length after.handles
+    → IfSome (slice_get after.handles at) (HoldsNoBlock (entry_at mid after.name)) → (h : Handle) × (slice_get before.handles at ≡ Some h) × HoldsNoBlock (entry_at old before.name) h
+wrong_there old mid before after at same table lt none =
     let g = some_at after.handles at lt in
     let holds = subst (λ (o : Option Handle). IfSome o (HoldsNoBlock (entry_at mid after.name))) g.1 none in
     let there : entry_at mid after.name ≡ entry_at old before.name = ap (λ (s : DiskState). (s after.name).now) same ∙ ap (λ (n : disk.Name). entry_at old n) table.name in
-    (at, g.0, ap (λ (hs : List Handle). slice_get hs at) (sym table.handles) ∙ g.1, subst (λ (e : disk.DiskEntry). HoldsNoBlock e g.0) there holds)
+    (g.0, ap (λ (hs : List Handle). slice_get hs at) (sym table.handles) ∙ g.1, subst (λ (e : disk.DiskEntry). HoldsNoBlock e g.0) there holds)
+
+-- is one of the table's
+pub wrong_at : (old mid : Meaning) (before after : Reader) (at : ℕ) → state_in mid ≡ state_in old → IsSameTable before after → at < length after.handles → IfSome (slice_get after.handles at) (HoldsNoBlock (entry_at mid after.name)) → HoldsAWrongBlock (entry_at old before.name) before.handles
+wrong_at old mid before after at same table lt none = let wrong = wrong_there old mid before after at same table lt none in (at, wrong.0, wrong.1, wrong.2)
+
+-- and one that may hold a key, where it stands among these
+pub wrong_for : (old mid : Meaning) (before after : Reader) (key : List ℕ) (at : ℕ) → state_in mid ≡ state_in old → IsSameTable before after → at < length after.handles
+    → blocks_below key before.handles - 1 ≤ at → at < blocks_up_to key before.handles
+    → IfSome (slice_get after.handles at) (HoldsNoBlock (entry_at mid after.name)) → HoldsAWrongBlockFor key (entry_at old before.name) before.handles
+wrong_for old mid before after key at same table lt from to none =
+    let wrong = wrong_there old mid before after at same table lt none in
+    record { at = at; handle = wrong.0; here = wrong.1; from = from; to = to; wrong = wrong.2 }
+
+pub wrong_block : (key : List ℕ) (entry : disk.DiskEntry) (handles : List Handle) → HoldsAWrongBlockFor key entry handles → HoldsAWrongBlock entry handles
+wrong_block key entry handles wrong = (wrong.at, wrong.handle, wrong.here, wrong.wrong)
+
+pub wrong_tables : (key : List ℕ) (disk : Meaning) (tables : List Reader) → SomeTableIsWrongFor key disk tables → SomeTableIsWrong disk tables
+wrong_tables key disk tables (at, t, here, wrong) = (at, t, here, wrong_block key (entry_at disk t.name) t.handles wrong)
+
+-- ---- for how much the kept blocks count
+
+pub none_size : (hs : List Handle) → sum_by size_at (none_kept hs) ≡ 0
+none_size [] = refl
+none_size (h ∷ hs) = (let none : Option (List Entry) = None in omega (arith, sum_by-cons size_at none (none_kept hs), none_size hs))
+
+-- a block more, where none was kept
+set_size : (ks : List (Option (List Entry))) (at : ℕ) (block : List Entry) → slice_get ks at ≡ Some None → sum_by size_at (set ks at (Some block)) ≡ sum_by size_at ks + block_size block
+set_size [] at block none = absurd cc
+set_size (k ∷ ks) zero block none = omega (arith, sum_by-cons size_at (just block) ks, sum_by-cons size_at k ks, ap size_at (some_is k None none))
+set_size (k ∷ ks) (suc at) block none = omega (arith, sum_by-cons size_at k (set ks at (Some block)), sum_by-cons size_at k ks, set_size ks at block none)
+
+pub counted_more : (kept_bytes total at : ℕ) (block : List Entry) (t : Reader) → IsCountedReader kept_bytes t → slice_get t.kept at ≡ Some None
+    → total ≡ min (kept_bytes + min (block_size block) (2 ^ 64 - 1)) (2 ^ 64 - 1) → IsCountedReader total (keeping at block t)
+counted_more kept_bytes total at block t is none e = record {
+  reader = record { count = length-set t.kept at (just block) ∙ is.reader.count; ascend = is.reader.ascend };
+  bytes = omega (arith, is.bytes, set_size t.kept at block none, e);
+}
 
 -- ---- what is kept at a place
 
-pub kept_here : {A : Type 0} (f : A → List Entry) (t : Reader) (items : List (Option A)) (at : ℕ) (o : Option A) (x : A) → map (option_map f) items ≡ t.kept → length t.kept ≡ length t.handles → at < length t.handles → o ≡ get_or items at o → o ≡ Some x → slice_get t.kept at ≡ Some (Some (f x))
-kept_here f t items at o x view count lt here is =
+pub kept_here : {A : Type 0} (f : A → List Entry) (t : Reader) (items : List (Option A)) (at : ℕ) (o p : Option A) → map (option_map f) items ≡ t.kept → length t.kept ≡ length t.handles → at < length t.handles → o ≡ get_or items at o → o ≡ p → slice_get t.kept at ≡ Some (option_map f p)
+kept_here f t items at o p view count lt here is =
     ap (λ (k : List (Option (List Entry))). slice_get k at) (sym view)
     ∙ got_map (option_map f) items at o (got items at o (omega (arith, lt, count, ap length view, length-map items (option_map f))) here)
-    ∙ ap (λ (p : Option _). just (option_map f p)) is
+    ∙ ap (λ (q : Option _). just (option_map f q)) is
 
 pub none_is : {A : Type 0} (f : A → List Entry) (hs : List Handle) (n : ℕ) → n ≡ length hs → map (option_map f) (replicate n None) ≡ none_kept hs
 none_is f hs n e = ap (λ (k : ℕ). map (option_map f) (replicate k None)) e ∙ go hs
@@ -224,3 +268,7 @@ key_found key instant (x ∷ xs) e h =
 -- a reader that keeps nothing is one
 pub is_unread : (name : disk.Name) (info : TableInfo) (handles : List Handle) → Ascend handles → IsReader (unread name info handles)
 is_unread name info handles up = record { count = length-map handles (λ h. let o : Option (List Entry) = None in o); ascend = up }
+
+-- and counts for nothing
+pub unread_counted : (name : disk.Name) (info : TableInfo) (handles : List Handle) → Ascend handles → IsCountedReader 0 (unread name info handles)
+unread_counted name info handles up = record { reader = is_unread name info handles up; bytes = omega (arith, none_size handles) }

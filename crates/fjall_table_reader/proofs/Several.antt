@@ -1,11 +1,12 @@
 -- Lists of readers, one of which changes.
 use Rattle.std.proofs.Common.{◌≡◌, ℕ, zero, suc, ◌+◌, ◌<◌, ◌≤◌, Bool, IsTrue, List, [], ◌∷◌, length, set, slice_get, get_or, Some, refl, sym, ap, subst, ◌∙◌, add-one, arith}
+use Rattle.std.proofs.lemmas.List.Sums.{sum_by-cons}
 use Rattle.fjall_base.specs.Disk.{Meaning}
 use Rattle.fjall_base.proofs.Codecs.{some_is}
 use Rattle.fjall_table.specs.Blocks.{Entry, IsOrdered}
 use Rattle.fjall_table.specs.Tables.{Handle}
-use Rattle.fjall_table_reader.specs.Readers.{AreRead, AreSameTables, IsSameTable, LooksOn, Reader, Reads, all_unread, none_kept, unread}
-use Rattle.fjall_table_reader.proofs.Readers.{reads_on, same_again, same_none}
+use Rattle.fjall_table_reader.specs.Readers.{AreRead, AreSameTables, IsSameTable, LooksOn, Reader, Reads, all_unread, kept_size, kept_sizes, none_kept, unread}
+use Rattle.fjall_table_reader.proofs.Readers.{none_size, reads_on, same_again, same_none}
 
 -- ---- the first ones with no block kept
 
@@ -114,3 +115,15 @@ all_unread_read disk [] [] r = tt
 all_unread_read disk [] (es ∷ ess) r = r
 all_unread_read disk (t ∷ ts) [] r = r
 all_unread_read disk (t ∷ ts) (es ∷ ess) r = (unread_reads disk t es r.0, all_unread_read disk ts ess r.1)
+
+-- are the same tables
+pub all_unread_same : (old new : List Reader) → AreSameTables old new → AreSameTables old (all_unread new)
+all_unread_same [] [] same = tt
+all_unread_same [] (u ∷ new) same = same
+all_unread_same (t ∷ old) [] same = same
+all_unread_same (t ∷ old) (u ∷ new) same = (record { name = same.0.name; info = same.0.info; handles = same.0.handles }, all_unread_same old new same.1)
+
+-- and count for nothing
+pub all_unread_size : (ts : List Reader) → kept_sizes (all_unread ts) ≡ 0
+all_unread_size [] = refl
+all_unread_size (t ∷ ts) = omega (arith, sum_by-cons kept_size (unread t.name t.info t.handles) (all_unread ts), none_size t.handles, all_unread_size ts)

@@ -1,7 +1,7 @@
 -- Entries by where their keys and values stand in a text.
-use Rattle.std.specs.Prelude.{ℕ, ◌+◌, ◌≤◌, ◌<◌, List, [], ◌∷◌, Option, Some, None, length, take, drop, map, is_some, if◌then◌else◌}
+use Rattle.std.specs.Prelude.{◌≡◌, ℕ, ◌+◌, ◌≤◌, ◌<◌, List, [], ◌∷◌, Option, Some, None, length, take, drop, map, is_some, if◌then◌else◌}
 use Rattle.std.specs.List.{AllByRecursion}
-use Rattle.fjall_table.specs.Blocks.{Entry, IsOrdered, value_bytes}
+use Rattle.fjall_table.specs.Blocks.{Entry, IsOrdered, block_text, value_bytes}
 use Rattle.fjall_table_reader.specs.declared.place.EntryPlace.{EntryPlace}
 
 -- the key that stands there, and the value behind it
@@ -22,11 +22,12 @@ entry_in text p = record { key = key_at text p; number = p.number; value = value
 abbrev pub entries_in : List ℕ → List EntryPlace → List Entry
 entries_in text places = map (entry_in text) places
 
--- The places are those of entries in order, one at least, and each ends within the text.
+-- The places are those of entries in order, one at least; each ends within the text, which is the block of these entries.
 pub record ArePlaced (text : List ℕ) (places : List EntryPlace) : Type 0 where
   pub some : 0 < length places
   pub fits : AllByRecursion (λ p. end_of p ≤ length text) places
   pub ordered : IsOrdered (entries_in text places)
+  pub block : text ≡ block_text (entries_in text places)
 
 -- the place of an entry whose text begins there: its key stands behind fifteen bytes
 abbrev pub place_of : ℕ → Entry → EntryPlace

@@ -1,10 +1,13 @@
 -- Opened tables some of whose blocks are kept in memory, and what they read on a disk.
-use Rattle.std.specs.Prelude.{◌≡◌, ℕ, ◌≤◌, Bool, IsTrue, List, [], ◌∷◌, Option, Some, None, length, map, set, slice_get}
+use Rattle.std.specs.Prelude.{◌≡◌, ℕ, ◌+◌, ◌-◌, ◌*◌, ◌<◌, ◌≤◌, ◌^◌, Bool, IsTrue, List, [], ◌∷◌, Option, Some, None, length, map, min, set, slice_get}
+use Rattle.std.specs.List.{sum_by}
 use Rattle.fjall_base.specs.Disk as disk
 use Rattle.fjall_base.specs.Disk.{IsFile, Name, Meaning, Took}
+use Rattle.fjall_base.specs.Pairs.{Bytes}
 use Rattle.fjall_table.specs.declared.table_info.TableInfo.{TableInfo}
-use Rattle.fjall_table.specs.Blocks.{Entry}
+use Rattle.fjall_table.specs.Blocks.{Entry, block_text}
 use Rattle.fjall_table.specs.Tables.{Handle, entries_of, handles_of, AreBlocks, Ascend, HasIndex}
+use Rattle.fjall_table.specs.TableReading.{blocks_below, blocks_up_to}
 use Rattle.fjall_table_reader.specs.Files.{AllServed, HoldsBlock, HoldsNoBlock, bytes_in, entry_at}
 
 -- a table by its name and by what its record and its index say, and the entries of each block that is kept
@@ -30,6 +33,24 @@ keeping at block t = record { name = t.name; info = t.info; handles = t.handles;
 pub record IsReader (t : Reader) : Type 0 where
   pub count : length t.kept ≡ length t.handles
   pub ascend : Ascend t.handles
+
+-- for how many bytes of memory a block counts: those of its text, and 32 for each entry
+abbrev pub block_size : List Entry → ℕ
+block_size entries = length (block_text entries) + 32 * length entries
+
+-- the same of a place that may keep none
+abbrev pub size_at : Option (List Entry) → ℕ
+size_at None = 0
+size_at (Some entries) = block_size entries
+
+-- for how many bytes all blocks count that a reader keeps
+abbrev pub kept_size : Reader → ℕ
+kept_size t = sum_by size_at t.kept
+
+-- It is a reader, and this count is of what it keeps: the greatest u64 where that is too small.
+pub record IsCountedReader (kept_bytes : ℕ) (t : Reader) : Type 0 where
+  pub reader : IsReader t
+  pub bytes : kept_bytes ≡ min (kept_size t) (2 ^ 64 - 1)
 
 -- A table's file some of whose blocks may be wrong: its length, its footer and its index are those of the table that has
 -- these blocks, and where a right block stands it is the table's.
@@ -70,6 +91,15 @@ pub record IsSameTable (old new : Reader) : Type 0 where
 abbrev pub HoldsAWrongBlock : disk.DiskEntry → List Handle → Type 0
 HoldsAWrongBlock entry handles = (at : ℕ) × (h : Handle) × (slice_get handles at ≡ Some h) × HoldsNoBlock entry h
 
+-- Where some block should stand that may hold the key, none stands that begins with the handle's key.
+pub record HoldsAWrongBlockFor (key : Bytes) (entry : disk.DiskEntry) (handles : List Handle) : Type 0 where
+  pub at : ℕ
+  pub handle : Handle
+  pub here : slice_get handles at ≡ Some handle
+  pub from : blocks_below key handles - 1 ≤ at
+  pub to : at < blocks_up_to key handles
+  pub wrong : HoldsNoBlock entry handle
+
 -- ---- several tables
 
 -- On this disk each reader reads the table of the entries at its place.
@@ -89,6 +119,14 @@ AreSameTables (t ∷ old) (u ∷ new) = IsSameTable t u × AreSameTables old new
 -- some table has a wrong block, or none, where one of its blocks should stand
 abbrev pub SomeTableIsWrong : Meaning → List Reader → Type 0
 SomeTableIsWrong disk tables = (at : ℕ) × (t : Reader) × (slice_get tables at ≡ Some t) × HoldsAWrongBlock (entry_at disk t.name) t.handles
+
+-- some table has a wrong block, or none, where one of its blocks should stand that may hold the key
+abbrev pub SomeTableIsWrongFor : Bytes → Meaning → List Reader → Type 0
+SomeTableIsWrongFor key disk tables = (at : ℕ) × (t : Reader) × (slice_get tables at ≡ Some t) × HoldsAWrongBlockFor key (entry_at disk t.name) t.handles
+
+-- for how many bytes all blocks count that the tables' readers keep
+abbrev pub kept_sizes : List Reader → ℕ
+kept_sizes tables = sum_by kept_size tables
 
 -- the tables with no block kept
 abbrev pub all_unread : List Reader → List Reader

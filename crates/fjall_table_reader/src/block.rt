@@ -1,6 +1,6 @@
 //! A data block in one buffer, checked and decoded.
 
-ghost use Rattle.std.specs.Prelude.{◌≡◌, ◌-◌, ◌<◌, ◌≤◌, length, slice_get, take, drop, filter, Some, None, IfOk, IfErr, IfSome};
+ghost use Rattle.std.specs.Prelude.{◌≡◌, ◌-◌, ◌<◌, ◌≤◌, ◌^◌, length, min, slice_get, take, drop, filter, Some, None, IfOk, IfErr, IfSome};
 ghost use Rattle.std.specs.Option.{option_map};
 ghost use Rattle.std.specs.Range.Bound.{bound_map};
 ghost use Rattle.fjall_base.specs.declared.error.StorageError.TheVariants.{TableDamaged};
@@ -11,6 +11,7 @@ ghost use Rattle.fjall_table.specs.Tables.{entries_within, versions_at};
 ghost use Rattle.fjall_table.specs.TableReading.{IsBlockFrom, IsNoBlockFrom};
 ghost use Rattle.fjall_table_reader.specs.Ahead.{before_start, stands_ahead, up_to_end};
 ghost use Rattle.fjall_table_reader.specs.Places.{entries_in, ArePlaced};
+ghost use Rattle.fjall_table_reader.specs.Readers.{block_size};
 
 use crate::place::{EntryPlace, places_of};
 use fjall_base::{KeyBounds, Result};
@@ -90,8 +91,11 @@ impl Block {
         self.places.len()
     }
 
-    /// For how many bytes of memory it counts: those of its text, and 32 for each entry. It is at most the greatest u64.
-    pub fn size(&self) -> u64 {
+    /// For how many bytes of memory it counts: those of its text, and 32 for each entry; the greatest u64 where that is too
+    /// small.
+    pub fn size(&self) -> u64
+        ensures { result ≡ min (block_size self.now) (2 ^ 64 - 1) }
+    {
         (self.places.len() as u64)
             .saturating_mul(PLACE_BYTES)
             .saturating_add(self.text.len() as u64)

@@ -1,6 +1,6 @@
 //! An opened table with the blocks of it that are kept in memory.
 
-ghost use Rattle.std.specs.Prelude.{◌≡◌, ◌-◌, ◌<◌, ◌≤◌, ⊤, List, length, slice_get, take, drop, replicate, Some, None, IfOk, IfErr, IfSome, IsOkUnless, IsTrue};
+ghost use Rattle.std.specs.Prelude.{◌≡◌, ◌-◌, ◌<◌, ◌≤◌, ◌^◌, ⊤, List, min, length, slice_get, take, drop, replicate, Some, None, IfOk, IfErr, IfSome, IsOkUnless, IsTrue};
 ghost use Rattle.std.specs.Range.Bound.{bound_map};
 ghost use Rattle.fjall_base.specs.Disk.{Meaning};
 ghost use Rattle.fjall_base.specs.Pairs.{key_range};
@@ -8,7 +8,7 @@ ghost use Rattle.fjall_table.specs.Blocks.{Entry};
 ghost use Rattle.fjall_table.specs.Tables.{AreBlocks, Ascend, entries_of, entries_within, handles_of, versions_at};
 ghost use Rattle.fjall_table_reader.specs.Files.{HoldsNoBlock, HoldsTable, IsRefused, IsTableOf, bytes_in, entry_at, file_of, handles_in, name_of};
 ghost use Rattle.fjall_table_reader.specs.Finds.{IsFound};
-ghost use Rattle.fjall_table_reader.specs.Readers.{HoldsAWrongBlock, IsSameTable, LooksOn, Reads, ReadsBlocks, keeping, unread};
+ghost use Rattle.fjall_table_reader.specs.Readers.{HoldsAWrongBlockFor, IsSameTable, LooksOn, Reads, ReadsBlocks, keeping, kept_size, unread};
 ghost use Rattle.fjall_table_reader.specs.Spans.{first_block, last_block};
 
 use crate::block::Block;
@@ -34,13 +34,13 @@ impl Model for TableReader {
     ghost use Rattle.std.specs.Prelude.{map};
     ghost use Rattle.std.specs.Option.{option_map};
     ghost use Rattle.fjall_table_reader.specs.Files.{handles_in, name_of};
-    ghost use Rattle.fjall_table_reader.specs.Readers.{Reader, IsReader};
+    ghost use Rattle.fjall_table_reader.specs.Readers.{Reader, IsCountedReader};
 
     ghost Value = { Reader };
 
     ghost view = { λ t. record { name = name_of t.file; info = t.file.info; handles = handles_in t.file; kept = map (option_map (λ b. b.value)) t.blocks.items } };
 
-    ghost invariant = { λ t. IsReader (record { name = name_of t.file; info = t.file.info; handles = handles_in t.file; kept = map (option_map (λ b. b.value)) t.blocks.items }) };
+    ghost invariant = { λ t. IsCountedReader t.kept_bytes (record { name = name_of t.file; info = t.file.info; handles = handles_in t.file; kept = map (option_map (λ b. b.value)) t.blocks.items }) };
 }
 
 /// A place for each block, none of which is kept.
@@ -94,8 +94,10 @@ impl TableReader {
         self.blocks.len()
     }
 
-    /// For how many bytes of memory the kept blocks count, as `Block::size`: an estimate, and at most the greatest u64.
-    pub fn kept_bytes(&self) -> u64 {
+    /// For how many bytes of memory the kept blocks count, each as `Block::size`; the greatest u64 where that is too small.
+    pub fn kept_bytes(&self) -> u64
+        ensures { result ≡ min (kept_size self.now) (2 ^ 64 - 1) }
+    {
         self.kept_bytes
     }
 
@@ -133,9 +135,9 @@ impl TableReader {
         Ok(block)
     }
 
-    /// Keeps a block.
+    /// Keeps a block, where none is kept yet.
     fn keep(&mut self, at: usize, block: Arc<Block, Global>)
-        requires { at < length self.old.handles }
+        requires { slice_get self.old.kept at ≡ Some None }
         ensures { self.new ≡ keeping at block.value self.old }
     {
         self.kept_bytes = self.kept_bytes.saturating_add(block.size());
@@ -187,7 +189,7 @@ impl TableReader {
         ensures found { IsTrue D.honest → (entries : List Entry) → Reads (D.meaning disk.old) self.old entries → IfOk result (λ f. IsFound key.now f (slice_get (versions_at key.now instant entries) 0)) }
         ensures reads { IsTrue D.honest → (entries : List Entry) → Reads (D.meaning disk.old) self.old entries → Reads (D.meaning disk.new) self.new entries }
         ensures refused { IsTrue D.honest → (entries : List Entry) → Reads (D.meaning disk.old) self.old entries
-            → IfErr result (IsRefused (HoldsAWrongBlock (entry_at (D.meaning disk.old) self.old.name) self.old.handles)
+            → IfErr result (IsRefused (HoldsAWrongBlockFor key.now (entry_at (D.meaning disk.old) self.old.name) self.old.handles)
             (D.meaning disk.old).faults (D.meaning disk.new).faults) }
         ensures table { IsSameTable self.old self.new }
         ensures disk { LooksOn D.honest (D.meaning disk.old) (D.meaning disk.new) }

@@ -1,15 +1,15 @@
 //! Brings a bulk write into a keyspace of a database.
 
 use fjall_base::{Disk, Result};
-use fjall_core::{Config, Core};
+use fjall_core::{Config, Engine};
 use fjall_folder::FolderDisk;
 use fjall_options::KeyspaceCreateOptions;
 use fjall_writes::Ingestion;
 use std::alloc::Global;
 
 // Opens the database on a disk.
-fn opened<D: Disk + Drop>(alloc: Global, config: Config, disk: D) -> Result<Box<Core<D>>> {
-    match Core::open(alloc, config, disk) {
+fn opened<D: Disk + Drop>(alloc: Global, config: Config, disk: D) -> Result<Box<Engine<D>>> {
+    match Engine::open(alloc, config, disk) {
         Ok(core) => Ok(Box::new(alloc, core)?),
         Err(refused) => Err(refused.error),
     }

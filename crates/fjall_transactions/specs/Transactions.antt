@@ -18,6 +18,7 @@ use Rattle.fjall_tx.specs.Oracles.{Conflicts, commit_of}
 use Rattle.fjall_tx.specs.Owns.{Own, key_of, with_writes}
 use Rattle.fjall_history.specs.declared.ticket.Ticket.{Ticket}
 use Rattle.fjall_core.specs.Holding.{Held}
+use Rattle.fjall_transactions.specs.declared.transactions.Transactions.{Transactions}
 
 -- The ticket at whose instant it reads, its own writes, what an optimistic one marked, and how its commit is persisted. The
 -- single writer's marks nothing, since none commits beside it.
@@ -78,11 +79,14 @@ abbrev pub with_items : Marks → List BatchItem → Marks
 with_items marks [] = marks
 with_items marks (item ∷ items) = with_items (with_write marks item.0 item.1) items
 
--- What is kept beside a core: the optimistic transactions that committed, but for those that none that is open can meet, and
--- the ticket of the single writer's transaction that was begun last.
-pub record Kept : Type 0 where
-  pub commits : List Committed
-  pub writer : Option Ticket
+-- What a core keeps of its transactions: the optimistic ones that committed, but for those that none that is open can meet, and
+-- the ticket of the single writer's that was begun last.
+abbrev pub Kept : Type 0
+Kept = Transactions
+
+-- none has committed, and no single writer's has begun
+abbrev pub none_kept : Kept
+none_kept = record { commits = []; writer = None }
 
 -- These transactions committed in this core: under numbers below its next one.
 abbrev pub AreCommitsOf : Held → List Committed → Type 0

@@ -24,7 +24,7 @@ ghost use Rattle.fjall_tx.specs.declared.outcome.CommitOutcome.{CommitOutcome as
 ghost use Rattle.fjall_transactions.specs.Commits.{Ends, is_writing};
 ghost use Rattle.fjall_transactions.specs.Standing.{CommitGoesOn, CommitStep, GoesOn, StandFor, Told, gone_on, history_of};
 ghost use Rattle.fjall_transactions.specs.Writers.{AreWriters};
-ghost use Rattle.fjall_transactions.specs.Transactions.{AreCommitsOf, Kept, Tx, having_touched, op_of, replace_refusal, replacing, with_own};
+ghost use Rattle.fjall_transactions.specs.Transactions.{AreCommitsOf, Kept, Tx, having_touched, none_kept, op_of, replace_refusal, replacing, with_own};
 
 /// What a key becomes is written exactly where it differs from what the key has had, and is refused there alone.
 pub fn what_stays_is_not_written()
@@ -37,7 +37,7 @@ pub fn what_stays_is_not_written()
 /// A core that was just opened, of whose history nothing was accepted, stands with no transactions.
 pub fn an_opening_stands()
     ensures { (core : Held) (s : State) → StandsFor core s → AreSound (times s) → s.history.accepted ≡ []
-        → StandFor core (record { commits = []; writer = None }) (record { state = s; accepted = [] }) }
+        → StandFor core none_kept (record { state = s; accepted = [] }) }
 {}
 
 /// A call of the core leaves its transactions as they are: what it accepts no optimistic transaction committed. Over any disk it

@@ -1,7 +1,8 @@
-//! Readers of a core and transactions over it: the single writer's and optimistic ones, each read within its own view with its own
-//! writes applied, where each read marks what its answer rests on.
+//! A core, which is an engine with its transactions as one value, and its readers: the single writer's transactions and optimistic
+//! ones, each read within its own view with its own writes applied, where each read marks what its answer rests on.
 #![tactic(auto)]
 
+mod cores;
 mod laid;
 mod laws;
 mod reader;
@@ -11,6 +12,7 @@ mod transaction_reader;
 mod transactions;
 mod updates;
 
+pub use cores::Core;
 pub use fjall_tx::{CommitOutcome, Conflict, OwnWrites};
 pub use laws::{
     a_call_of_the_core_stands, a_commit_stands, an_opening_stands, conflicts_are_exact,
@@ -21,5 +23,4 @@ pub use reader::Reader;
 pub use reader_laws::readers_show_the_state;
 pub use transaction::Transaction;
 pub use transaction_reader::TransactionReader;
-pub use transactions::Transactions;
 pub use updates::Made;

@@ -10,7 +10,7 @@ ghost use Rattle.fjall_transactions.specs.Shown.{IsRefusedFor, ReadsKeyspace, Sh
 ghost use Rattle.fjall_transactions.specs.ReadsGoing.{reads_go_on, reads_none, reads_short};
 
 use fjall_base::{Disk, KvPair, Result, UserValue};
-use fjall_core::{Core, View};
+use fjall_core::{Engine, View};
 use fjall_reading::{Identified, KeyRange, Pages, Readable};
 use std::alloc::Global;
 
@@ -22,13 +22,13 @@ use std::alloc::Global;
 #[derive(Drop)]
 pub struct Reader<'a, D: Disk> {
     alloc: Global,
-    core: &'a mut Core<D>,
+    core: &'a mut Engine<D>,
     view: View,
 }
 
 impl<'a, D: Disk> Reader<'a, D> {
     /// A reader of the core at this view.
-    pub fn new(alloc: Global, core: &'a mut Core<D>, view: View) -> Reader<'a, D>
+    pub fn new(alloc: Global, core: &'a mut Engine<D>, view: View) -> Reader<'a, D>
         ensures core { result.core.now ≡ core.old }
         ensures view { result.view ≡ view }
         ensures same_core { result.core.ghost_name ≡ core.entry.ghost_name }
@@ -44,7 +44,7 @@ impl<'a, D: Disk> Reader<'a, D> {
     }
 
     /// The core, which is free again.
-    pub fn into_core(self) -> &'a mut Core<D>
+    pub fn into_core(self) -> &'a mut Engine<D>
         ensures core { result.now ≡ self.entry.core.now }
         ensures same_core { result.ghost_name ≡ self.entry.core.ghost_name }
     {

@@ -22,7 +22,7 @@ use crate::laid::{laid_first, laid_last, laid_page};
 use crate::reader::Reader;
 use crate::transaction::Transaction;
 use fjall_base::{Disk, Error, KeyBounds, KvPair, Result, Slice, UserValue};
-use fjall_core::{Core, View};
+use fjall_core::{Engine, View};
 use fjall_reading::{
     Guard, Identified, KeyRange, Pages, ReadIter, Readable, bounds_of, pair_count, prefix_to_range,
     range_of,
@@ -66,7 +66,7 @@ impl<'a, D: Disk> TransactionReader<'a, D> {
     /// A reader of the core within this transaction.
     pub fn new(
         alloc: Global,
-        core: &'a mut Core<D>,
+        core: &'a mut Engine<D>,
         transaction: &'a mut Transaction,
     ) -> TransactionReader<'a, D>
         ensures core { result.reader.core.now ≡ core.old }
@@ -85,7 +85,7 @@ impl<'a, D: Disk> TransactionReader<'a, D> {
     }
 
     /// The core and the transaction, which are free again.
-    pub fn into_parts(self) -> (&'a mut Core<D>, &'a mut Transaction)
+    pub fn into_parts(self) -> (&'a mut Engine<D>, &'a mut Transaction)
         ensures core { result.0.now ≡ self.entry.reader.core.now }
         ensures transaction { result.1.now ≡ self.entry.transaction.now }
         ensures same_core { result.0.ghost_name ≡ self.entry.reader.core.ghost_name }

@@ -10,7 +10,7 @@ use Rattle.fjall_memtable.specs.Parts.{HeldPart, Memory, clears_in, empty_from, 
 use Rattle.fjall_tree.specs.declared.out.FlushOut.{FlushOut}
 use Rattle.fjall_tree.specs.declared.out.MergeOut.{MergeOut}
 use Rattle.fjall_tree.specs.Out.{IsFlushOf, IsMergeOf}
-use Rattle.fjall_tree.specs.Trees.{IsSameShape, IsShape, Shape, floor_of}
+use Rattle.fjall_tree.specs.Trees.{IsSameShape, IsShape, Shape, floor_of, unread_shape}
 use Rattle.fjall_tree.proofs.Changes.{first_sealed}
 
 -- more parts are sealed
@@ -66,7 +66,7 @@ pub same_shape : (shape : Shape) → IsSameShape shape shape
 same_shape shape = record { tables = all_same_none shape.tables; clears = refl; memory = refl; flush = refl; merge = refl }
 
 -- nothing but the blocks that are kept
-pub unread_same : (shape : Shape) → IsSameShape shape (record shape { tables = all_unread shape.tables })
+pub unread_same : (shape : Shape) → IsSameShape shape (unread_shape shape)
 unread_same shape = record { tables = by shape.tables; clears = refl; memory = refl; flush = refl; merge = refl }
   where
     by : (ts : List Reader) → AreSameTables ts (all_unread ts)

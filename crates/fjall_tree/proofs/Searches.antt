@@ -15,7 +15,7 @@ use Rattle.fjall_memtable.specs.Sorted.{flat}
 use Rattle.fjall_memtable.proofs.SortedRanges.{newest_first}
 use Rattle.fjall_table_reader.specs.declared.found.Found.{Found}
 use Rattle.fjall_table_reader.specs.Finds.{IsFound, entry_found}
-use Rattle.fjall_table_reader.specs.Readers.{AreRead, AreSameTables, HoldsAWrongBlock, IsSameTable, LooksOn, Reader, Reads, SomeTableIsWrong}
+use Rattle.fjall_table_reader.specs.Readers.{AreRead, AreSameTables, IsSameTable, LooksOn, Reader, Reads}
 use Rattle.fjall_table_reader.proofs.Readers.{looks_again, looks_none}
 use Rattle.fjall_table_reader.proofs.Several.{all_read_on, all_same_none, length_read, read_at, read_ordered, read_set, same_at, same_set}
 
@@ -83,10 +83,11 @@ found_in_all honest old new before after key instant at found entries s h r le =
     let e = length_read old before entries r in
     s.newest h entries r ∙ ap (λ (ess : List (List Entry)). newest key instant (flat ess)) (take_all at entries (omega arith))
 
--- a table with a wrong block is one of those that were there at first
-pub wrong_table : (old mid : Meaning) (before mid_readers : List Reader) (at : ℕ) (u : Reader) → state_in mid ≡ state_in old → AreSameTables before mid_readers
-    → slice_get mid_readers at ≡ Some u → HoldsAWrongBlock (entry_at mid u.name) u.handles → SomeTableIsWrong old before
-wrong_table old mid before mid_readers at u same tables here wrong =
+-- a table of which something holds, as that it has a wrong block, is one of those that were there at first
+pub table_before : (Holds : disk.DiskEntry → List Handle → Type 0) (old mid : Meaning) (before mid_readers : List Reader) (at : ℕ) (u : Reader) → state_in mid ≡ state_in old
+    → AreSameTables before mid_readers → slice_get mid_readers at ≡ Some u → Holds (entry_at mid u.name) u.handles
+    → (at : ℕ) × (t : Reader) × (slice_get before at ≡ Some t) × Holds (entry_at old t.name) t.handles
+table_before Holds old mid before mid_readers at u same tables here is =
     let t = same_at before mid_readers at u tables here in
     let there : entry_at mid u.name ≡ entry_at old t.0.name = ap (λ (s : DiskState). (s u.name).now) same ∙ ap (λ (n : disk.Name). entry_at old n) t.2.name in
-    (at, t.0, t.1, subst (λ (hs : List Handle). HoldsAWrongBlock (entry_at old t.0.name) hs) t.2.handles (subst (λ (e : disk.DiskEntry). HoldsAWrongBlock e u.handles) there wrong))
+    (at, t.0, t.1, subst (λ (hs : List Handle). Holds (entry_at old t.0.name) hs) t.2.handles (subst (λ (e : disk.DiskEntry). Holds e u.handles) there is))

@@ -2,7 +2,7 @@
 
 ghost use Rattle.std.specs.Prelude.{◌≡◌, ◌-◌, ◌^◌, min, count_by};
 ghost use Rattle.std.specs.List.{sum_by};
-ghost use Rattle.fjall_table_reader.specs.Readers.{all_unread};
+ghost use Rattle.fjall_table_reader.specs.Readers.{all_unread, kept_sizes};
 ghost use Rattle.fjall_tree.specs.Trees.{is_l0};
 
 use fjall_table::Level;
@@ -28,7 +28,9 @@ pub(crate) fn bytes_on_disk(tables: &[TableReader]) -> u64
     total
 }
 
-pub(crate) fn bytes_kept(tables: &[TableReader]) -> u64 {
+pub(crate) fn bytes_kept(tables: &[TableReader]) -> u64
+    ensures { result ≡ min (kept_sizes tables.now) (2 ^ 64 - 1) }
+{
     let mut total = 0u64;
     for table in tables {
         total = total.saturating_add(table.kept_bytes());

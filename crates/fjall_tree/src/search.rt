@@ -9,7 +9,7 @@ ghost use Rattle.fjall_views.specs.Views.{later, newest};
 ghost use Rattle.fjall_memtable.specs.SortedPages.{barrier};
 ghost use Rattle.fjall_memtable.specs.Sorted.{flat};
 ghost use Rattle.fjall_table_reader.specs.Finds.{IsFound, entry_found};
-ghost use Rattle.fjall_table_reader.specs.Readers.{AreRead, AreSameTables, LooksOn, SomeTableIsWrong};
+ghost use Rattle.fjall_table_reader.specs.Readers.{AreRead, AreSameTables, LooksOn, SomeTableIsWrongFor};
 ghost use Rattle.fjall_memtable.specs.Parts.{Ascends};
 ghost use Rattle.fjall_tree.specs.Trees.{value_from};
 
@@ -59,7 +59,7 @@ pub(crate) fn newest_in<D: Disk>(
     ensures found { IsTrue D.honest → (entries : List (List Entry)) → AreRead (D.meaning disk.old) tables.old entries → IfOk result (λ f. IsFound key.now f (newest key.now instant (flat entries))) }
     ensures reads { IsTrue D.honest → (entries : List (List Entry)) → AreRead (D.meaning disk.old) tables.old entries → AreRead (D.meaning disk.new) tables.new entries }
     ensures refused { IsTrue D.honest → (entries : List (List Entry)) → AreRead (D.meaning disk.old) tables.old entries
-        → IfErr result (IsRefused (SomeTableIsWrong (D.meaning disk.old) tables.old) (D.meaning disk.old).faults (D.meaning disk.new).faults) }
+        → IfErr result (IsRefused (SomeTableIsWrongFor key.now (D.meaning disk.old) tables.old) (D.meaning disk.old).faults (D.meaning disk.new).faults) }
     ensures tables { AreSameTables tables.old tables.new }
     ensures disk { LooksOn D.honest (D.meaning disk.old) (D.meaning disk.new) }
     ensures listed { IfErr result (IsRefused ⊤ (D.meaning disk.old).faults (D.meaning disk.new).faults) }

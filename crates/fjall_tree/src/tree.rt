@@ -1,23 +1,23 @@
 //! The tree of one keyspace.
 
-ghost use Rattle.std.specs.Prelude.{◌≡◌, ◌+◌, ◌-◌, ◌<◌, ◌≤◌, ◌^◌, [], List, length, min, not, count_by, ⊤, IsTrue, IfOk, IfErr, OnOk, OnErr, Ok, Some, None, true, false};
+ghost use Rattle.std.specs.Prelude.{◌≡◌, ◌≢◌, ◌+◌, ◌-◌, ◌<◌, ◌≤◌, ◌^◌, [], List, length, min, not, count_by, ⊤, IsTrue, IfOk, IfErr, IsOkUnless, OnOk, OnErr, Ok, Some, None, true, false};
 ghost use Rattle.std.specs.List.{All, sum_by};
 ghost use Rattle.fjall_base.specs.Disk.{Meaning};
 ghost use Rattle.fjall_table.specs.Blocks.{Entry};
 ghost use Rattle.fjall_table_reader.specs.Files.{IsRefused};
-ghost use Rattle.fjall_views.specs.Views.{value_at};
+ghost use Rattle.fjall_views.specs.Views.{newest, value_at};
 ghost use Rattle.fjall_memtable.specs.SortedPages.{barrier};
-ghost use Rattle.fjall_table_reader.specs.Readers.{LooksOn, SomeTableIsWrong, all_unread};
+ghost use Rattle.fjall_table_reader.specs.Readers.{LooksOn, SomeTableIsWrongFor, kept_sizes};
 ghost use Rattle.fjall_memtable.specs.Entries.{size_of, version, IsAbsent};
 ghost use Rattle.fjall_memtable.specs.Parts.{AreApart, Ascends, IsHeld, empty_from, holds_nothing, parts_of, versions_in};
 ghost use Rattle.fjall_memtable.specs.Memories.{memory_of};
 ghost use Rattle.fjall_tree.specs.Out.{IsFlushOf, IsMergeOf};
-ghost use Rattle.fjall_tree.specs.Trees.{IsSameShape, IsShape, ReadsAll, clears_of, emptied, is_l0, sealed_off, shape_prop, versions_of, written};
+ghost use Rattle.fjall_tree.specs.Trees.{IsSameShape, IsShape, ReadsAll, clears_of, emptied, is_l0, sealed_off, shape_prop, unread_shape, versions_of, written};
 
 use crate::counts::{bytes_kept, bytes_on_disk, count_of_l0, drop_all_blocks, entries_in};
 use crate::out::{FlushOut, MergeOut};
 use crate::search::{greatest_below, newest_in, value_found, value_of};
-use fjall_base::{Disk, UserValue};
+use fjall_base::{Disk, Error, UserValue};
 use fjall_memtable::{Mark, Parts};
 use fjall_table_reader::TableReader;
 use std::alloc::{AllocError, Global};
@@ -150,9 +150,9 @@ impl Tree {
     }
 
     /// The value of a key in the view at an instant: what the changes numbered below it made. None where it has none. Memory
-    /// is asked first, and only where it has no version of the key below the instant are the tables, all of them. A table
-    /// whose file is damaged where the key would stand is `Storage(TableDamaged)`. Blocks that were read are kept, also after
-    /// an `Err`.
+    /// is asked first, and only where it has no version of the key below the instant are the tables, all of them: of each the
+    /// blocks that may hold the key. One of these that is damaged is `Storage(TableDamaged)`. Blocks that were read are kept,
+    /// also after an `Err`.
     pub fn get<D: Disk>(
         &mut self,
         disk: &mut D,
@@ -164,7 +164,10 @@ impl Tree {
         ensures reads { IsTrue D.honest → (entries : List (List Entry)) → ReadsAll (D.meaning disk.old) (shape_of self.old) entries → ReadsAll (D.meaning disk.new) (shape_of self.new) entries }
         ensures shape { IsSameShape (shape_of self.old) (shape_of self.new) }
         ensures refused { IsTrue D.honest → (entries : List (List Entry)) → ReadsAll (D.meaning disk.old) (shape_of self.old) entries
-            → IfErr result (IsRefused (SomeTableIsWrong (D.meaning disk.old) (shape_of self.old).tables) (D.meaning disk.old).faults (D.meaning disk.new).faults) }
+            → IfErr result (IsRefused (SomeTableIsWrongFor key.now (D.meaning disk.old) (shape_of self.old).tables) (D.meaning disk.old).faults (D.meaning disk.new).faults) }
+        // Where memory has a version of the key, the disk isn't asked.
+        ensures memory { newest key.now instant (versions_in (parts_of (shape_of self.old).memory)) ≢ None
+            → (shape_of self.new ≡ shape_of self.old) × (D.meaning disk.new ≡ D.meaning disk.old) × IsOkUnless result Error.OutOfMemory }
         ensures disk { LooksOn D.honest (D.meaning disk.old) (D.meaning disk.new) }
         ensures listed { IfErr result (IsRefused ⊤ (D.meaning disk.old).faults (D.meaning disk.new).faults) }
     {
@@ -227,26 +230,18 @@ impl Tree {
         self.parts.size()
     }
 
-    /// For how many bytes of memory the kept blocks of all tables count: an estimate, and at most the greatest u64.
-    pub fn kept_bytes(&self) -> u64 {
+    /// For how many bytes of memory the kept blocks of all tables count; the greatest u64 where that is too small.
+    pub fn kept_bytes(&self) -> u64
+        ensures { result ≡ min (kept_sizes (shape_of self.now).tables) (2 ^ 64 - 1) }
+    {
         bytes_kept(self.tables.as_slice())
     }
 
     /// Keeps no block of any table any longer.
     pub fn drop_blocks(&mut self)
-        ensures shape { shape_of self.new ≡ record (shape_of self.old) { tables = all_unread (shape_of self.old).tables } }
+        ensures shape { shape_of self.new ≡ unread_shape (shape_of self.old) }
         ensures reads { (disk : Meaning) (entries : List (List Entry)) → ReadsAll disk (shape_of self.old) entries → ReadsAll disk (shape_of self.new) entries }
     {
         drop_all_blocks(self.tables.as_mut_slice());
-    }
-
-    /// Keeps no block any longer where the kept blocks count for more than so many bytes.
-    pub fn keep_at_most(&mut self, bytes: u64)
-        ensures shape { IsSameShape (shape_of self.old) (shape_of self.new) }
-        ensures reads { (disk : Meaning) (entries : List (List Entry)) → ReadsAll disk (shape_of self.old) entries → ReadsAll disk (shape_of self.new) entries }
-    {
-        if self.kept_bytes() > bytes {
-            self.drop_blocks();
-        }
     }
 }

@@ -1,6 +1,7 @@
 pub mod Changing
 mod Counting
 mod Ingested
+mod Bounded
 mod Marking
 pub mod Others
 pub mod Outstanding

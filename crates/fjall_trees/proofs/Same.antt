@@ -1,10 +1,13 @@
 -- The same trees but for what is kept of their tables, and the tree of one keyspace.
-use Rattle.std.proofs.Common.{◌≡◌, ℕ, zero, suc, ◌<◌, ◌==◌, Bool, true, false, cond, List, [], ◌∷◌, set, slice_get, unwrap_or, All, AllPairs, Option, Some, None, Result, Ok, Err, refl, sym, ap, subst, ◌∙◌, arith}
+use Rattle.std.proofs.Common.{◌≡◌, ℕ, zero, suc, ◌<◌, ◌≤◌, ◌==◌, Bool, true, false, cond, List, [], ◌∷◌, set, slice_get, unwrap_or, All, AllPairs, Option, Some, None, Result, Ok, Err, refl, sym, ap, subst, ◌∙◌, arith}
 use Rattle.std.specs.Prelude.{◌↔◌, IfSome}
-use Rattle.std.specs.Result.{IfOk}
+use Rattle.std.specs.Result.{IfErr, IfOk}
 use Rattle.std.proofs.lemmas.Bool.{eq-eqb, eqb-true, true≢false}
 use Rattle.std.proofs.lemmas.List.Elements.{All-cons, All-nil}
 use Rattle.fjall_base.proofs.Codecs.{some_is}
+use Rattle.fjall_base.specs.declared.error.Error.{Error}
+use Rattle.fjall_table_reader.specs.Files.{IsRefused}
+use Rattle.fjall_table_reader.proofs.TableFiles.{refused_later}
 use Rattle.fjall_tree.specs.declared.tree.Tree.{Tree}
 use Rattle.fjall_tree.specs.Puts.{bare_tree}
 use Rattle.fjall_tree.specs.Shapes.{shape_of}
@@ -103,3 +106,7 @@ some_so (Some x) P Q so p = so x p
 
 pub job_so : {T E : Type 0} (r : Result (Option T) E) (P Q : T → Type 0) → ((x : T) → P x → Q x) → IfOk r (λ o. IfSome o P) → IfOk r (λ o. IfSome o Q)
 job_so r P Q so p = if_ok_so r (λ o. IfSome o P) (λ o. IfSome o Q) (λ o. some_so o P Q so) p
+
+pub refused_so : {T : Type 0} (r : Result T Error) (P Q : Type 0) (before after : ℕ) → before ≤ after → (P → Q) → IfErr r (IsRefused P before after) → IfErr r (IsRefused Q before after)
+refused_so (Ok x) P Q before after le so is = tt
+refused_so (Err e) P Q before after le so is = refused_later P Q before before after e (omega arith) le so is

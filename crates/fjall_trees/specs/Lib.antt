@@ -1,4 +1,5 @@
 pub mod Forests
+pub mod Kept
 pub mod Lists
 pub mod Sealing
 pub mod Tables

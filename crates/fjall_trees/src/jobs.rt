@@ -9,6 +9,7 @@ ghost use Rattle.fjall_jobs.specs.Flushes.{flush_task};
 ghost use Rattle.fjall_jobs.specs.Merges.{merge_task};
 ghost use Rattle.fjall_tree.specs.Jobs.{IsFlushing, IsMerging, MergesNothing, count_out, flush_begun, flush_dropped, flush_end, flush_finished, flush_of, input_of, is_flush_out, is_merge_out, merge_begun, merge_dropped, merge_finished, merge_of};
 ghost use Rattle.fjall_trees.specs.Forests.{altered_at};
+ghost use Rattle.fjall_trees.specs.Kept.{kept_bytes};
 ghost use Rattle.fjall_trees.specs.Tables.{AreReadOn, AreSameTrees, HasRoomAt, shape_in};
 
 use crate::trees::{Trees, place_of};
@@ -167,7 +168,8 @@ impl Trees {
     /// Begins a merge of all tables of a keyspace and of its record's clears under a number that no other job has, whose
     /// tables are closed at the target size. None where fewer of them stand at level 0 than `least`, or none at all, where a
     /// merge of it is out, or where the keyspace has no tree. The watermark is below 2^63. All blocks of the tables are read;
-    /// a damaged one is `Storage(TableDamaged)`, and an `Err` begins nothing.
+    /// a damaged one is `Storage(TableDamaged)`, and an `Err` begins nothing. The trees keep these up to their bound, the job
+    /// while it is out.
     pub fn begin_merge<D: Disk>(
         &mut self,
         disk: &mut D,
@@ -195,12 +197,21 @@ impl Trees {
             → IfErr result (IsRefused (SomeTableIsWrong (D.meaning disk.old) (shape_in id (forest_of self.old)).tables) (D.meaning disk.old).faults (D.meaning disk.new).faults) }
         ensures disk { LooksOn D.honest (D.meaning disk.old) (D.meaning disk.new) }
         ensures listed { IfErr result (IsRefused ⊤ (D.meaning disk.old).faults (D.meaning disk.new).faults) }
+        ensures kept { kept_bytes (forest_of self.new) ≤ self.old.kept_bound }
+        ensures bound { self.new.kept_bound ≡ self.old.kept_bound }
     {
         match place_of(self.trees.as_slice(), id) {
-            Some(place) => self.trees[place]
-                .tree
-                .begin_merge(disk, job, id, watermark, least, target),
-            None => Ok(None),
+            Some(place) => {
+                let begun = self.trees[place]
+                    .tree
+                    .begin_merge(disk, job, id, watermark, least, target);
+                self.keep_to_bound();
+                begun
+            }
+            None => {
+                self.keep_to_bound();
+                Ok(None)
+            }
         }
     }
 

@@ -6,6 +6,7 @@ mod batches;
 mod counts;
 mod ingestion;
 mod jobs;
+mod kept;
 mod laws;
 mod map_laws;
 mod marks;
@@ -16,6 +17,7 @@ mod table_laws;
 mod trees;
 mod writes;
 
+pub use kept::KEPT_BLOCK_BYTES;
 pub use laws::{
     an_ingestion_changes_one_keyspace, finished_jobs_change_one_keyspace,
     flushes_of_trees_stay_out, merges_of_trees_stay_out, other_trees_stay, the_tables_stay_read,

@@ -1,6 +1,6 @@
 //! The trees of all keyspaces.
 
-ghost use Rattle.std.specs.Prelude.{◌≡◌, ◌≢◌, ◌++◌, ◌∷◌, ◌<◌, [], List, All, length, map, not, IfOk, OnOk, OnErr, IsOkUnless, MatchOption, IsSomeAnd, Some, None, Ok, true, false, slice_get, unwrap_or};
+ghost use Rattle.std.specs.Prelude.{◌≡◌, ◌≢◌, ◌*◌, ◌++◌, ◌∷◌, ◌<◌, [], List, All, length, map, not, IfOk, OnOk, OnErr, IsOkUnless, MatchOption, IsSomeAnd, Some, None, Ok, true, false, slice_get, unwrap_or};
 ghost use Rattle.std.specs.Option.{option_copied, option_map};
 ghost use Rattle.fjall_memtable.specs.Parts.{holds_nothing};
 ghost use Rattle.fjall_tree.specs.Shapes.{shape_of};
@@ -8,6 +8,7 @@ ghost use Rattle.fjall_tree.specs.Trees.{sealed_off};
 ghost use Rattle.fjall_trees.specs.Forests.{IsForest, altered_at, forest_prop, tree_at, without};
 ghost use Rattle.fjall_trees.specs.Lists.{forest_in};
 
+use crate::kept::KEPT_BLOCK_BYTES;
 use fjall_tree::Tree;
 use std::alloc::{AllocError, Global};
 
@@ -18,11 +19,13 @@ pub struct KeyspaceTree {
     pub(crate) tree: Tree,
 }
 
-/// The trees of keyspaces, each under its keyspace's id, by id ascending.
+/// The trees of keyspaces, each under its keyspace's id, by id ascending, and for how many bytes the blocks of tables may count
+/// that they keep in memory.
 #[derive(Drop)]
 pub struct Trees {
     pub(crate) alloc: Global,
     pub(crate) trees: Vec<KeyspaceTree>,
+    pub(crate) kept_bound: u64,
     ghost lawful: { IsForest (forest_in trees.items) } by { forest_prop (forest_in trees.items) },
 }
 
@@ -51,13 +54,15 @@ pub(crate) fn place_near(trees: &[KeyspaceTree], id: u64, guess: usize) -> Optio
 impl Trees {
     ghost use Rattle.fjall_trees.specs.Views.{forest_of};
 
-    /// No keyspace has a tree.
+    /// No keyspace has a tree, and blocks are kept up to `KEPT_BLOCK_BYTES`.
     pub fn new(alloc: Global) -> Trees
-        ensures { forest_of result ≡ [] }
+        ensures trees { forest_of result ≡ [] }
+        ensures bound { result.kept_bound ≡ 64 * 1024 * 1024 }
     {
         Trees {
             alloc,
             trees: Vec::new(alloc),
+            kept_bound: KEPT_BLOCK_BYTES,
         }
     }
 

@@ -3,10 +3,10 @@
 use crate::job::{Job, number_from_bytes, number_to_bytes, read_job};
 use anyhow::{Context, Result};
 use fjall_base::{Disk, Slice};
-use fjall_core::{Config, Core, View};
+use fjall_core::{Config, View};
 use fjall_options::KeyspaceCreateOptions;
 use fjall_reading::Readable;
-use fjall_transactions::{CommitOutcome, Transaction, TransactionReader, Transactions};
+use fjall_transactions::{CommitOutcome, Core, Transaction, TransactionReader};
 use std::alloc::Global;
 use std::ops::Bound;
 
@@ -30,7 +30,6 @@ pub enum Outcome<T> {
 pub struct JobQueue<D: Disk> {
     alloc: Global,
     core: Box<Core<D>>,
-    transactions: Transactions,
     waiting: u64,
     claimed: u64,
     numbers: u64,
@@ -55,7 +54,6 @@ impl<D: Disk + Drop> JobQueue<D> {
         Ok(JobQueue {
             alloc,
             core,
-            transactions: Transactions::new(alloc),
             waiting,
             claimed,
             numbers,
@@ -107,7 +105,7 @@ impl<D: Disk + Drop> JobQueue<D> {
 
     /// Begins a transaction: it reads the queue as it is now, and nobody sees what it writes before it ends.
     pub fn begin(&mut self) -> Result<Transaction> {
-        Ok(self.transactions.begin_optimistic(&mut self.core)?)
+        Ok(self.core.begin_optimistic()?)
     }
 
     /// Ends a transaction: commits what was done in it, or takes it back after an error.
@@ -119,11 +117,11 @@ impl<D: Disk + Drop> JobQueue<D> {
         let answer = match done {
             Ok(answer) => answer,
             Err(error) => {
-                self.transactions.rollback(&mut self.core, transaction)?;
+                self.core.rollback(transaction)?;
                 return Err(error);
             }
         };
-        match self.transactions.commit(&mut self.core, transaction) {
+        match self.core.commit(transaction) {
             CommitOutcome::Ok => Ok(Outcome::Done(answer)),
             CommitOutcome::Conflicted => Ok(Outcome::Conflicted),
             CommitOutcome::Aborted(error) => Err(error.into()),

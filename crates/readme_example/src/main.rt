@@ -4,23 +4,23 @@
 
 // README: from here
 use fjall_base::{Result, Slice};
-use fjall_core::{Config, Core, PersistMode, View};
+use fjall_core::{Config, Engine, PersistMode, View};
 use fjall_folder::FolderDisk;
 use fjall_options::KeyspaceCreateOptions;
 use fjall_writes::OwnedWriteBatch;
 
 // A core is large, so it lives in a box.
-fn open(rt: &HostRuntime, folder: &str) -> Result<Box<Core<FolderDisk>>> {
+fn open(rt: &HostRuntime, folder: &str) -> Result<Box<Engine<FolderDisk>>> {
     let alloc = rt.alloc();
     let config = Config::new(alloc, folder)?;
-    match Core::open(alloc, config, FolderDisk::open(rt, alloc, folder)?) {
+    match Engine::open(alloc, config, FolderDisk::open(rt, alloc, folder)?) {
         Ok(core) => Ok(Box::new(alloc, core)?),
         Err(refused) => Err(refused.error),
     }
 }
 
 // What nothing does by itself yet.
-fn tidy(rt: &HostRuntime, core: &mut Core<FolderDisk>, keyspace: u64) -> Result<()> {
+fn tidy(rt: &HostRuntime, core: &mut Engine<FolderDisk>, keyspace: u64) -> Result<()> {
     core.rotate_memtable(keyspace)?;
     if let Some(job) = core.flush_begin(keyspace)? {
         let made = match job.run(rt.alloc()) {

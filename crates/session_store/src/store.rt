@@ -4,10 +4,10 @@ use crate::keys::read_keys;
 use crate::stamp::{bound_behind, read_stamped, stamped};
 use anyhow::{Context, Result, bail};
 use fjall_base::{Disk, Slice, UserValue};
-use fjall_core::{Config, Core, View};
+use fjall_core::{Config, View};
 use fjall_options::KeyspaceCreateOptions;
 use fjall_reading::Readable;
-use fjall_transactions::{CommitOutcome, Transaction, TransactionReader, Transactions};
+use fjall_transactions::{CommitOutcome, Core, Transaction, TransactionReader};
 use std::alloc::Global;
 use std::ops::Bound;
 use std::str;
@@ -38,7 +38,6 @@ pub struct Session {
 pub struct SessionStore<D: Disk> {
     alloc: Global,
     core: Box<Core<D>>,
-    transactions: Transactions,
     // by token the session's end and its user's name
     sessions: u64,
     // keys alone: each session's end, and its token behind it
@@ -63,7 +62,6 @@ impl<D: Disk + Drop> SessionStore<D> {
         Ok(SessionStore {
             alloc,
             core,
-            transactions: Transactions::new(alloc),
             sessions,
             ends,
         })
@@ -78,21 +76,21 @@ impl<D: Disk + Drop> SessionStore<D> {
 
     /// Begins a session of a user under a token, which nobody should be able to guess.
     pub fn log_in(&mut self, token: &str, user: &str, now: u64) -> Result<Outcome> {
-        let mut transaction = self.transactions.begin_single(&mut self.core)?;
+        let mut transaction = self.core.begin_single()?;
         let logged_in = self.log_in_within(&mut transaction, token, user, now);
         self.finish(transaction, logged_in)
     }
 
     /// Lets a session that has not ended last anew from now on.
     pub fn renew(&mut self, token: &str, now: u64) -> Result<Outcome> {
-        let mut transaction = self.transactions.begin_single(&mut self.core)?;
+        let mut transaction = self.core.begin_single()?;
         let renewed = self.renew_within(&mut transaction, token, now);
         self.finish(transaction, renewed)
     }
 
     /// Removes all sessions that have ended, and answers how many they were.
     pub fn expire(&mut self, now: u64) -> Result<usize> {
-        let mut transaction = self.transactions.begin_single(&mut self.core)?;
+        let mut transaction = self.core.begin_single()?;
         let expired = self.expire_within(&mut transaction, now);
         self.finish(transaction, expired)
     }
@@ -135,11 +133,11 @@ impl<D: Disk + Drop> SessionStore<D> {
         let answer = match done {
             Ok(answer) => answer,
             Err(error) => {
-                self.transactions.rollback(&mut self.core, transaction)?;
+                self.core.rollback(transaction)?;
                 return Err(error);
             }
         };
-        match self.transactions.commit(&mut self.core, transaction) {
+        match self.core.commit(transaction) {
             CommitOutcome::Ok => Ok(answer),
             CommitOutcome::Conflicted => bail!("the single writer conflicts with nobody"),
             CommitOutcome::Aborted(error) => Err(error.into()),

@@ -1,10 +1,12 @@
 //! What a flush writes, all of it in memory before the disk is changed.
 
-ghost use Rattle.std.specs.Prelude.{◌≡◌, ◌+◌, ◌-◌, ◌≤◌, ◌<◌, ◌^◌, Err, IfErr, IfOk, IsOkUnless, length};
+ghost use Rattle.std.specs.Prelude.{◌≡◌, ◌+◌, ◌≤◌, ◌<◌, ◌^◌, Err, IfErr, IfOk, IsOkUnless, length};
 ghost use Rattle.fjall_manifest.specs.Records.{view};
 ghost use Rattle.fjall_compaction.specs.Flushes.{Flush, flush_of, raised, record_after};
 ghost use Rattle.fjall_compaction.specs.FlushPlans.{IsFlushPlan, IsFlushPlanRefusal, IsNamed};
+ghost use Rattle.fjall_compaction.specs.Room.{HasPlace, LacksNextId};
 
+use crate::place::{Counts, find_place};
 use fjall_base::{Error, Result};
 use fjall_files::{current_name, keyspace_folder, table_name};
 use fjall_jobs::{FlushMade, MadeTable};
@@ -37,18 +39,15 @@ fn raised(other: Option<u64>, number: u64) -> u64
     }
 }
 
-/// The name of the file of the table that was made, under the next id; none where none was made.
+/// The name of the file of the table that was made, under the next id, which isn't the greatest; none where none was made.
 fn table_file(alloc: Global, id: u64, next: u64, tables: &[MadeTable]) -> Result<Option<String>>
-    requires { length tables.now ≤ 1 }
+    requires few { length tables.now ≤ 1 }
+    requires room { next + length tables.now < 2 ^ 64 }
     ensures named { IfOk result (IsNamed id next tables.now) }
-    ensures used_up { 0 < length tables.now → next ≡ 2 ^ 64 - 1 → result ≡ Err Error.NumbersUsedUp }
-    ensures cause { (0 < length tables.now → next < 2 ^ 64 - 1) → IsOkUnless result Error.OutOfMemory }
+    ensures only { IsOkUnless result Error.OutOfMemory }
 {
     if tables.is_empty() {
         return Ok(None);
-    }
-    if next == u64::MAX {
-        return Err(Error::NumbersUsedUp);
     }
     Ok(Some(table_name(alloc, id, next)?))
 }
@@ -84,6 +83,33 @@ fn next_record(
     })
 }
 
+/// Plans what [`plan_tables`] does, where the record after it has a place: it is refused for want of memory alone.
+pub(crate) fn plan_in_place(
+    alloc: Global,
+    keyspace_id: u64,
+    last: &Record,
+    number: u64,
+    tables: &[MadeTable],
+    clears: &[u64],
+) -> Result<FlushPlan>
+    requires few { length tables.now ≤ 1 }
+    requires place { HasPlace (record_after (record { number = number; tables = tables.now; clears = clears.now }) (view last.now)) }
+    ensures ok { IfOk result (IsFlushPlan keyspace_id (view last.now) (record { number = number; tables = tables.now; clears = clears.now })) }
+    ensures only { IsOkUnless result Error.OutOfMemory }
+{
+    let table = table_file(alloc, keyspace_id, last.next_table_id, tables)?;
+    let record = next_record(alloc, last, number, tables, clears)?;
+    let mut record_text = Vec::new(alloc);
+    record.encode_into(&mut record_text)?;
+    Ok(FlushPlan {
+        record,
+        record_text,
+        folder: keyspace_folder(alloc, keyspace_id)?,
+        current: current_name(alloc, keyspace_id)?,
+        table,
+    })
+}
+
 /// Plans how a table that was made, or none, and clears reach the keyspace of this id, as a flush's do: `last` is the keyspace's
 /// last record, which reaches the number afterwards. It changes nothing on the disk, and takes all the memory that
 /// [`write_tables`](crate::write_tables) needs.
@@ -99,28 +125,27 @@ pub fn plan_tables(
 ) -> Result<FlushPlan>
     requires { length tables.now ≤ 1 }
     ensures ok { IfOk result (IsFlushPlan keyspace_id (view last.now) (record { number = number; tables = tables.now; clears = clears.now })) }
-    ensures used_up { 0 < length tables.now → last.now.next_table_id ≡ 2 ^ 64 - 1 → result ≡ Err Error.NumbersUsedUp }
+    ensures used_up { LacksNextId (record_after (record { number = number; tables = tables.now; clears = clears.now }) (view last.now)) → result ≡ Err Error.NumbersUsedUp }
     ensures cause { IfErr result (IsFlushPlanRefusal (view last.now) (record { number = number; tables = tables.now; clears = clears.now })) }
 {
-    let table = table_file(alloc, keyspace_id, last.next_table_id, tables)?;
-    let record = next_record(alloc, last, number, tables, clears)?;
-    let mut record_text = Vec::new(alloc);
-    record.encode_into(&mut record_text)?;
-    Ok(FlushPlan {
-        record,
-        record_text,
-        folder: keyspace_folder(alloc, keyspace_id)?,
-        current: current_name(alloc, keyspace_id)?,
-        table,
-    })
+    let table_counts = Counts {
+        staying: last.tables.len(),
+        made: tables.len(),
+    };
+    let clear_counts = Counts {
+        staying: last.clears.len(),
+        made: clears.len(),
+    };
+    find_place(last.next_table_id, table_counts, clear_counts)?;
+    plan_in_place(alloc, keyspace_id, last, number, tables, clears)
 }
 
 /// Plans how a flush of the keyspace of this id reaches the disk: `last` is the keyspace's last record, and the flush covers
 /// all changes of the keyspace up to this number. It changes nothing on the disk, and takes all the memory that
 /// [`write_flush`](crate::write_flush) needs.
 ///
-/// Refuses with `NumbersUsedUp` where a table was made and the next id is the greatest `u64`, with `TooManyItems` where the
-/// record has no room for all tables and clears, and with `OutOfMemory`.
+/// Refuses with `TooManyItems` where the record has no room for all tables and clears, else with `NumbersUsedUp` where a table was
+/// made and the next id is the greatest `u64`, and else with `OutOfMemory`.
 pub fn plan_flush(
     alloc: Global,
     keyspace_id: u64,
@@ -129,7 +154,7 @@ pub fn plan_flush(
     made: &FlushMade,
 ) -> Result<FlushPlan>
     ensures ok { IfOk result (IsFlushPlan keyspace_id (view last.now) (flush_of number made.now)) }
-    ensures used_up { 0 < length made.now.tables.items → last.now.next_table_id ≡ 2 ^ 64 - 1 → result ≡ Err Error.NumbersUsedUp }
+    ensures used_up { LacksNextId (record_after (flush_of number made.now) (view last.now)) → result ≡ Err Error.NumbersUsedUp }
     ensures cause { IfErr result (IsFlushPlanRefusal (view last.now) (flush_of number made.now)) }
 {
     plan_tables(

@@ -1,12 +1,17 @@
 //! What an ingestion writes, all of it in memory before the disk is changed.
 
-ghost use Rattle.std.specs.Prelude.{◌≡◌, ◌≢◌, ◌-◌, ◌^◌, [], Err, IfErr, IfOk};
+ghost use Rattle.std.specs.Prelude.{◌≡◌, Err, IfErr, IfOk, List, length, min};
+ghost use Rattle.fjall_jobs.specs.declared.made_table.MadeTable.{MadeTable};
 ghost use Rattle.fjall_manifest.specs.Records.{view};
 ghost use Rattle.fjall_writes.specs.Ingestions.{AreWritable, KeysAscend};
+ghost use Rattle.fjall_compaction.specs.Flushes.{record_after};
+ghost use Rattle.fjall_compaction.specs.Ingests.{as_flush};
 ghost use Rattle.fjall_compaction.specs.IngestionPlans.{IsIngestPlan, IsIngestRefusal};
+ghost use Rattle.fjall_compaction.specs.Room.{LacksNextId};
 
-use crate::flush::{FlushPlan, plan_tables};
+use crate::flush::{FlushPlan, plan_in_place};
 use crate::ingestion::table::make_tables;
+use crate::place::{Counts, find_place};
 use fjall_base::{Error, Result, UserKey};
 use fjall_jobs::MadeTable;
 use fjall_journal::Op;
@@ -26,8 +31,8 @@ pub struct IngestPlan {
 /// refused for its length. `last` is the keyspace's last record. It changes nothing on the disk, and takes all the memory that
 /// [`write_ingest`](crate::write_ingest) needs.
 ///
-/// Refuses with `NumbersUsedUp` where there is an item and the next id is the greatest `u64`, with `TooManyItems` where the record
-/// has no room for all tables and clears, and with `OutOfMemory`.
+/// Refuses with `TooManyItems` where the record has no room for all tables and clears, else with `NumbersUsedUp` where there is an item
+/// and the next id is the greatest `u64`, and else with `OutOfMemory`.
 pub fn plan_ingest(
     alloc: Global,
     keyspace_id: u64,
@@ -38,13 +43,20 @@ pub fn plan_ingest(
     requires ascend { KeysAscend items.now }
     requires writable { AreWritable items.now }
     ensures ok { IfOk result (IsIngestPlan keyspace_id number items.now (view last.now)) }
-    ensures used_up { items.now ≢ [] → last.now.next_table_id ≡ 2 ^ 64 - 1 → result ≡ Err Error.NumbersUsedUp }
+    ensures used_up { (tables : List MadeTable) → length tables ≡ min (length items.now) 1 → LacksNextId (record_after (as_flush number tables) (view last.now))
+        → result ≡ Err Error.NumbersUsedUp }
     ensures cause { IfErr result (IsIngestRefusal number items.now (view last.now)) }
 {
-    if !items.is_empty() && last.next_table_id == u64::MAX {
-        return Err(Error::NumbersUsedUp);
-    }
+    let table_counts = Counts {
+        staying: last.tables.len(),
+        made: items.len().min(1),
+    };
+    let clear_counts = Counts {
+        staying: last.clears.len(),
+        made: 0,
+    };
+    find_place(last.next_table_id, table_counts, clear_counts)?;
     let tables = make_tables(alloc, number, items)?;
-    let writes = plan_tables(alloc, keyspace_id, last, number, &tables, &[])?;
+    let writes = plan_in_place(alloc, keyspace_id, last, number, &tables, &[])?;
     Ok(IngestPlan { tables, writes })
 }

@@ -1,7 +1,7 @@
 //! A whole ingestion on the disk: the flush of all that its keyspace has in memory, and behind it the ingestion's own table and
 //! record. All of it is planned, with all memory, before the disk is changed.
 
-ghost use Rattle.std.specs.Prelude.{◌≡◌, ◌⊎◌, ◌++◌, ◌<◌, ◌^◌, [], ℕ, Bool, List, false, true, if◌then◌else◌, IfErr, IfOk, IsOkUnless, IsTrue, OnOk};
+ghost use Rattle.std.specs.Prelude.{◌≡◌, ◌⊎◌, ◌++◌, ◌<◌, ◌≤◌, ◌^◌, [], ℕ, Bool, List, false, true, if◌then◌else◌, length, min, IfErr, IfOk, IsOkUnless, IsTrue, OnOk};
 ghost use Rattle.fjall_base.specs.Disk.{LeavesOnly, OnlyFaults, state_in};
 ghost use Rattle.fjall_files.specs.Calls.{AllServed};
 ghost use Rattle.fjall_files.specs.Names.{keyspace_folder};
@@ -22,9 +22,10 @@ ghost use Rattle.fjall_writes.specs.Ingestions.{AreWritable, KeyOp, KeysAscend};
 ghost use Rattle.fjall_compaction.specs.Planned.{ForIngestion, ForIngestionOn, ForMemory, ForMemoryOn, HasNoTableFolder, IsIngestionPlan, IsIngestionRefusal, IsMemoryPlan, KeepsGiven};
 ghost use Rattle.fjall_compaction.specs.Whole.{memory_flush};
 
-use crate::flush::{FlushPlan, plan_tables, table_readers, write_tables};
+use crate::flush::{FlushPlan, plan_in_place, table_readers, write_tables};
 use crate::ingestion::plan::{IngestPlan, plan_ingest};
 use crate::ingestion::writing::write_ingest;
+use crate::place::{Counts, find_place};
 use fjall_base::{Disk, Error, Result, UserKey};
 use fjall_jobs::MadeTable;
 use fjall_journal::Op;
@@ -61,20 +62,23 @@ pub struct PlannedIngestion {
     pub clears: Vec<u64>,
 }
 
-// Plans the flush of all that a keyspace has in memory, of which this is the last record.
+// Plans the flush of all that a keyspace has in memory, of which this is the last record, behind which so many tables are to come.
 fn plan_memory(
     alloc: Global,
     id: u64,
     tree: &Tree,
     last: &Record,
     watermark: u64,
+    coming: usize,
 ) -> Result<MemoryPlan>
-    requires { watermark < 2 ^ 63 }
+    requires low { watermark < 2 ^ 63 }
+    requires few { coming ≤ 1 }
     ensures made { IfOk result (λ p. IsFlushed (memory_task id watermark (shape_of tree.now).memory) p.tables.items (clears_in (parts_of (shape_of tree.now).memory))) }
     ensures clears { IfOk result (λ p. p.clears.items ≡ clears_in (parts_of (shape_of tree.now).memory)) }
     ensures writes { IfOk result (λ p. IsMemoryPlan (has_memory (shape_of tree.now).memory) id (view last.now) (memory_flush (shape_of tree.now) p.tables.items) p.writes) }
     ensures nothing { IfOk result (λ p. has_memory (shape_of tree.now).memory ≡ false → p.tables.items ≡ []) }
-    ensures cause { (n : ℕ) (items : List KeyOp) → IfErr result (IsIngestionRefusal (shape_of tree.now) id watermark n items (view last.now)) }
+    ensures cause { (n : ℕ) (items : List KeyOp) → coming ≡ min (length items) 1
+        → IfErr result (IsIngestionRefusal (shape_of tree.now) id watermark n items (view last.now)) }
 {
     if !tree.has_memory() {
         return Ok(MemoryPlan {
@@ -84,8 +88,17 @@ fn plan_memory(
         });
     }
     let (tables, clears) = tree.flush_memory(watermark)?;
+    let table_counts = Counts {
+        staying: last.tables.len(),
+        made: tables.len() + coming,
+    };
+    let clear_counts = Counts {
+        staying: last.clears.len(),
+        made: clears.len(),
+    };
+    find_place(last.next_table_id, table_counts, clear_counts)?;
     let number = tree.until().saturating_sub(1);
-    let writes = plan_tables(alloc, id, last, number, &tables, &clears)?;
+    let writes = plan_in_place(alloc, id, last, number, &tables, &clears)?;
     Ok(MemoryPlan {
         tables,
         clears,
@@ -120,8 +133,8 @@ fn memory_readers(alloc: Global, memory: &MemoryPlan, next: u64) -> Result<Vec<T
 /// this id: of its tree what memory holds goes to a table first, by this watermark, and `last` is its last record. It changes nothing,
 /// and takes all the memory that the ingestion needs.
 ///
-/// Refusals: `NumbersUsedUp` where no id is left for its tables, `TooManyItems` where the keyspace's record has no room for them, and
-/// `OutOfMemory`.
+/// Refusals: `TooManyItems` where the keyspace's record has no room for its tables, else `NumbersUsedUp` where no id is left for them, and
+/// else `OutOfMemory`; but what is in memory takes memory to flush before it is known whether a table is made of it.
 pub fn plan_ingestion(
     alloc: Global,
     id: u64,
@@ -137,7 +150,7 @@ pub fn plan_ingestion(
     ensures planned { IfOk result (IsIngestionPlan (shape_of tree.now) id watermark number items.now (view last.now)) }
     ensures cause { IfErr result (IsIngestionRefusal (shape_of tree.now) id watermark number items.now (view last.now)) }
 {
-    let memory = plan_memory(alloc, id, tree, last, watermark)?;
+    let memory = plan_memory(alloc, id, tree, last, watermark, items.len().min(1))?;
     let flushed = flushed_record(&memory, last);
     let own = plan_ingest(alloc, id, flushed, number, items)?;
     let mut readers = memory_readers(alloc, &memory, last.next_table_id)?;

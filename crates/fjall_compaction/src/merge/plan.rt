@@ -3,9 +3,11 @@
 ghost use Rattle.std.specs.Prelude.{◌≡◌, ◌+◌, ◌++◌, ◌<◌, ◌^◌, IfErr, IfOk, IsOkUnless, drop, length, map, string_bytes, take};
 ghost use Rattle.fjall_files.specs.Names.{table_name};
 ghost use Rattle.fjall_manifest.specs.Records.{view};
-ghost use Rattle.fjall_compaction.specs.Merges.{infos_from, merge_of};
+ghost use Rattle.fjall_compaction.specs.Merges.{infos_from, merge_of, record_after};
 ghost use Rattle.fjall_compaction.specs.MergePlans.{AreNamed, IsMergePlan, IsMergePlanRefusal};
+ghost use Rattle.fjall_compaction.specs.Room.{HasPlace};
 
+use crate::place::{Counts, find_place};
 use fjall_base::{Error, Result};
 use fjall_files::{current_name, keyspace_folder, table_name};
 use fjall_jobs::{MadeTable, MergeMade};
@@ -88,33 +90,26 @@ fn next_tables(
     Ok(infos)
 }
 
-/// Plans how a merge of the keyspace of this id reaches the disk, of which this is the last record, and of which the merge takes so many
-/// tables and clears. It changes nothing on the disk, and takes all the memory that [`write_merge`](crate::write_merge) and
-/// [`remove_taken`](crate::remove_taken) need.
-///
-/// Refuses with `NumbersUsedUp` where too few ids below the greatest `u64` are left for the new tables, with `TooManyItems` where the
-/// record has no room for all tables and clears, and with `OutOfMemory`.
-pub fn plan_merge(
+/// Plans what [`plan_merge`] does, where the record after it has a place: it is refused for want of memory alone.
+fn plan_in_place(
     alloc: Global,
     keyspace_id: u64,
     last: &Record,
     input: (usize, usize),
     made: &MergeMade,
 ) -> Result<MergePlan>
+    requires { HasPlace (record_after (merge_of input made.now) (view last.now)) }
     ensures ok { IfOk result (IsMergePlan keyspace_id (view last.now) (merge_of input made.now)) }
-    ensures cause { IfErr result (IsMergePlanRefusal (view last.now) (merge_of input made.now)) }
+    ensures only { IsOkUnless result Error.OutOfMemory }
 {
     let tables = made.tables();
-    let Some(next_table_id) = last.next_table_id.checked_add(tables.len() as u64) else {
-        return Err(Error::NumbersUsedUp);
-    };
     let mut clears = Vec::new(alloc);
     clears.extend_from_slice(made.clears())?;
     clears.extend_from_slice(behind(&last.clears, input.1))?;
     let record = Record {
         persisted: last.persisted,
         highest: last.highest,
-        next_table_id,
+        next_table_id: last.next_table_id + tables.len() as u64,
         next_keyspace_id: last.next_keyspace_id,
         tables: next_tables(alloc, last, input.0, tables)?,
         clears,
@@ -129,4 +124,32 @@ pub fn plan_merge(
         files: new_files(alloc, keyspace_id, last.next_table_id, tables)?,
         taken: table_files(alloc, keyspace_id, first(&last.tables, input.0))?,
     })
+}
+
+/// Plans how a merge of the keyspace of this id reaches the disk, of which this is the last record, and of which the merge takes so many
+/// tables and clears. It changes nothing on the disk, and takes all the memory that [`write_merge`](crate::write_merge) and
+/// [`remove_taken`](crate::remove_taken) need.
+///
+/// Refuses with `TooManyItems` where the record has no room for all tables and clears, else with `NumbersUsedUp` where too few ids below
+/// the greatest `u64` are left for the new tables, and else with `OutOfMemory`.
+pub fn plan_merge(
+    alloc: Global,
+    keyspace_id: u64,
+    last: &Record,
+    input: (usize, usize),
+    made: &MergeMade,
+) -> Result<MergePlan>
+    ensures ok { IfOk result (IsMergePlan keyspace_id (view last.now) (merge_of input made.now)) }
+    ensures cause { IfErr result (IsMergePlanRefusal (view last.now) (merge_of input made.now)) }
+{
+    let table_counts = Counts {
+        staying: behind(&last.tables, input.0).len(),
+        made: made.tables().len(),
+    };
+    let clear_counts = Counts {
+        staying: behind(&last.clears, input.1).len(),
+        made: made.clears().len(),
+    };
+    find_place(last.next_table_id, table_counts, clear_counts)?;
+    plan_in_place(alloc, keyspace_id, last, input, made)
 }

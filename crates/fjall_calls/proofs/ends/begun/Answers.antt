@@ -11,6 +11,6 @@ free_of false is = refl
 
 pub returns-in-Single-clause-serves : goal.returns-in-Single-clause-serves
 returns-in-Single-clause-serves g c free h =
-    let core = c.args.core.now in
-    let kept = c.args.transactions.now in
+    let core = c.args.core.now.engine in
+    let kept = c.args.core.now.transactions in
     c.begin_single.ensures.serves (free_of (is_writing core kept.writer) (subst (λ (k : Kind). may_begin core kept k ≡ true) c.in-Single.is free)) h

@@ -4,13 +4,13 @@ use Rattle.std.proofs.lemmas.Result.{err_from_is_err_and}
 use Rattle.fjall_base.specs.Disk.{DiskState, Image, LeavesOnly, Meaning, standing, state_in}
 use Rattle.fjall_base.proofs.Moments.{stays}
 use Rattle.fjall_recovery.specs.Folders.{Contents, IsFinished, ReadsFolder, ImageStandsFor, IsOpenable, IsSound}
-use Rattle.fjall_recovery.proofs.Causes.{due_once}
-use Rattle.fjall_recovery.proofs.Kept.{open_folder_is_kept}
+use Rattle.fjall_recovery.proofs.Strict.{due_once_in, opens_untorn}
 use Rattle.fjall_recovery.specs.Held.{Holds, store_of_folder}
+use Rattle.fjall_recovery.specs.Refusals.{HasTornTail, IsTornTail}
 use Rattle.fjall_recovery.proofs.Shown.{shows_alike}
 use Rattle.fjall_repair.specs.Making.{ComesBackUnfinished}
 use Rattle.fjall_opening.specs.Opened.{ComesBack, HasNoJournal, OpensFolder}
-use Rattle.fjall_opening.proofs.Openings.{begun_from, finished_is, held_up, holds_on, opened_from, run_on, stands_now, swept_on, unfinished_is, unopened}
+use Rattle.fjall_opening.proofs.Openings.{begun_from, finished_is, held_is_due, held_up, holds_on, opened_from, run_on, stands_now, swept_on, unfinished_is, unopened}
 use Rattle.fjall_files.specs.Tidy.{IsTidy}
 use Rattle.fjall_files.proofs.Tidying.{stays_both, stays_none as tidy_none}
 use Rattle.fjall_opening.proofs.Amid.{amid_now, amid_on}
@@ -25,7 +25,7 @@ pub returns-in_err-found-clause-due : goal.returns-in_err-found-clause-due
 returns-in_err-found-clause-due g c honest =
     let m : _ → Meaning = g.D.Disk.meaning in
     let p = err_from_is_err_and c.from_residual.result c.from_residual.ensures.1 in
-    rw (p.1, p.2) (unopened (m c.args.disk.now) (m c.read_folder.new.disk) c.in_err-found.field-0.0 (c.in_err-found.ensures.cause honest) (c.in_err-found.ensures.same honest))
+    rw (p.1, p.2) (unopened c.args.mode (m c.args.disk.now) (m c.read_folder.new.disk) c.in_err-found.field-0.0 (c.in_err-found.ensures.cause honest) (c.in_err-found.ensures.same honest))
 
 pub returns-in-Some-clause-opened : goal.returns-in-Some-clause-opened
 returns-in-Some-clause-opened g c honest folder holds =
@@ -74,7 +74,7 @@ returns-in-Some-clause-due g c honest =
     let image : Image = standing (state_in (m c.args.disk.now)) in
     let read : ReadsFolder image (Some c.in-Some.found) = subst (ReadsFolder image) c.in-Some.is (c.in_ok-found.ensures.found honest) in
     let same = c.in_ok-found.ensures.same honest in
-    held_up (m c.args.disk.now) (m c.read_folder.new.disk) (m c.open_finished.new.disk) c.open_finished.result (Some read.1.0, read.1.1) same
+    held_up c.args.mode (m c.args.disk.now) (m c.read_folder.new.disk) (m c.open_finished.new.disk) c.open_finished.result (Some read.1.0, read.1.1) same
     (c.open_finished.ensures.due honest read.1.0 (subst (λ (s : DiskState). IsFinished (standing s) c.in-Some.found) (sym same.state) read.0) read.1.2)
 
 pub returns-in-None-clause-opened : goal.returns-in-None-clause-opened
@@ -113,7 +113,7 @@ returns-in-None-clause-due g c honest =
     let image : Image = standing (state_in (m c.args.disk.now)) in
     let read : ReadsFolder image None = subst (ReadsFolder image) c.in-None.is (c.in_ok-found.ensures.found honest) in
     let same = c.in_ok-found.ensures.same honest in
-    held_up (m c.args.disk.now) (m c.read_folder.new.disk) (m c.open_unfinished.new.disk) c.open_unfinished.result (None, read) same
+    held_up c.args.mode (m c.args.disk.now) (m c.read_folder.new.disk) (m c.open_unfinished.new.disk) c.open_unfinished.result (None, read) same
     (c.open_unfinished.ensures.due honest (subst (λ (s : DiskState). ReadsFolder (standing s) None) (sym same.state) read))
 
 pub returns-in-Some-clause-swept : goal.returns-in-Some-clause-swept
@@ -233,19 +233,19 @@ pub returns-in_err-found-clause-refuses : goal.returns-in_err-found-clause-refus
 returns-in_err-found-clause-refuses g c honest error refused =
     let image : Image = standing (state_in (g.D.Disk.meaning c.args.disk.now)) in
     let p = err_from_is_err_and c.from_residual.result c.from_residual.ensures.1 in
-    rw (p.1, p.2) (due_once image error c.in_err-found.field-0.0 refused (c.in_err-found.ensures.cause honest))
+    rw (p.1, p.2) (due_once_in c.args.mode image error c.in_err-found.field-0.0 refused (c.in_err-found.ensures.cause honest))
 
 pub returns-in-Some-clause-refuses : goal.returns-in-Some-clause-refuses
 returns-in-Some-clause-refuses g c honest error refused =
     let image : Image = standing (state_in (g.D.Disk.meaning c.args.disk.now)) in
     let read : ReadsFolder image (Some c.in-Some.found) = subst (ReadsFolder image) c.in-Some.is (c.in_ok-found.ensures.found honest) in
-    absurd (open_folder_is_kept image (Some read.1.0) error read.1.1 refused)
+    absurd (opens_untorn c.args.mode image (Some read.1.0) error read.1.1 (c.in_ok-found.ensures.untorn honest) refused)
 
 pub returns-in-None-clause-refuses : goal.returns-in-None-clause-refuses
 returns-in-None-clause-refuses g c honest error refused =
     let image : Image = standing (state_in (g.D.Disk.meaning c.args.disk.now)) in
     let read : ReadsFolder image None = subst (ReadsFolder image) c.in-None.is (c.in_ok-found.ensures.found honest) in
-    absurd (open_folder_is_kept image None error read refused)
+    absurd (opens_untorn c.args.mode image None error read (c.in_ok-found.ensures.untorn honest) refused)
 
 pub returns-in-Some-clause-fresh : goal.returns-in-Some-clause-fresh
 returns-in-Some-clause-fresh g c honest none =
@@ -258,3 +258,26 @@ returns-in-Some-clause-fresh g c honest none =
 pub returns-in-None-clause-fresh : goal.returns-in-None-clause-fresh
 returns-in-None-clause-fresh g c honest none =
     c.open_unfinished.ensures.fresh honest (subst (λ (s : DiskState). HasNoJournal (standing s)) (sym (c.in_ok-found.ensures.same honest).state) none)
+
+pub returns-in_err-found-clause-opens_or_torn : goal.returns-in_err-found-clause-opens_or_torn
+returns-in_err-found-clause-opens_or_torn g c honest folder opens =
+    let p = err_from_is_err_and c.from_residual.result c.from_residual.ensures.1 in
+    rw (p.1, p.2) (c.in_err-found.ensures.openable honest folder opens)
+
+pub returns-in-Some-clause-opens_or_torn : goal.returns-in-Some-clause-opens_or_torn
+returns-in-Some-clause-opens_or_torn g c honest folder opens =
+    let m : _ → Meaning = g.D.Disk.meaning in
+    let image : Image = standing (state_in (m c.args.disk.now)) in
+    let read : ReadsFolder image (Some c.in-Some.found) = subst (ReadsFolder image) c.in-Some.is (c.in_ok-found.ensures.found honest) in
+    let same = c.in_ok-found.ensures.same honest in
+    held_is_due (IsTornTail c.args.mode (HasTornTail image)) (m c.read_folder.new.disk) (m c.open_finished.new.disk) c.open_finished.result
+    (c.open_finished.ensures.due honest read.1.0 (subst (λ (s : DiskState). IsFinished (standing s) c.in-Some.found) (sym same.state) read.0) read.1.2)
+
+pub returns-in-None-clause-opens_or_torn : goal.returns-in-None-clause-opens_or_torn
+returns-in-None-clause-opens_or_torn g c honest folder opens =
+    let m : _ → Meaning = g.D.Disk.meaning in
+    let image : Image = standing (state_in (m c.args.disk.now)) in
+    let read : ReadsFolder image None = subst (ReadsFolder image) c.in-None.is (c.in_ok-found.ensures.found honest) in
+    let same = c.in_ok-found.ensures.same honest in
+    held_is_due (IsTornTail c.args.mode (HasTornTail image)) (m c.read_folder.new.disk) (m c.open_unfinished.new.disk) c.open_unfinished.result
+    (c.open_unfinished.ensures.due honest (subst (λ (s : DiskState). ReadsFolder (standing s) None) (sym same.state) read))

@@ -9,12 +9,14 @@ use Rattle.fjall_recovery.specs.Beside.{AreEndedBy}
 use Rattle.fjall_recovery.specs.Parted.{AreUnwritten}
 use Rattle.fjall_trees.specs.Views.{forest_of}
 use Rattle.fjall_recovery.specs.Opening.{opened}
+use Rattle.fjall_recovery.specs.Folders.{Contents, IsOpenable, ShowsContents}
 use Rattle.fjall_recovery.specs.Journals.{EndsAt, AreJournalsRead, batches_in}
 use Rattle.fjall_contents.specs.declared.recovery.Persisted.{Persisted}
 use Rattle.fjall_opening.specs.Readings.{persisted_in, persisted_of}
 use Rattle.fjall_opening.specs.Replaying.{IsHeldBy, ShowBeyond}
 use Rattle.fjall_repair.specs.Steps.{active_of}
-use Rattle.fjall_opening.proofs.Counting.{rise_of}
+use Rattle.fjall_opening.proofs.Counting.{rise_of, told_read}
+use Rattle.fjall_opening.proofs.JournalsLeft.{left_by}
 use Rattle.fjall_opening.proofs.Openings.{may_replay_all, number_listed, number_risen, numbers}
 use Rattle.fjall_opening.proofs.Replayed.{IsStill, all_given, all_planted, all_positive, rest_still}
 use Rattle.fjall_opening.proofs.Sealings.{opened_unwritten}
@@ -56,11 +58,18 @@ returns-in_err-trees-clause-due g c honest read =
 pub returns-clause-opened : goal.returns-clause-opened
 returns-clause-opened g c honest old same read =
     let image : Image = standing (state_in old) in
+    let now : Image = standing (state_in (g.D.Disk.meaning c.args.disk.now)) in
     let found = c.args.found in
     let loaded = c.in_ok-loaded.ensures in
     let made = c.in_ok-trees.ensures in
     let some = made.some in
     let told : c.deref-3.result.now ≡ persisted_of found = c.deref-3.ensures.value ∙ c.in_ok-persisted.ensures.ok ∙ ap (map persisted_in) c.deref-2.ensures.value in
+    let held : (contents : Contents) → IsOpenable image contents → ShowsContents found contents → IsHeldBy now c.deref-4.result.now found.journals.end found.journals.torn contents.journals =
+    λ contents is shows. record {
+      named = sym shows.ids ∙ sym c.deref-4.ensures.value;
+      read = subst (λ (i : Image). AreJournalsRead i contents.journals) same is.journals.read;
+      ends = subst (λ (i : Image). EndsAt i contents.journals found.journals.end found.journals.torn) same (ends_found image found contents is read);
+    } in
     record {
       loaded = forest_of c.in_ok-loaded.loaded.trees;
       takes = record {
@@ -72,15 +81,12 @@ returns-clause-opened g c honest old same read =
         parted = made.parted;
       };
       trees = λ contents is shows.
-          let ends = subst (λ (i : Image). EndsAt i contents.journals found.journals.end found.journals.torn) same (ends_found image found contents is read) in
-          let held : IsHeldBy (standing (state_in (g.D.Disk.meaning c.args.disk.now))) c.deref-4.result.now found.journals.end found.journals.torn contents.journals = record {
-            named = sym shows.ids ∙ sym c.deref-4.ensures.value;
-            read = subst (λ (i : Image). AreJournalsRead i contents.journals) same is.journals.read;
-            ends = ends;
-          } in
           subst (λ (s : Keyspaces). ShowBeyond s (persisted_of found) (forest_of c.in_ok-loaded.loaded.trees) (map shown (batches_in contents.journals)) (forest_of c.in_ok-trees.trees)) shows.keyspaces
           (subst (λ (l : List Persisted). ShowBeyond found.catalog.keyspaces l (forest_of c.in_ok-loaded.loaded.trees) (map shown (batches_in contents.journals)) (forest_of c.in_ok-trees.trees)) told
-          (made.ok honest contents.journals found.journals.torn held).shown);
+          (made.ok honest contents.journals found.journals.torn (held contents is shows)).shown);
+      left = λ contents is shows.
+          left_by image found contents c.deref-3.result.now (forest_of c.in_ok-loaded.loaded.trees) (forest_of c.in_ok-trees.trees) read shows told loaded.trees some.1.rest
+          (made.made honest contents.journals found.journals.torn found.journals.watermarks (held contents is shows) (told_read image found contents read shows is));
       journals = record { sealed_are = refl; active_is = c.active_id-id.ensures ∙ ap active_of c.deref.ensures.value; marks_are = c.in_ok-watermarks.ensures.ok };
       opened = λ contents is shows. loaded.opened old contents is (sym shows.keyspaces) read.homes;
       named = loaded.named image read.homes;

@@ -19,7 +19,7 @@ returns-clause-opened c = record {
   keyspaces = search rules;
   reads = search rules;
   rest = search rules;
-  parted = none_parted c.in_ok-empty_journals.field-0 (forest_of c.new.result) c.new.ensures;
+  parted = none_parted c.in_ok-empty_journals.field-0 (forest_of c.new.result) c.new.ensures.trees;
 }
 
 pub returns-clause-journals : goal.returns-clause-journals
@@ -40,6 +40,6 @@ returns-clause-lawful c = record {
       subst (λ (s : Keyspaces). All (λ (k : LivingKeyspace). is_some (get c.new-2.result k.id) ≡ true) s.living) (sym c.new-5.ensures)
       (All-nil (λ (k : LivingKeyspace). is_some (get c.new-2.result k.id) ≡ true));
   kept = λ id le. ap (λ (m : LastFields). get m id) c.new-2.ensures ∙ get-empty nat_cmp id;
-  parted = none_parted c.in_ok-empty_journals.field-0 (forest_of c.new.result) c.new.ensures;
-  still = subst (All IsStill) (sym c.new.ensures) (All-nil IsStill);
+  parted = none_parted c.in_ok-empty_journals.field-0 (forest_of c.new.result) c.new.ensures.trees;
+  still = subst (All IsStill) (sym c.new.ensures.trees) (All-nil IsStill);
 }

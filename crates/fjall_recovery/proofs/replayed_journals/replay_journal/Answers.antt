@@ -52,6 +52,9 @@ returns-clause-ok c entries stored before are within least sound shown =
     (replay_beside s stored c.args.persisted.now entries least before (map view batches) (forest_of trees) are within sound shown c.requires.behind
     (All-map MayReplay view batches c.requires.fits) trees.lawful)
 
+pub returns-clause-made : goal.returns-clause-made
+returns-clause-made c = after_all c
+
 pub returns-clause-rest : goal.returns-clause-rest
 returns-clause-rest c =
     ap all_at_rest (after_all c) ∙ batches_rest (counts_unpersisted c.args.keyspaces.now c.args.persisted.now) (map view c.args.batches.now) (forest_of c.args.trees.now)

@@ -57,7 +57,7 @@ open_home-requires c =
 pub loop-home-init : goal.loop-home-init
 loop-home-init c = record {
   place = refl;
-  trees = c.new-trees.ensures;
+  trees = c.new-trees.ensures.trees;
   records = λ id. ap (λ (m : LastFields). get m id) c.new-records.ensures ∙ get-empty nat_cmp id;
   may = tt;
 }

@@ -5,7 +5,7 @@ use Rattle.fjall_script.proofs.session.run_session.Given as goal
 
 abbrev pub invariant-loop-stop : goal.invariant-loop-stop
 invariant-loop-stop g l = record {
-  so_far : Prints g.P.Disk.Disk.honest l.fn.commands true l.core l.transactions l.rest (g.W.Write.contents l.fn.output) (g.W.Write.contents l.output) l.asked;
+  so_far : Prints l.fn.mode g.P.Disk.Disk.honest l.fn.commands true l.core.engine l.core.transactions l.rest (g.W.Write.contents l.fn.output) (g.W.Write.contents l.output) l.asked;
   stop : IsAtStop l.rest;
 }
 

@@ -3,7 +3,8 @@ use Rattle.fjall_table_reader.proofs.TableFiles.{refused_later}
 use Rattle.fjall_table_reader.proofs.Readers.{still}
 use Rattle.fjall_table_reader.proofs.Several.{got, read_at, same_set}
 use Rattle.fjall_tree.proofs.Inputs.{collected, collecting_more, collecting_none, reads_set}
-use Rattle.fjall_tree.proofs.Searches.{wrong_table}
+use Rattle.fjall_table_reader.specs.Readers.{HoldsAWrongBlock}
+use Rattle.fjall_tree.proofs.Searches.{table_before}
 use Rattle.fjall_tree.proofs.input.all_blocks.Goals as goal
 
 pub loop-at-init : goal.loop-at-init
@@ -31,7 +32,7 @@ returns-in_err-blocks_of-clause-refused g c honest entries r =
     let mid = g.D.Disk.meaning c.loop-at.disk in
     let one = read_at mid c.loop-at.tables entries at t (s.reads honest entries r) here in
     let is : c.from_residual.result ≡ Err c.in_err-blocks_of.field-0.0 = search rules in
-    rw is (refused_later _ _ _ _ _ c.in_err-blocks_of.field-0.0 s.disk.later e.disk.later (wrong_table old mid c.args.tables.now c.loop-at.tables at t (still g.D.Disk.honest old mid s.disk honest) s.same here) (e.refused honest one.0 one.2))
+    rw is (refused_later _ _ _ _ _ c.in_err-blocks_of.field-0.0 s.disk.later e.disk.later (table_before HoldsAWrongBlock old mid c.args.tables.now c.loop-at.tables at t (still g.D.Disk.honest old mid s.disk honest) s.same here) (e.refused honest one.0 one.2))
 
 pub returns-in_err-blocks_of-clause-tables : goal.returns-in_err-blocks_of-clause-tables
 returns-in_err-blocks_of-clause-tables g c =

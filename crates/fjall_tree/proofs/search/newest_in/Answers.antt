@@ -1,8 +1,9 @@
 use Rattle.std.proofs.Common.{◌≡◌, ◌<◌, Err, arith, get_or, length, refl, rules}
+use Rattle.fjall_table_reader.specs.Readers.{HoldsAWrongBlockFor}
 use Rattle.fjall_table_reader.proofs.TableFiles.{refused_later}
 use Rattle.fjall_table_reader.proofs.Readers.{still}
 use Rattle.fjall_table_reader.proofs.Several.{got, read_at, same_set}
-use Rattle.fjall_tree.proofs.Searches.{found_in_all, searching_more, searching_none, stopped, wrong_table}
+use Rattle.fjall_tree.proofs.Searches.{found_in_all, searching_more, searching_none, stopped, table_before}
 use Rattle.fjall_tree.proofs.search.newest_in.Goals as goal
 
 pub loop-at-init : goal.loop-at-init
@@ -30,7 +31,7 @@ returns-in_err-found-clause-refused g c honest entries r =
     let mid = g.D.Disk.meaning c.loop-at.disk in
     let one = read_at mid c.loop-at.tables entries at t (s.reads honest entries r) here in
     let is : c.from_residual.result ≡ Err c.in_err-found.field-0.0 = search rules in
-    rw is (refused_later _ _ _ _ _ c.in_err-found.field-0.0 s.disk.later e.disk.later (wrong_table old mid c.args.tables.now c.loop-at.tables at t (still g.D.Disk.honest old mid s.disk honest) s.same here) (e.refused honest one.0 one.2))
+    rw is (refused_later _ _ _ _ _ c.in_err-found.field-0.0 s.disk.later e.disk.later (table_before (HoldsAWrongBlockFor c.args.key.now) old mid c.args.tables.now c.loop-at.tables at t (still g.D.Disk.honest old mid s.disk honest) s.same here) (e.refused honest one.0 one.2))
 
 pub returns-in_err-found-clause-tables : goal.returns-in_err-found-clause-tables
 returns-in_err-found-clause-tables g c =

@@ -1,10 +1,11 @@
-use Rattle.std.proofs.Common.{◌≡◌, ◌∙◌, List, [], ◌∷◌, None, ap, map, subst, sym}
+use Rattle.std.proofs.Common.{◌≡◌, ◌∙◌, List, [], ◌∷◌, None, ap, map, refl, subst, sym}
 use Rattle.fjall_journal.specs.declared.batch.Batch.{Batch}
 use Rattle.fjall_journal.specs.Batches.{Shown, view}
 use Rattle.fjall_trees.specs.Forests.{Forest}
 use Rattle.fjall_trees.specs.Views.{forest_of}
 use Rattle.fjall_contents.specs.Replays.{first_fault, least_after}
 use Rattle.fjall_opening.specs.declared.replaying.Progress.{Progress}
+use Rattle.fjall_opening.specs.Replaying.{counted_by}
 use Rattle.fjall_opening.proofs.JournalByJournal.{too_high, unfit}
 use Rattle.fjall_opening.proofs.Sealings.{ReplaysBatches, one_taken, past_from, replays_one}
 use Rattle.fjall_opening.proofs.replaying.Replay.take.Goals as goal
@@ -32,5 +33,5 @@ returns-clause-ok c loaded front underway =
     sealed.here
     (replays_one c.args.self.now.keyspaces.now c.args.self.now.persisted.now batch mid (forest_of q.trees)
     (subst (λ (l : List Batch). ReplaysBatches c.args.self.now.keyspaces.now c.args.self.now.persisted.now l mid (forest_of q.trees)) c.from_ref-one.ensures.value
-    (record { ok = made.ok; reads = made.reads; rest = made.rest; ids = made.ids; numbered = made.numbered; before = made.before })))
-    (c.in_ok-least.ensures.ok ∙ ap (least_after p.least) one)
+    (record { ok = made.ok; reads = made.reads; rest = made.rest; ids = made.ids; numbered = made.numbered; before = made.before; made = made.made })))
+    (c.in_ok-least.ensures.ok ∙ ap (least_after p.least) one) sealed.told (λ rest. sealed.made (counted_by c.args.self.now) (view batch) rest refl)

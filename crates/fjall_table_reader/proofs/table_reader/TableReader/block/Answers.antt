@@ -1,4 +1,4 @@
-use Rattle.std.proofs.Common.{ap, arith, length, subst, sym, ◌∙◌, ◌<◌, List}
+use Rattle.std.proofs.Common.{None, ap, arith, length, subst, sym, ◌∙◌, ◌<◌, List}
 use Rattle.fjall_base.proofs.Codecs.{just}
 use Rattle.fjall_table.specs.Blocks.{Entry}
 use Rattle.fjall_table_reader.specs.Files.{handles_in}
@@ -8,9 +8,14 @@ use Rattle.fjall_table_reader.proofs.table_reader.TableReader.block.Goals as goa
 
 pub returns-in-Some-clause-block : goal.returns-in-Some-clause-block
 returns-in-Some-clause-block g c honest blocks r =
-    let is = subst (λ (t : Reader). IsReader t) c.self.view_is c.self.invariant in
-    r.kept c.args.at _ (kept_here (λ b. b.value) c.args.self.now c.self.inside.blocks.items c.args.at c.index.result.now c.in-Some.block (ap (λ (t : Reader). t.kept) c.self.view_is) is.count c.requires c.index.ensures c.in-Some.is)
+    let is = subst (λ (t : Reader). IsReader t) c.self.view_is c.self.invariant.reader in
+    r.kept c.args.at _ (kept_here (λ b. b.value) c.args.self.now c.self.inside.blocks.items c.args.at c.index.result.now (just c.in-Some.block) (ap (λ (t : Reader). t.kept) c.self.view_is) is.count c.requires c.index.ensures c.in-Some.is)
     ∙ ap (λ (v : List Entry). just v) (sym c.in_ok-try_clone.ensures)
+
+pub keep-requires : goal.keep-requires
+keep-requires g c =
+    let is = subst (λ (t : Reader). IsReader t) c.self.view_is c.self.invariant.reader in
+    kept_here (λ b. b.value) c.args.self.now c.self.inside.blocks.items c.args.at c.index.result.now None (ap (λ (t : Reader). t.kept) c.self.view_is) is.count c.requires c.index.ensures c.in_default.is
 
 pub returns-in_err-read_block-clause-reads : goal.returns-in_err-read_block-clause-reads
 returns-in_err-read_block-clause-reads g c honest blocks r = reads_on g.D.Disk.honest _ _ c.args.self.now blocks c.in_err-read_block.ensures.disk honest r

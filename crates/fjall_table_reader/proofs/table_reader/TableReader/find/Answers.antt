@@ -10,12 +10,12 @@ use Rattle.fjall_table_reader.proofs.TableFiles.{refused_later}
 use Rattle.fjall_table_reader.specs.Finds.{entry_found}
 use Rattle.fjall_table_reader.specs.Readers.{IsReader, Reader}
 use Rattle.fjall_table_reader.proofs.Spans.{last_within}
-use Rattle.fjall_table_reader.proofs.Readers.{finding_more, finding_none, found_here, found_nowhere, key_found, still, wrong_at}
+use Rattle.fjall_table_reader.proofs.Readers.{finding_more, finding_none, found_here, found_nowhere, key_found, still, wrong_for}
 use Rattle.fjall_table_reader.proofs.table_reader.TableReader.find.Goals as goal
 
 pub loop-at-init : goal.loop-at-init
 loop-at-init g c =
-    let is = subst (λ (t : Reader). IsReader t) c.self.view_is c.self.invariant in
+    let is = subst (λ (t : Reader). IsReader t) c.self.view_is c.self.invariant.reader in
     finding_none _ _ c.args.self.now c.args.key.now c.args.instant _ is.ascend (c.span-span.ensures.start ∙ ap (λ (t : Reader). blocks_below c.args.key.now t.handles - 1) c.self.view_is)
 
 pub block-requires : goal.block-requires
@@ -29,7 +29,8 @@ returns-in_err-block-clause-refused g c honest entries r =
     let f = c.loop-at.invariant in
     let l = last_within (Included c.args.key.now) (handles_in c.self.inside.file) in
     let lt : c.loop-at.at < length c.loop-at.self.handles = omega (arith, l, c.loop-at-test.true, c.span-span.ensures.end, ap (λ (t : Reader). length t.handles) c.self.view_is, ap length f.table.handles) in
-    rw is (refused_later _ _ _ _ _ c.in_err-block.field-0.0 f.disk.later c.in_err-block.ensures.disk.later (wrong_at (g.D.Disk.meaning c.args.disk.now) (g.D.Disk.meaning c.loop-at.disk) c.args.self.now c.loop-at.self c.loop-at.at (still g.D.Disk.honest (g.D.Disk.meaning c.args.disk.now) (g.D.Disk.meaning c.loop-at.disk) f.disk honest) f.table lt) (c.in_err-block.ensures.refused honest r.blocks (f.reads honest r.blocks r.reads)))
+    let to : c.loop-at.at < blocks_up_to c.args.key.now c.args.self.now.handles = omega (arith, c.loop-at-test.true, c.span-span.ensures.end, ap (λ (t : Reader). blocks_up_to c.args.key.now t.handles) c.self.view_is) in
+    rw is (refused_later _ _ _ _ _ c.in_err-block.field-0.0 f.disk.later c.in_err-block.ensures.disk.later (wrong_for (g.D.Disk.meaning c.args.disk.now) (g.D.Disk.meaning c.loop-at.disk) c.args.self.now c.loop-at.self c.args.key.now c.loop-at.at (still g.D.Disk.honest (g.D.Disk.meaning c.args.disk.now) (g.D.Disk.meaning c.loop-at.disk) f.disk honest) f.table lt f.from to) (c.in_err-block.ensures.refused honest r.blocks (f.reads honest r.blocks r.reads)))
 
 pub returns-in-Some-clause-found : goal.returns-in-Some-clause-found
 returns-in-Some-clause-found g c honest entries r =
@@ -49,5 +50,5 @@ loop-at-preserved g c =
 
 pub returns-clause-found : goal.returns-clause-found
 returns-clause-found g c honest entries r =
-    let is = subst (λ (t : Reader). IsReader t) c.self.view_is c.self.invariant in
+    let is = subst (λ (t : Reader). IsReader t) c.self.view_is c.self.invariant.reader in
     sym (found_nowhere _ c.args.self.now c.args.key.now c.args.instant c.loop-at.at r.blocks entries is.ascend r.reads r.all (c.loop-at.invariant.none honest r.blocks r.reads) (omega (arith, c.loop-at-test.false, c.span-span.ensures.end, ap (λ (t : Reader). blocks_up_to c.args.key.now t.handles) c.self.view_is)))

@@ -1,10 +1,20 @@
-use Rattle.std.proofs.Common.{List, Option, Some, ap, ◌∙◌}
+use Rattle.std.proofs.Common.{List, Option, Some, ap, arith, slice_get, subst, sym, ◌∙◌}
 use Rattle.std.specs.Option.{option_map}
 use Rattle.std.proofs.lemmas.List.{map-set}
 use Rattle.fjall_table.specs.Blocks.{Entry}
 use Rattle.fjall_table_reader.specs.Files.{handles_in, name_of}
-use Rattle.fjall_table_reader.specs.Readers.{Reader, keeping}
+use Rattle.fjall_table_reader.specs.Readers.{IsCountedReader, Reader, block_size, keeping}
+use Rattle.fjall_table_reader.proofs.Readers.{counted_more}
 use Rattle.fjall_table_reader.proofs.table_reader.TableReader.keep.Goals as goal
+
+pub invariant_of-self : goal.invariant_of-self
+invariant_of-self c =
+    let f = c.self.inside.file in
+    let total = c.saturating_add-self-inside.result in
+    let none = ap (λ (t : Reader). slice_get t.kept c.args.at) c.self.view_is ∙ c.requires in
+    let counted = counted_more c.self.inside.kept_bytes total c.args.at c.args.block.value _ c.self.invariant none (omega (arith, c.saturating_add-self-inside.ensures, c.size.ensures, ap block_size c.deref.ensures)) in
+    subst (λ (k : List (Option (List Entry))). IsCountedReader total (record { name = name_of f; info = f.info; handles = handles_in f; kept = k }))
+    (sym (map-set (option_map (λ b. b.value)) c.self.inside.blocks.items c.args.at (Some c.args.block))) counted
 
 pub returns : goal.returns
 returns c =

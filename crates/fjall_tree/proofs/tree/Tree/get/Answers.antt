@@ -55,3 +55,9 @@ returns-clause-found g c honest entries r =
     ∙ sym (newest_in_tables key t (shape_of m) entries (sym c.in_ok-version.ensures ∙ ap (option_map seen) c.in_default.is)) in
     c.value_found.ensures key
     ∙ value_told key t c.barrier-barrier.result (clears_of (shape_of m)) (versions_of (shape_of m) entries) (option_map (entry_found key) c.in_ok-found.found) c.barrier-barrier.ensures found
+
+pub returns-in_err-found-clause-memory : goal.returns-in_err-found-clause-memory
+returns-in_err-found-clause-memory g c = λ some. absurd (some (sym c.in_ok-version.ensures ∙ ap (option_map seen) c.in_default.is))
+
+pub returns-clause-memory : goal.returns-clause-memory
+returns-clause-memory g c = λ some. absurd (some (sym c.in_ok-version.ensures ∙ ap (option_map seen) c.in_default.is))

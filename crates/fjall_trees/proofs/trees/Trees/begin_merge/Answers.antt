@@ -11,6 +11,7 @@ use Rattle.fjall_trees.specs.declared.trees.KeyspaceTree.{KeyspaceTree}
 use Rattle.fjall_trees.specs.Forests.{tree_at}
 use Rattle.fjall_trees.specs.Lists.{forest_in}
 use Rattle.fjall_trees.specs.Views.{forest_of}
+use Rattle.fjall_trees.proofs.Bounded.{bounded_kept, bounded_merging, bounded_read, bounded_same}
 use Rattle.fjall_trees.proofs.Places.{err_so, found_tree, set_forest}
 use Rattle.fjall_trees.proofs.Reading.{read_here, read_set}
 use Rattle.fjall_trees.proofs.Same.{if_ok_so, job_so, nothing_begun, same_trees, set_same_change, set_same_trees, shape_here, shape_set}
@@ -22,7 +23,7 @@ invariant_of-self g c =
     let ks = t.trees.items in
     let k = c.index_mut.result.now in
     let here = found_tree ks c.as_slice.result.now c.in-Some.place c.args.id k c.as_slice.ensures.value c.in-Some.ensures c.index_mut.ensures.value in
-    record { lawful = set_forest ks c.in-Some.place k c.begin_merge.new.self t.lawful here.0 }
+    record { lawful = set_forest ks c.in-Some.place k c.begin_merge-begun.new.self t.lawful here.0 }
 
 pub returns-in-Some-clause-none : goal.returns-in-Some-clause-none
 returns-in-Some-clause-none g c =
@@ -30,7 +31,7 @@ returns-in-Some-clause-none g c =
     let ks = t.trees.items in
     let k = c.index_mut.result.now in
     let here = found_tree ks c.as_slice.result.now c.in-Some.place c.args.id k c.as_slice.ensures.value c.in-Some.ensures c.index_mut.ensures.value in
-    subst (λ (s : Shape). IfOk c.begin_merge.result (λ made. (made ≡ None) ↔ MergesNothing c.args.least s)) (sym (shape_here ks c.in-Some.place c.args.id k t.lawful here.0 here.1)) c.begin_merge.ensures.none
+    subst (λ (s : Shape). IfOk c.begin_merge-begun.result (λ made. (made ≡ None) ↔ MergesNothing c.args.least s)) (sym (shape_here ks c.in-Some.place c.args.id k t.lawful here.0 here.1)) c.begin_merge-begun.ensures.none
 
 pub returns-in-Some-clause-job : goal.returns-in-Some-clause-job
 returns-in-Some-clause-job g c honest entries r =
@@ -38,9 +39,9 @@ returns-in-Some-clause-job g c honest entries r =
     let ks = t.trees.items in
     let k = c.index_mut.result.now in
     let here = found_tree ks c.as_slice.result.now c.in-Some.place c.args.id k c.as_slice.ensures.value c.in-Some.ensures c.index_mut.ensures.value in
-    subst (λ (s : Shape). IfOk c.begin_merge.result (λ made. IfSome made (λ made. merge_task made ≡ merge_of c.args.job c.args.id c.args.watermark (entries c.args.id) s.clears)))
+    subst (λ (s : Shape). IfOk c.begin_merge-begun.result (λ made. IfSome made (λ made. merge_task made ≡ merge_of c.args.job c.args.id c.args.watermark (entries c.args.id) s.clears)))
     (sym (shape_here ks c.in-Some.place c.args.id k t.lawful here.0 here.1))
-    (c.begin_merge.ensures.job honest (entries c.args.id) (read_here (g.D.Disk.meaning c.args.disk.now) ks c.in-Some.place c.args.id k entries r here.0 here.1))
+    (c.begin_merge-begun.ensures.job honest (entries c.args.id) (read_here (g.D.Disk.meaning c.args.disk.now) ks c.in-Some.place c.args.id k entries r here.0 here.1))
 
 pub returns-in-Some-clause-named : goal.returns-in-Some-clause-named
 returns-in-Some-clause-named g c =
@@ -48,8 +49,8 @@ returns-in-Some-clause-named g c =
     let ks = t.trees.items in
     let k = c.index_mut.result.now in
     let here = found_tree ks c.as_slice.result.now c.in-Some.place c.args.id k c.as_slice.ensures.value c.in-Some.ensures c.index_mut.ensures.value in
-    subst (λ (s : Shape). IfOk c.begin_merge.result (λ made. IfSome made (λ made. merge_task made ≡ merge_of c.args.job c.args.id c.args.watermark (merge_task made).runs s.clears)))
-    (sym (shape_here ks c.in-Some.place c.args.id k t.lawful here.0 here.1)) c.begin_merge.ensures.named
+    subst (λ (s : Shape). IfOk c.begin_merge-begun.result (λ made. IfSome made (λ made. merge_task made ≡ merge_of c.args.job c.args.id c.args.watermark (merge_task made).runs s.clears)))
+    (sym (shape_here ks c.in-Some.place c.args.id k t.lawful here.0 here.1)) c.begin_merge-begun.ensures.named
 
 pub returns-in-Some-clause-begun : goal.returns-in-Some-clause-begun
 returns-in-Some-clause-begun g c =
@@ -57,8 +58,8 @@ returns-in-Some-clause-begun g c =
     let ks = t.trees.items in
     let k = c.index_mut.result.now in
     let here = found_tree ks c.as_slice.result.now c.in-Some.place c.args.id k c.as_slice.ensures.value c.in-Some.ensures c.index_mut.ensures.value in
-    job_so c.begin_merge.result _ _
-    (λ made is. set_same_change ks c.in-Some.place c.args.id k c.begin_merge.new.self (merge_begun c.args.job c.args.watermark) t.lawful here.0 here.1 is) c.begin_merge.ensures.begun
+    job_so c.begin_merge-begun.result _ _
+    (λ made is. bounded_same _ _ _ _ c.keep_to_bound.ensures.trees (set_same_change ks c.in-Some.place c.args.id k c.begin_merge-begun.new.self (merge_begun c.args.job c.args.watermark) t.lawful here.0 here.1 is)) c.begin_merge-begun.ensures.begun
 
 pub returns-in-Some-clause-out : goal.returns-in-Some-clause-out
 returns-in-Some-clause-out g c honest entries r =
@@ -66,9 +67,9 @@ returns-in-Some-clause-out g c honest entries r =
     let ks = t.trees.items in
     let k = c.index_mut.result.now in
     let here = found_tree ks c.as_slice.result.now c.in-Some.place c.args.id k c.as_slice.ensures.value c.in-Some.ensures c.index_mut.ensures.value in
-    subst (λ (s : Shape). IfOk c.begin_merge.result (λ made. IfSome made (λ made. IsMerging s (entries c.args.id) (merge_task made))))
-    (sym (shape_set ks c.in-Some.place c.args.id k c.begin_merge.new.self t.lawful here.0 here.1))
-    (c.begin_merge.ensures.out honest (entries c.args.id) (read_here (g.D.Disk.meaning c.args.disk.now) ks c.in-Some.place c.args.id k entries r here.0 here.1))
+    job_so c.begin_merge-begun.result _ _ (λ made is. bounded_merging _ c.args.id _ _ (entries c.args.id) (merge_task made) c.keep_to_bound.ensures.trees
+    (subst (λ (s : Shape). IsMerging s (entries c.args.id) (merge_task made)) (sym (shape_set ks c.in-Some.place c.args.id k c.begin_merge-begun.new.self t.lawful here.0 here.1)) is))
+    (c.begin_merge-begun.ensures.out honest (entries c.args.id) (read_here (g.D.Disk.meaning c.args.disk.now) ks c.in-Some.place c.args.id k entries r here.0 here.1))
 
 pub returns-in-Some-clause-same : goal.returns-in-Some-clause-same
 returns-in-Some-clause-same g c =
@@ -76,7 +77,7 @@ returns-in-Some-clause-same g c =
     let ks = t.trees.items in
     let k = c.index_mut.result.now in
     let here = found_tree ks c.as_slice.result.now c.in-Some.place c.args.id k c.as_slice.ensures.value c.in-Some.ensures c.index_mut.ensures.value in
-    if_ok_so c.begin_merge.result _ _ (λ made same none. set_same_trees ks c.in-Some.place k c.begin_merge.new.self here.0 (same none)) c.begin_merge.ensures.same
+    if_ok_so c.begin_merge-begun.result _ _ (λ made same none. bounded_same _ (forest_of t) _ _ c.keep_to_bound.ensures.trees (set_same_trees ks c.in-Some.place k c.begin_merge-begun.new.self here.0 (same none))) c.begin_merge-begun.ensures.same
 
 pub returns-in-Some-clause-err : goal.returns-in-Some-clause-err
 returns-in-Some-clause-err g c =
@@ -84,7 +85,7 @@ returns-in-Some-clause-err g c =
     let ks = t.trees.items in
     let k = c.index_mut.result.now in
     let here = found_tree ks c.as_slice.result.now c.in-Some.place c.args.id k c.as_slice.ensures.value c.in-Some.ensures c.index_mut.ensures.value in
-    err_so c.begin_merge.result _ _ (λ same. set_same_trees ks c.in-Some.place k c.begin_merge.new.self here.0 same) c.begin_merge.ensures.err
+    err_so c.begin_merge-begun.result _ _ (λ same. bounded_same _ (forest_of t) _ _ c.keep_to_bound.ensures.trees (set_same_trees ks c.in-Some.place k c.begin_merge-begun.new.self here.0 same)) c.begin_merge-begun.ensures.err
 
 pub returns-in-Some-clause-reads : goal.returns-in-Some-clause-reads
 returns-in-Some-clause-reads g c honest entries r =
@@ -93,8 +94,9 @@ returns-in-Some-clause-reads g c honest entries r =
     let k = c.index_mut.result.now in
     let here = found_tree ks c.as_slice.result.now c.in-Some.place c.args.id k c.as_slice.ensures.value c.in-Some.ensures c.index_mut.ensures.value in
     let old = g.D.Disk.meaning c.args.disk.now in
-    let now = c.begin_merge.ensures.reads honest (entries c.args.id) (read_here old ks c.in-Some.place c.args.id k entries r here.0 here.1) in
-    read_set g.D.Disk.honest old (g.D.Disk.meaning c.begin_merge.new.disk) ks c.in-Some.place c.args.id k c.begin_merge.new.self entries c.begin_merge.ensures.disk honest r here.0 here.1 now
+    let now = c.begin_merge-begun.ensures.reads honest (entries c.args.id) (read_here old ks c.in-Some.place c.args.id k entries r here.0 here.1) in
+    bounded_read (g.D.Disk.meaning c.begin_merge-begun.new.disk) _ _ _ entries c.keep_to_bound.ensures.trees
+    (read_set g.D.Disk.honest old (g.D.Disk.meaning c.begin_merge-begun.new.disk) ks c.in-Some.place c.args.id k c.begin_merge-begun.new.self entries c.begin_merge-begun.ensures.disk honest r here.0 here.1 now)
 
 pub returns-in-Some-clause-refused : goal.returns-in-Some-clause-refused
 returns-in-Some-clause-refused g c honest entries r =
@@ -103,9 +105,9 @@ returns-in-Some-clause-refused g c honest entries r =
     let k = c.index_mut.result.now in
     let here = found_tree ks c.as_slice.result.now c.in-Some.place c.args.id k c.as_slice.ensures.value c.in-Some.ensures c.index_mut.ensures.value in
     let old = g.D.Disk.meaning c.args.disk.now in
-    let new = g.D.Disk.meaning c.begin_merge.new.disk in
-    subst (λ (s : Shape). IfErr c.begin_merge.result (IsRefused (SomeTableIsWrong old s.tables) old.faults new.faults)) (sym (shape_here ks c.in-Some.place c.args.id k t.lawful here.0 here.1))
-    (c.begin_merge.ensures.refused honest (entries c.args.id) (read_here old ks c.in-Some.place c.args.id k entries r here.0 here.1))
+    let new = g.D.Disk.meaning c.begin_merge-begun.new.disk in
+    subst (λ (s : Shape). IfErr c.begin_merge-begun.result (IsRefused (SomeTableIsWrong old s.tables) old.faults new.faults)) (sym (shape_here ks c.in-Some.place c.args.id k t.lawful here.0 here.1))
+    (c.begin_merge-begun.ensures.refused honest (entries c.args.id) (read_here old ks c.in-Some.place c.args.id k entries r here.0 here.1))
 
 pub returns-in-None-clause-none : goal.returns-in-None-clause-none
 returns-in-None-clause-none g c =
@@ -113,7 +115,19 @@ returns-in-None-clause-none g c =
     nothing_begun _ (MergesNothing c.args.least) c.args.id (forest_of c.args.self.now) none (inl refl)
 
 pub returns-in-None-clause-same : goal.returns-in-None-clause-same
-returns-in-None-clause-same g c none = same_trees (forest_of c.args.self.now)
+returns-in-None-clause-same g c none = bounded_same _ (forest_of c.args.self.now) _ _ c.keep_to_bound-in-None.ensures.trees (same_trees (forest_of c.args.self.now))
 
 pub returns-in-None-clause-disk : goal.returns-in-None-clause-disk
 returns-in-None-clause-disk g c = looks_none g.D.Disk.honest (g.D.Disk.meaning c.args.disk.now)
+
+pub returns-in-None-clause-reads : goal.returns-in-None-clause-reads
+returns-in-None-clause-reads g c honest entries r =
+    bounded_read (g.D.Disk.meaning c.args.disk.now) _ _ _ entries c.keep_to_bound-in-None.ensures.trees r
+
+pub returns-in-Some-clause-kept : goal.returns-in-Some-clause-kept
+returns-in-Some-clause-kept g c =
+    bounded_kept _ _ _ c.keep_to_bound.ensures.trees
+
+pub returns-in-None-clause-kept : goal.returns-in-None-clause-kept
+returns-in-None-clause-kept g c =
+    bounded_kept _ _ _ c.keep_to_bound-in-None.ensures.trees

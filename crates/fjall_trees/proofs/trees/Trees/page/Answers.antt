@@ -11,6 +11,7 @@ use Rattle.fjall_trees.specs.declared.trees.KeyspaceTree.{KeyspaceTree}
 use Rattle.fjall_trees.specs.Forests.{tree_at}
 use Rattle.fjall_trees.specs.Lists.{forest_in}
 use Rattle.fjall_trees.specs.Views.{forest_of}
+use Rattle.fjall_trees.proofs.Bounded.{bounded_kept, bounded_read, bounded_same}
 use Rattle.fjall_trees.proofs.Places.{found_tree, set_forest, tree_here}
 use Rattle.fjall_trees.proofs.Reading.{read_here, read_set}
 use Rattle.fjall_trees.proofs.Same.{same_trees, set_same_trees, shape_here}
@@ -22,7 +23,7 @@ invariant_of-self g c =
     let ks = t.trees.items in
     let k = c.index_mut.result.now in
     let here = found_tree ks c.as_slice.result.now c.in-Some.place c.args.id k c.as_slice.ensures.value c.in-Some.ensures c.index_mut.ensures.value in
-    record { lawful = set_forest ks c.in-Some.place k c.page.new.self t.lawful here.0 }
+    record { lawful = set_forest ks c.in-Some.place k c.page-pairs.new.self t.lawful here.0 }
 
 pub returns-in-Some-clause-none : goal.returns-in-Some-clause-none
 returns-in-Some-clause-none g c none =
@@ -39,7 +40,7 @@ returns-in-Some-clause-found g c honest entries r shape pairs is view =
     let k = c.index_mut.result.now in
     let here = found_tree ks c.as_slice.result.now c.in-Some.place c.args.id k c.as_slice.ensures.value c.in-Some.ensures c.index_mut.ensures.value in
     let same = some_is shape (shape_of k.tree) (sym is ∙ tree_here ks c.in-Some.place c.args.id k t.lawful here.0 here.1) in
-    c.page.ensures.found honest (entries c.args.id) (read_here (g.D.Disk.meaning c.args.disk.now) ks c.in-Some.place c.args.id k entries r here.0 here.1) pairs
+    c.page-pairs.ensures.found honest (entries c.args.id) (read_here (g.D.Disk.meaning c.args.disk.now) ks c.in-Some.place c.args.id k entries r here.0 here.1) pairs
     (subst (λ (s : Shape). IsView c.args.instant (clears_of s) (versions_of s (entries c.args.id)) pairs) same view)
 
 pub returns-in-Some-clause-reads : goal.returns-in-Some-clause-reads
@@ -49,8 +50,9 @@ returns-in-Some-clause-reads g c honest entries r =
     let k = c.index_mut.result.now in
     let here = found_tree ks c.as_slice.result.now c.in-Some.place c.args.id k c.as_slice.ensures.value c.in-Some.ensures c.index_mut.ensures.value in
     let old = g.D.Disk.meaning c.args.disk.now in
-    let now = c.page.ensures.reads honest (entries c.args.id) (read_here old ks c.in-Some.place c.args.id k entries r here.0 here.1) in
-    read_set g.D.Disk.honest old (g.D.Disk.meaning c.page.new.disk) ks c.in-Some.place c.args.id k c.page.new.self entries c.page.ensures.disk honest r here.0 here.1 now
+    let now = c.page-pairs.ensures.reads honest (entries c.args.id) (read_here old ks c.in-Some.place c.args.id k entries r here.0 here.1) in
+    bounded_read (g.D.Disk.meaning c.page-pairs.new.disk) _ _ _ entries c.keep_to_bound.ensures.trees
+    (read_set g.D.Disk.honest old (g.D.Disk.meaning c.page-pairs.new.disk) ks c.in-Some.place c.args.id k c.page-pairs.new.self entries c.page-pairs.ensures.disk honest r here.0 here.1 now)
 
 pub returns-in-Some-clause-refused : goal.returns-in-Some-clause-refused
 returns-in-Some-clause-refused g c honest entries r =
@@ -59,9 +61,9 @@ returns-in-Some-clause-refused g c honest entries r =
     let k = c.index_mut.result.now in
     let here = found_tree ks c.as_slice.result.now c.in-Some.place c.args.id k c.as_slice.ensures.value c.in-Some.ensures c.index_mut.ensures.value in
     let old = g.D.Disk.meaning c.args.disk.now in
-    let new = g.D.Disk.meaning c.page.new.disk in
-    subst (λ (s : Shape). IfErr c.page.result (IsRefused (SomeTableIsWrong old s.tables) old.faults new.faults)) (sym (shape_here ks c.in-Some.place c.args.id k t.lawful here.0 here.1))
-    (c.page.ensures.refused honest (entries c.args.id) (read_here old ks c.in-Some.place c.args.id k entries r here.0 here.1))
+    let new = g.D.Disk.meaning c.page-pairs.new.disk in
+    subst (λ (s : Shape). IfErr c.page-pairs.result (IsRefused (SomeTableIsWrong old s.tables) old.faults new.faults)) (sym (shape_here ks c.in-Some.place c.args.id k t.lawful here.0 here.1))
+    (c.page-pairs.ensures.refused honest (entries c.args.id) (read_here old ks c.in-Some.place c.args.id k entries r here.0 here.1))
 
 pub returns-in-Some-clause-trees : goal.returns-in-Some-clause-trees
 returns-in-Some-clause-trees g c =
@@ -69,7 +71,7 @@ returns-in-Some-clause-trees g c =
     let ks = t.trees.items in
     let k = c.index_mut.result.now in
     let here = found_tree ks c.as_slice.result.now c.in-Some.place c.args.id k c.as_slice.ensures.value c.in-Some.ensures c.index_mut.ensures.value in
-    set_same_trees ks c.in-Some.place k c.page.new.self here.0 c.page.ensures.shape
+    bounded_same _ (forest_of t) _ _ c.keep_to_bound.ensures.trees (set_same_trees ks c.in-Some.place k c.page-pairs.new.self here.0 c.page-pairs.ensures.shape)
 
 pub returns-in-None-clause-found : goal.returns-in-None-clause-found
 returns-in-None-clause-found g c honest entries r shape pairs is view =
@@ -77,7 +79,19 @@ returns-in-None-clause-found g c honest entries r shape pairs is view =
     absurd (cc (is, none))
 
 pub returns-in-None-clause-trees : goal.returns-in-None-clause-trees
-returns-in-None-clause-trees g c = same_trees (forest_of c.args.self.now)
+returns-in-None-clause-trees g c = bounded_same _ (forest_of c.args.self.now) _ _ c.keep_to_bound-in-None.ensures.trees (same_trees (forest_of c.args.self.now))
 
 pub returns-in-None-clause-disk : goal.returns-in-None-clause-disk
 returns-in-None-clause-disk g c = looks_none g.D.Disk.honest (g.D.Disk.meaning c.args.disk.now)
+
+pub returns-in-None-clause-reads : goal.returns-in-None-clause-reads
+returns-in-None-clause-reads g c honest entries r =
+    bounded_read (g.D.Disk.meaning c.args.disk.now) _ _ _ entries c.keep_to_bound-in-None.ensures.trees r
+
+pub returns-in-Some-clause-kept : goal.returns-in-Some-clause-kept
+returns-in-Some-clause-kept g c =
+    bounded_kept _ _ _ c.keep_to_bound.ensures.trees
+
+pub returns-in-None-clause-kept : goal.returns-in-None-clause-kept
+returns-in-None-clause-kept g c =
+    bounded_kept _ _ _ c.keep_to_bound-in-None.ensures.trees
