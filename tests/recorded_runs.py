@@ -64,15 +64,16 @@ class Program:
         source = os.path.join(os.path.dirname(os.path.abspath(__file__)), "recorded_calls.c")
         subprocess.run(["cc", "-O2", "-shared", "-fPIC", "-o", self.library, source], check=True)
 
-    def run(self, place, lines, settings=None):
-        """Runs lines over a place; with settings, under the recorder."""
+    def run(self, place, lines, settings=None, behind=()):
+        """Runs lines over a place, with words behind it; with settings, under the recorder."""
         environment = dict(os.environ)
         log = None
         if settings is not None:
             log = tempfile.mktemp(dir=self.work)
             environment.update(LD_PRELOAD=self.library, RECORD_BELOW=above(place), RECORD_LOG=log, **settings)
         text = "".join(line + "\n" for line in lines)
-        done = subprocess.run([*self.command, place], input=text, capture_output=True, text=True, env=environment, timeout=60)
+        command = [*self.command, place, *behind]
+        done = subprocess.run(command, input=text, capture_output=True, text=True, env=environment, timeout=60)
         told = []
         if log and os.path.exists(log):
             with open(log, encoding="utf8") as lines_told:

@@ -2,7 +2,7 @@
 use Rattle.std.proofs.Common.{◌≡◌, Bool, List, [], ◌∷◌, ◌++◌, refl, sym, subst, append_assoc, ap, length, suc}
 use Rattle.std.proofs.lemmas.List.{append-nil}
 use Rattle.fjall_history.specs.declared.reply.Reply.{Reply}
-use Rattle.fjall_jobs.specs.declared.merge_job.MergeJob.{MergeJob}
+use Rattle.fjall_core.specs.declared.jobs.Job.{Job}
 use Rattle.fjall_machine.specs.Machine.{State}
 use Rattle.fjall_machine.specs.Shapes.{shape_of}
 use Rattle.fjall_machine.specs.declared.call.Call.{Call}
@@ -15,7 +15,7 @@ use Rattle.fjall_core.proofs.RunsOverCrashes.{RunsKnown, SoFar, one_more, runs_p
 use Rattle.fjall_calls.specs.Serving.{MakesCoreCalls, MakesKept, ServesAll, ServesKept}
 
 -- served behind a run that may crash
-pub served_on : (made : List Call) (told : List Reply) (jobs later : List MergeJob) (mid new : Held) (s : State) (d : Durable) (calls : List Call) (replies : List Reply) → SoFar jobs mid s d calls replies
+pub served_on : (made : List Call) (told : List Reply) (jobs later : List Job) (mid new : Held) (s : State) (d : Durable) (calls : List Call) (replies : List Reply) → SoFar jobs mid s d calls replies
     → ServesKept jobs mid made told new later → SoFar later new s d (calls ++ made) (replies ++ told)
 served_on [] [] jobs later mid new s d calls replies so_far (same, kept) =
     subst (λ cs. SoFar later new s d cs (replies ++ [])) (sym (append-nil calls)) (subst (λ rs. SoFar later new s d calls rs) (sym (append-nil replies))
@@ -27,7 +27,7 @@ served_on [] (r ∷ told) jobs later mid new s d calls replies so_far all = absu
 served_on (c ∷ made) [] jobs later mid new s d calls replies so_far all = absurd all
 
 -- served behind a run of the machine
-pub run_on : (made : List Call) (told : List Reply) (jobs later : List MergeJob) (old mid new : Held) (calls : List Call) (replies : List Reply) → RunsKnown jobs old calls replies mid
+pub run_on : (made : List Call) (told : List Reply) (jobs later : List Job) (old mid new : Held) (calls : List Call) (replies : List Reply) → RunsKnown jobs old calls replies mid
     → ServesKept jobs mid made told new later → RunsKnown later old (calls ++ made) (replies ++ told) new
 run_on [] [] jobs later old mid new calls replies runs (same, kept) =
     subst (λ cs. RunsKnown later old cs (replies ++ []) new) (sym (append-nil calls)) (subst (λ rs. RunsKnown later old calls rs new) (sym (append-nil replies))
@@ -39,13 +39,13 @@ run_on [] (r ∷ told) jobs later old mid new calls replies runs all = absurd al
 run_on (c ∷ made) [] jobs later old mid new calls replies runs all = absurd all
 
 -- calls that are served from whatever state, are so from one that knows the merges that are kept, and leave these known
-kept_chain : (jobs : List MergeJob) (made : List Call) (told : List Reply) (old new : Held) → ServesAll old made told new → ServesKept jobs old made told new jobs
+kept_chain : (jobs : List Job) (made : List Call) (told : List Reply) (old new : Held) → ServesAll old made told new → ServesKept jobs old made told new jobs
 kept_chain jobs [] [] old new same = (same, refl)
 kept_chain jobs (c ∷ made) (r ∷ told) old new (mid, serves, rest) = (mid, jobs, serves_where (λ s. KnowsMerges s jobs) old mid (shape_of c) r serves, merges_stay old jobs (shape_of c) r, kept_chain jobs made told mid new rest)
 kept_chain jobs [] (r ∷ told) old new all = absurd all
 kept_chain jobs (c ∷ made) [] old new all = absurd all
 
-pub makes_kept : (honest : Bool) (jobs : List MergeJob) (old new : Held) (made : List Call) (told : List Reply) → MakesCoreCalls honest old made told new → MakesKept honest jobs old made told new jobs
+pub makes_kept : (honest : Bool) (jobs : List Job) (old new : Held) (made : List Call) (told : List Reply) → MakesCoreCalls honest old made told new → MakesKept honest jobs old made told new jobs
 makes_kept honest jobs old new made told makes = record { serves = λ h. kept_chain jobs made told old new (makes.serves h); owes = makes.owes }
 
 -- owed behind what was owed

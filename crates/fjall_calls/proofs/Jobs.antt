@@ -4,7 +4,7 @@ use Rattle.std.specs.List.{slice_get}
 use Rattle.fjall_history.specs.declared.job.JobId.{JobId}
 use Rattle.fjall_history.specs.declared.reply.Reply.{Reply}
 use Rattle.fjall_history.specs.declared.reply.Reply.TheVariants.{Began}
-use Rattle.fjall_core.specs.declared.jobs.Jobs.{Jobs}
+use Rattle.fjall_core.specs.declared.jobs.Job.{Job}
 use Rattle.fjall_machine.specs.Remembered.{Remembered}
 use Rattle.fjall_machine.specs.Shapes.{CallShape}
 use Rattle.fjall_core.specs.Holding.{Held}
@@ -19,7 +19,7 @@ longer [] more place reply is = let bad : None ≡ Some reply = is in absurd cc
 longer (r ∷ replies) more zero reply is = is
 longer (r ∷ replies) more (suc place) reply is = longer replies more place reply is
 
-fewer_replies : (m : Remembered) (jobs : Jobs) (replies more : List Reply) → KeepsJobs m jobs (replies ++ more) → KeepsJobs m jobs replies
+fewer_replies : (m : Remembered) (jobs : List Job) (replies more : List Reply) → KeepsJobs m jobs (replies ++ more) → KeepsJobs m jobs replies
 fewer_replies m jobs replies more keeps = record { known = keeps.known; named = λ place job is. keeps.named place job (longer replies more place (Began (Some job)) is) }
 
 -- what a list with one more has at a place, it had, or that one is it
@@ -30,7 +30,7 @@ last_or_before (r ∷ replies) last zero reply is = inl is
 last_or_before (r ∷ replies) last (suc place) reply is = last_or_before replies last place reply is
 
 -- one more reply that tells of no job
-pub one_reply_more : (m : Remembered) (jobs : Jobs) (replies : List Reply) (reply : Reply) → ((job : JobId) → Some reply ≡ Some (Began (Some job)) → ⊥) → KeepsJobs m jobs replies → KeepsJobs m jobs (replies ++ reply ∷ [])
+pub one_reply_more : (m : Remembered) (jobs : List Job) (replies : List Reply) (reply : Reply) → ((job : JobId) → Some reply ≡ Some (Began (Some job)) → ⊥) → KeepsJobs m jobs replies → KeepsJobs m jobs (replies ++ reply ∷ [])
 one_reply_more m jobs replies reply none keeps = record {
   known = keeps.known;
   named = λ place job is. elim (last_or_before replies reply place (Began (Some job)) is) [

@@ -1,7 +1,7 @@
 -- A call of a list beside the merges that are kept.
 use Rattle.std.proofs.Common.{◌≡◌, Bool, IsTrue, false, List, [], ◌∷◌, refl}
 use Rattle.fjall_history.specs.declared.reply.Reply.{Reply}
-use Rattle.fjall_jobs.specs.declared.merge_job.MergeJob.{MergeJob}
+use Rattle.fjall_core.specs.declared.jobs.Job.{Job}
 use Rattle.fjall_machine.specs.Places.{resolved}
 use Rattle.fjall_machine.specs.Shapes.{shape_of}
 use Rattle.fjall_machine.specs.declared.call.Call.{Call}
@@ -20,7 +20,7 @@ use Rattle.fjall_calls.proofs.Chains.{makes_kept}
 use Rattle.fjall_calls.proofs.Quiet.{is_of_core, quiet_step}
 
 -- a call of the core's own
-pub core_serves : (honest : Bool) (jobs later : List MergeJob) (core left : Held) (kept : Kept) (listed : List Named) (before : List Reply) (call : Call) (reply : Reply)
+pub core_serves : (honest : Bool) (jobs later : List Job) (core left : Held) (kept : Kept) (listed : List Named) (before : List Reply) (call : Call) (reply : Reply)
     → (IsTrue honest → ServesWhere (λ s. KnowsMerges s jobs) core (shape_of (resolved before call)) reply left) → Owes core (shape_of (resolved before call)) reply left
     → (IsTrue honest → KeepsMerges core jobs (shape_of (resolved before call)) reply later)
     → ServesListed honest jobs later core kept listed before (calls.Core call) reply left kept listed
@@ -35,7 +35,7 @@ core_serves honest jobs later core left kept listed before call reply serves owe
 }
 
 -- a call of transactions leaves the merges that are kept alone
-pub others_serve : (honest : Bool) (jobs : List MergeJob) (core left : Held) (kept after : Kept) (listed rest : List Named) (before : List Reply) (call : TxCall) (reply : Reply) → is_of_core call ≡ false
+pub others_serve : (honest : Bool) (jobs : List Job) (core left : Held) (kept after : Kept) (listed rest : List Named) (before : List Reply) (call : TxCall) (reply : Reply) → is_of_core call ≡ false
     → ServesTx honest core kept listed before call reply left after rest → ServesListed honest jobs jobs core kept listed before call reply left after rest
 others_serve honest jobs core left kept after listed rest before call reply other serves = record {
   made = serves.made;

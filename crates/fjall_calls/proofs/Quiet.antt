@@ -5,14 +5,15 @@ use Rattle.fjall_base.specs.declared.error.Error.{Error}
 use Rattle.fjall_history.specs.Queries.{Get, Page, Query}
 use Rattle.fjall_history.specs.declared.reply.Reply.{Reply}
 use Rattle.fjall_history.specs.declared.reply.Reply.TheVariants.{Done, Opened, Refused}
-use Rattle.fjall_jobs.specs.declared.merge_job.MergeJob.{MergeJob}
-use Rattle.fjall_jobs.specs.Merges.{merge_task}
+use Rattle.fjall_jobs.specs.Merges.{merge_target, merge_task}
 use Rattle.fjall_machine.specs.Machine.{State, StepOf}
 use Rattle.fjall_machine.specs.Merging.{IsQuiet}
 use Rattle.fjall_machine.specs.Shapes.{CallShape, Close, OfTickets, Open, shape_of}
 use Rattle.fjall_machine.specs.declared.call.Call.{Call}
 use Rattle.fjall_machine.proofs.QuietSteps.{quiet_stays}
-use Rattle.fjall_core.specs.Jobs.{KnowsMerges}
+use Rattle.fjall_core.specs.declared.jobs.Job.{Job}
+use Rattle.fjall_core.specs.declared.jobs.Job.TheVariants.{Flush, Merge}
+use Rattle.fjall_core.specs.Jobs.{IsMergeKnown, KnowsMerges}
 use Rattle.fjall_transactions.specs.Commits.{change_of}
 use Rattle.fjall_transactions.specs.Standing.{CommitStep, IsCommitted, IsGone, IsIdle, IsMet, IsRefused, Told}
 use Rattle.fjall_transactions.specs.Transactions.{Tx}
@@ -29,18 +30,22 @@ abbrev pub is_of_core : TxCall → Bool
 is_of_core (calls.Core call) = true
 is_of_core call = false
 
-known_on : (jobs : List MergeJob) (s t : State) (shape : CallShape) (reply : Reply) → IsQuiet shape → StepOf s shape reply t → KnowsMerges s jobs → KnowsMerges t jobs
-known_on jobs s t shape reply quiet step known = λ i d lt. let job = get_or jobs i d in quiet_stays s shape reply t quiet step job.target (merge_task job) (known i d lt)
+merge_on : (job : Job) (s t : State) (shape : CallShape) (reply : Reply) → IsQuiet shape → StepOf s shape reply t → IsMergeKnown s job → IsMergeKnown t job
+merge_on (Flush job) s t shape reply quiet step known = tt
+merge_on (Merge job) s t shape reply quiet step known = quiet_stays s shape reply t quiet step (merge_target job) (merge_task job) known
+
+known_on : (jobs : List Job) (s t : State) (shape : CallShape) (reply : Reply) → IsQuiet shape → StepOf s shape reply t → KnowsMerges s jobs → KnowsMerges t jobs
+known_on jobs s t shape reply quiet step known = λ i d lt. merge_on (get_or jobs i d) s t shape reply quiet step (known i d lt)
 
 read_is_quiet : (tx : Tx) (id : ℕ) (query : Query) → IsQuiet (shape_of (call_for tx id query))
 read_is_quiet tx id (Get key) = tt
 read_is_quiet tx id (Page range back max) = tt
 
-asked : (jobs : List MergeJob) (s t : State) (tx : Tx) (call : Within) (made : List Call) (told : List Reply) → AsksCore s tx call made told t → KnowsMerges s jobs → KnowsMerges t jobs
+asked : (jobs : List Job) (s t : State) (tx : Tx) (call : Within) (made : List Call) (told : List Reply) → AsksCore s tx call made told t → KnowsMerges s jobs → KnowsMerges t jobs
 asked jobs s _ tx call _ _ AsksNothing known = known
 asked jobs s _ tx call _ _ (AsksFor id query is reply t step) known = known_on jobs s t (shape_of (call_for tx id query)) reply (read_is_quiet tx id query) step known
 
-committed : (jobs : List MergeJob) (old new : Told) (tx : Tx) (outcome : CommitOutcome Error) → CommitStep old tx outcome new → KnowsMerges old.state jobs → KnowsMerges new.state jobs
+committed : (jobs : List Job) (old new : Told) (tx : Tx) (outcome : CommitOutcome Error) → CommitStep old tx outcome new → KnowsMerges old.state jobs → KnowsMerges new.state jobs
 committed jobs old new tx outcome (IsGone none told same) known = subst (λ (t : Told). KnowsMerges t.state jobs) (sym same) known
 committed jobs old new tx outcome (IsIdle instant opened none told closes same) known = known_on jobs old.state new.state (OfTickets (Close tx.ticket.id)) Done tt closes known
 committed jobs old new tx outcome (IsMet instant opened some meets told closes same) known = known_on jobs old.state new.state (OfTickets (Close tx.ticket.id)) Done tt closes known
@@ -49,7 +54,7 @@ committed jobs old new tx outcome (IsRefused instant opened some apart error tol
 committed jobs old new tx outcome (IsCommitted instant opened some apart told mid made closes grown) known =
     known_on jobs mid new.state (OfTickets (Close tx.ticket.id)) Done tt closes (known_on jobs old.state mid (change_of tx) Done tt made known)
 
-pub quiet_step : (jobs : List MergeJob) (w v : World) (before : List Reply) (call : TxCall) (reply : Reply) (made : List Call) (told : List Reply) → is_of_core call ≡ false → TxStep w before call reply made told v
+pub quiet_step : (jobs : List Job) (w v : World) (before : List Reply) (call : TxCall) (reply : Reply) (made : List Call) (told : List Reply) → is_of_core call ≡ false → TxStep w before call reply made told v
     → KnowsMerges w.told.state jobs → KnowsMerges v.told.state jobs
 quiet_step jobs w _ before _ _ _ _ other (OfCore call reply s step) known = absurd (true≢false other)
 quiet_step jobs w _ before _ _ _ _ other (IsHeldBack due) known = known

@@ -1,7 +1,7 @@
 -- A list of calls, as far as it was served.
 use Rattle.std.proofs.Common.{Bool, IsTrue, List, [], ◌∷◌, ◌++◌, refl}
 use Rattle.fjall_history.specs.declared.reply.Reply.{Reply}
-use Rattle.fjall_jobs.specs.declared.merge_job.MergeJob.{MergeJob}
+use Rattle.fjall_core.specs.declared.jobs.Job.{Job}
 use Rattle.fjall_machine.specs.Machine.{State}
 use Rattle.fjall_machine.specs.declared.call.Call.{Call}
 use Rattle.fjall_core.specs.Durables.{Durable}
@@ -21,7 +21,7 @@ use Rattle.fjall_calls.proofs.Chains.{owed_on, run_on, served_on}
 use Rattle.fjall_calls.proofs.Runs.{comes_more, run_more}
 
 -- so many calls were served, with these merges kept and these transactions open
-pub record RunSoFar (honest : Bool) (jobs : List MergeJob) (core : Held) (kept : Kept) (calls : List TxCall) (replies : List Reply) (left : Held) (after : Kept) (listed : List Named) : Type 0 where
+pub record RunSoFar (honest : Bool) (jobs : List Job) (core : Held) (kept : Kept) (calls : List TxCall) (replies : List Reply) (left : Held) (after : Kept) (listed : List Named) : Type 0 where
   pub made : List Call
   pub told : List Reply
   pub core_runs : IsTrue honest → RunsKnown jobs core made told left
@@ -44,7 +44,7 @@ none_served honest core kept = record {
 }
 
 -- one more was
-pub one_served : (honest : Bool) (jobs later : List MergeJob) (core mid left : Held) (kept amid after : Kept) (calls : List TxCall) (replies : List Reply) (listed rest : List Named) (call : TxCall) (reply : Reply)
+pub one_served : (honest : Bool) (jobs later : List Job) (core mid left : Held) (kept amid after : Kept) (calls : List TxCall) (replies : List Reply) (listed rest : List Named) (call : TxCall) (reply : Reply)
     → RunSoFar honest jobs core kept calls replies mid amid listed → ServesListed honest jobs later mid amid listed replies call reply left after rest
     → RunSoFar honest later core kept (calls ++ call ∷ []) (replies ++ reply ∷ []) left after rest
 one_served honest jobs later core mid left kept amid after calls replies listed rest call reply so_far serves = record {
@@ -61,7 +61,7 @@ one_served honest jobs later core mid left kept amid after calls replies listed 
 }
 
 -- all were
-pub all_served : (honest : Bool) (jobs : List MergeJob) (core left : Held) (kept after : Kept) (calls : List TxCall) (replies : List Reply) (listed : List Named) → RunSoFar honest jobs core kept calls replies left after listed
+pub all_served : (honest : Bool) (jobs : List Job) (core left : Held) (kept after : Kept) (calls : List TxCall) (replies : List Reply) (listed : List Named) → RunSoFar honest jobs core kept calls replies left after listed
     → RunsTx honest core kept calls replies left after
 all_served honest jobs core left kept after calls replies listed so_far = record {
   made = so_far.made;

@@ -6,8 +6,7 @@ use Rattle.fjall_base.specs.declared.error.Error.TheVariants.{OutOfMemory}
 use Rattle.fjall_history.specs.Queries.{Get}
 use Rattle.fjall_history.specs.declared.reply.Reply.{Reply}
 use Rattle.fjall_history.specs.declared.reply.Reply.TheVariants.{Done, Flag, Pairs, Refused, Value}
-use Rattle.fjall_core.specs.declared.jobs.Jobs.{Jobs}
-use Rattle.fjall_jobs.specs.declared.merge_job.MergeJob.{MergeJob}
+use Rattle.fjall_core.specs.declared.jobs.Job.{Job}
 use Rattle.fjall_machine.specs.Machine.{State, Step}
 use Rattle.fjall_machine.specs.Places.{resolved}
 use Rattle.fjall_machine.specs.Shapes.{shape_of}
@@ -44,21 +43,21 @@ pub record MakesCoreCalls (honest : Bool) (old : Held) (made : List Call) (told 
 
 -- Calls of the core one after another, each served from whatever state knows the merges that are kept, and behind which those are known
 -- that are kept then.
-abbrev pub ServesKept : List MergeJob → Held → List Call → List Reply → Held → List MergeJob → Type 0
+abbrev pub ServesKept : List Job → Held → List Call → List Reply → Held → List Job → Type 0
 ServesKept jobs old [] [] new later = (new ≡ old) × (later ≡ jobs)
 ServesKept jobs old (call ∷ calls) (reply ∷ replies) new later =
-    (mid : Held) × (left : List MergeJob) × ServesWhere (λ s. KnowsMerges s jobs) old (shape_of call) reply mid × KeepsMerges old jobs (shape_of call) reply left
+    (mid : Held) × (left : List Job) × ServesWhere (λ s. KnowsMerges s jobs) old (shape_of call) reply mid × KeepsMerges old jobs (shape_of call) reply left
     × ServesKept left mid calls replies new later
 ServesKept jobs old calls replies new later = ⊥
 
 -- the same of calls with their replies, as these are owed over any disk
-pub record MakesKept (honest : Bool) (jobs : List MergeJob) (old : Held) (made : List Call) (told : List Reply) (new : Held) (later : List MergeJob) : Type 0 where
+pub record MakesKept (honest : Bool) (jobs : List Job) (old : Held) (made : List Call) (told : List Reply) (new : Held) (later : List Job) : Type 0 where
   pub serves : IsTrue honest → ServesKept jobs old made told new later
   pub owes : OwesAll old made told new
 
 -- the jobs that are kept beside a core stay known, whatever reply to these calls is told
 abbrev pub KeepsOn : Held → Held → Type 0
-KeepsOn old new = (jobs : Jobs) (replies : List Reply) → KeepsJobs old.memory jobs replies → KeepsJobs new.memory jobs replies
+KeepsOn old new = (jobs : List Job) (replies : List Reply) → KeepsJobs old.memory jobs replies → KeepsJobs new.memory jobs replies
 
 -- ---- calls within a transaction
 
@@ -154,7 +153,7 @@ pub record ServesTx (honest : Bool) (core : Held) (kept : Kept) (listed : List N
       → (v : World) × Stands left after rest v × ReadsOn left v.told.state × TxStep w before call reply made told v
 
 -- The same of whichever world knows the merges that were kept, behind which those are known that are kept then.
-pub record ServesListed (honest : Bool) (jobs later : List MergeJob) (core : Held) (kept : Kept) (listed : List Named) (before : List Reply) (call : TxCall) (reply : Reply) (left : Held) (after : Kept) (rest : List Named) : Type 0 where
+pub record ServesListed (honest : Bool) (jobs later : List Job) (core : Held) (kept : Kept) (listed : List Named) (before : List Reply) (call : TxCall) (reply : Reply) (left : Held) (after : Kept) (rest : List Named) : Type 0 where
   pub made : List Call
   pub told : List Reply
   pub makes : MakesKept honest jobs core made told left later

@@ -5,7 +5,7 @@ ghost use Rattle.fjall_base.specs.declared.error.Error.TheVariants.{TransactionO
 ghost use Rattle.fjall_core.specs.Jobs.{KeepsJobs};
 ghost use Rattle.fjall_core.specs.Standing.{Owes, Serves};
 ghost use Rattle.fjall_history.specs.declared.reply.Reply.{Reply as Told};
-ghost use Rattle.fjall_core.specs.declared.jobs.Jobs.{Jobs};
+ghost use Rattle.fjall_core.specs.declared.jobs.Job.{Job};
 ghost use Rattle.fjall_machine.specs.Shapes.{OfTickets, Open};
 ghost use Rattle.fjall_transactions.specs.Commits.{begun_reply};
 ghost use Rattle.fjall_transactions.specs.Transactions.{begun};
@@ -46,7 +46,7 @@ pub(crate) fn begin<D: Disk>(
     requires room { vec_len listed.old < vec_capacity listed.old }
     ensures serves { (before : List Told) → place ≡ length before
         → ServesTx D.honest core.old.engine core.old.transactions listed.old.items before (calls.Begin kind) result core.new.engine core.new.transactions listed.new.items }
-    ensures keeps { (jobs : Jobs) (before : List Told) → KeepsJobs core.old.engine.memory jobs before → KeepsJobs core.new.engine.memory jobs (before ++ result ∷ []) }
+    ensures keeps { (jobs : List Job) (before : List Told) → KeepsJobs core.old.engine.memory jobs before → KeepsJobs core.new.engine.memory jobs (before ++ result ∷ []) }
     ensures room { vec_capacity listed.old ≤ vec_capacity listed.new }
     ensures len { vec_len listed.new ≤ vec_len listed.old + 1 }
 {
@@ -68,7 +68,7 @@ pub(crate) fn within<D: Disk>(
 ) -> Reply
     ensures serves { (before : List Told)
         → ServesTx D.honest core.old.engine core.old.transactions listed.old.items before (calls.Within name call) result core.new.engine core.new.transactions listed.new.items }
-    ensures keeps { (jobs : Jobs) (before : List Told) → KeepsJobs core.old.engine.memory jobs before → KeepsJobs core.new.engine.memory jobs (before ++ result ∷ []) }
+    ensures keeps { (jobs : List Job) (before : List Told) → KeepsJobs core.old.engine.memory jobs before → KeepsJobs core.new.engine.memory jobs (before ++ result ∷ []) }
     ensures room { vec_capacity listed.old ≤ vec_capacity listed.new }
     ensures len { vec_len listed.new ≤ vec_len listed.old }
 {
@@ -101,7 +101,7 @@ pub(crate) fn commit<D: Disk>(
 ) -> Reply
     ensures serves { (before : List Told)
         → ServesTx D.honest core.old.engine core.old.transactions listed.old.items before (calls.Commit kind name) result core.new.engine core.new.transactions listed.new.items }
-    ensures keeps { (jobs : Jobs) (before : List Told) → KeepsJobs core.old.engine.memory jobs before → KeepsJobs core.new.engine.memory jobs (before ++ result ∷ []) }
+    ensures keeps { (jobs : List Job) (before : List Told) → KeepsJobs core.old.engine.memory jobs before → KeepsJobs core.new.engine.memory jobs (before ++ result ∷ []) }
     ensures room { vec_capacity listed.new ≡ vec_capacity listed.old }
     ensures len { vec_len listed.new ≤ vec_len listed.old }
 {
@@ -117,7 +117,7 @@ pub(crate) fn commit<D: Disk>(
 pub(crate) fn roll_back<D: Disk>(core: &mut Core<D>, name: u64, listed: &mut Vec<Named>) -> Reply
     ensures serves { (before : List Told)
         → ServesTx D.honest core.old.engine core.old.transactions listed.old.items before (calls.Rollback name) result core.new.engine core.new.transactions listed.new.items }
-    ensures keeps { (jobs : Jobs) (before : List Told) → KeepsJobs core.old.engine.memory jobs before → KeepsJobs core.new.engine.memory jobs (before ++ result ∷ []) }
+    ensures keeps { (jobs : List Job) (before : List Told) → KeepsJobs core.old.engine.memory jobs before → KeepsJobs core.new.engine.memory jobs (before ++ result ∷ []) }
     ensures room { vec_capacity listed.new ≡ vec_capacity listed.old }
     ensures len { vec_len listed.new ≤ vec_len listed.old }
 {

@@ -8,7 +8,7 @@ use crate::call::TxCall;
 use crate::ends::{begin, commit, roll_back, within};
 use crate::named::Named;
 use fjall_base::{Disk, Error, Result};
-use fjall_core::{Jobs, Reply};
+use fjall_core::{Job, Reply};
 use fjall_transactions::Core;
 use std::alloc::Global;
 
@@ -19,20 +19,17 @@ fn serve<D: Disk>(
     call: TxCall,
     replies: &[Reply],
     listed: &mut Vec<Named>,
-    jobs: &mut Jobs,
+    jobs: &mut Vec<Job>,
 ) -> Reply
     requires listed_room { vec_len listed.old < vec_capacity listed.old }
-    requires flush_room { vec_len jobs.old.flushes < vec_capacity jobs.old.flushes }
-    requires merge_room { vec_len jobs.old.merges < vec_capacity jobs.old.merges }
-    requires keeps { KeepsJobs core.old.engine.memory jobs.old replies.now }
-    ensures serves { ServesListed D.honest jobs.old.merges.items jobs.new.merges.items core.old.engine core.old.transactions listed.old.items replies.now call result core.new.engine core.new.transactions listed.new.items }
-    ensures keeps { KeepsJobs core.new.engine.memory jobs.new (replies.now ++ result ∷ []) }
+    requires jobs_room { vec_len jobs.old < vec_capacity jobs.old }
+    requires keeps { KeepsJobs core.old.engine.memory jobs.old.items replies.now }
+    ensures serves { ServesListed D.honest jobs.old.items jobs.new.items core.old.engine core.old.transactions listed.old.items replies.now call result core.new.engine core.new.transactions listed.new.items }
+    ensures keeps { KeepsJobs core.new.engine.memory jobs.new.items (replies.now ++ result ∷ []) }
     ensures listed_room { vec_capacity listed.old ≤ vec_capacity listed.new }
     ensures listed_len { vec_len listed.new ≤ vec_len listed.old + 1 }
-    ensures flush_room { vec_capacity jobs.old.flushes ≤ vec_capacity jobs.new.flushes }
-    ensures merge_room { vec_capacity jobs.old.merges ≤ vec_capacity jobs.new.merges }
-    ensures flush_len { vec_len jobs.new.flushes ≤ vec_len jobs.old.flushes + 1 }
-    ensures merge_len { vec_len jobs.new.merges ≤ vec_len jobs.old.merges + 1 }
+    ensures jobs_room { vec_capacity jobs.old ≤ vec_capacity jobs.new }
+    ensures jobs_len { vec_len jobs.new ≤ vec_len jobs.old + 1 }
 {
     match call {
         TxCall::Core(call) => core.serve(call, replies, jobs),
@@ -57,7 +54,7 @@ pub fn run<D: Disk>(alloc: Global, core: &mut Core<D>, calls: Vec<TxCall>) -> Re
 {
     let mut replies = Vec::with_capacity(alloc, calls.len())?;
     let mut listed = Vec::with_capacity(alloc, calls.len())?;
-    let mut jobs = Jobs::with_capacity(alloc, calls.len())?;
+    let mut jobs = Vec::with_capacity(alloc, calls.len())?;
     for call in calls {
         let reply = serve(core, call, &replies, &mut listed, &mut jobs);
         replies.push(reply).unwrap();

@@ -1,5 +1,6 @@
 pub mod Changes
 pub mod Removals
+pub mod Given
 pub mod Journaling
 pub mod Rotations
 pub mod Evictions

@@ -20,57 +20,9 @@ use Rattle.fjall_compaction.specs.Flushes.{Flush, Follows, HasAt, home_after, in
 use Rattle.fjall_compaction.proofs.FlushAfterRecords.{clears_within, now_within, still_within}
 use Rattle.fjall_compaction.proofs.Once.{both_once}
 
--- ---- which tables it has
-
--- one of two lists of tables is of the first one or of the second
-one_split : (tables infos : List TableInfo) (texts more : List (List ℕ)) (n : ℕ) (bytes : List ℕ) → length tables ≡ length texts → IsOneOf (tables ++ infos) (texts ++ more) n bytes
-    → IsOneOf tables texts n bytes ⊎ IsOneOf infos more n bytes
-one_split [] infos [] more n bytes len one = inr one
-one_split [] infos (text ∷ texts) more n bytes len one = absurd (omega (arith, len))
-one_split (t ∷ tables) infos [] more n bytes len one = absurd (omega (arith, len))
-one_split (t ∷ tables) infos (text ∷ texts) more n bytes len (inl here) = inl (inl here)
-one_split (t ∷ tables) infos (text ∷ texts) more n bytes len (inr later) =
-    elim (one_split tables infos texts more n bytes (omega (arith, len)) later) [ inl kept ↦ inl (inr kept) | inr new ↦ inr new ]
-
-module _ (h : Home) (infos : List TableInfo) (new : List (List ℕ)) where
-  kept_or_new : (tables : List TableInfo) (texts : List (List ℕ)) → length tables ≡ length texts
-      → ((n : ℕ) (bytes : List ℕ) → IsOneOf tables texts n bytes → IsOneOf h.last.tables h.texts n bytes ⊎ IsOneOf infos new n bytes) → AreKeptOrNew h infos new tables texts
-  kept_or_new [] [] len each = tt
-  kept_or_new [] (text ∷ texts) len each = absurd (omega (arith, len))
-  kept_or_new (t ∷ tables) [] len each = absurd (omega (arith, len))
-  kept_or_new (t ∷ tables) (text ∷ texts) len each =
-      (each t.id text (inl (refl, refl)), kept_or_new tables texts (omega (arith, len)) (λ n bytes one. each n bytes (inr one)))
-
-safe_count : (state : DiskState) (id : ℕ) (tables : List TableInfo) (texts : List (List ℕ)) → AreSafe state id tables texts → length tables ≡ length texts
-safe_count state id [] [] safe = refl
-safe_count state id [] (text ∷ texts) safe = absurd safe
-safe_count state id (t ∷ tables) [] safe = absurd safe
-safe_count state id (t ∷ tables) (text ∷ texts) safe = let rest = safe_count state id tables texts safe.1 in omega (arith, rest)
-
 pub infos_count : (next : ℕ) (tables : List MadeTable) → length (infos_from next tables) ≡ length tables
 infos_count next [] = refl
 infos_count next (t ∷ tables) = let rest = infos_count (next + 1) tables in omega (arith, rest)
-
-texts_count : (tables : List MadeTable) → length (texts_of tables) ≡ length tables
-texts_count [] = refl
-texts_count (t ∷ tables) = let rest = texts_count tables in omega (arith, rest)
-
-both_count : (tables infos : List TableInfo) (texts more : List (List ℕ)) → length tables ≡ length texts → length infos ≡ length more → length (tables ++ infos) ≡ length (texts ++ more)
-both_count tables infos texts more one two = simp length-append (omega (arith, one, two))
-
--- it is the next home, with the tables that were made as new ones
-pub next_home : (state : DiskState) (id : ℕ) (f : Flush) (h : Home) → AreSafe state id h.last.tables h.texts → IsNext h (infos_from h.last.next_table_id f.tables) (texts_of f.tables) (home_after f h)
-next_home state id f h safe =
-    let infos = infos_from h.last.next_table_id f.tables in
-    let more = texts_of f.tables in
-    let kept = safe_count state id h.last.tables h.texts safe in
-    let count = infos_count h.last.next_table_id f.tables in
-    let new : length infos ≡ length more = count ∙ sym (texts_count f.tables) in
-    record {
-      tables = kept_or_new h infos more (h.last.tables ++ infos) (h.texts ++ more) (both_count h.last.tables infos h.texts more kept new)
-          (λ n bytes one. one_split h.last.tables infos h.texts more n bytes kept one);
-      given = omega (arith, count);
-    }
 
 -- ---- what they hold
 

@@ -8,7 +8,6 @@ pub mod FlushReading
 mod Putting
 pub mod Beside
 pub mod Composed
-mod Flushing
 pub mod FlushSameStore
 pub mod SameNumber
 mod Taken
@@ -36,7 +35,6 @@ mod MergeAfterHomes
 pub mod MergeSameStore
 mod Naming
 mod MergeReading
-mod Sight
 mod Writings
 mod Written
 pub mod Taking

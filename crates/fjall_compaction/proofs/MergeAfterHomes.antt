@@ -39,27 +39,6 @@ new_right next [] (l ∷ lists) made = absurd made
 new_right next (t ∷ tables) [] made = absurd made
 new_right next (t ∷ tables) (l ∷ lists) made = (record { len = refl; table = made.0.table; count = made.0.count }, new_right (next + 1) tables lists made.1)
 
-safe_left : (state : DiskState) (id n : ℕ) (tables : List TableInfo) (texts : List (List ℕ)) → AreSafe state id tables texts → AreSafe state id (drop n tables) (drop n texts)
-safe_left state id zero tables texts safe = safe
-safe_left state id (suc n) [] [] safe = tt
-safe_left state id (suc n) [] (b ∷ texts) safe = absurd safe
-safe_left state id (suc n) (t ∷ tables) [] safe = absurd safe
-safe_left state id (suc n) (t ∷ tables) (b ∷ texts) safe = safe_left state id n tables texts safe.1
-
-safe_both : (state : DiskState) (id : ℕ) (tables more : List TableInfo) (texts others : List (List ℕ)) → AreSafe state id tables texts → AreSafe state id more others
-    → AreSafe state id (tables ++ more) (texts ++ others)
-safe_both state id [] more [] others one two = two
-safe_both state id [] more (b ∷ texts) others one two = absurd one
-safe_both state id (t ∷ tables) more [] others one two = absurd one
-safe_both state id (t ∷ tables) more (b ∷ texts) others one two = (one.0, safe_both state id tables more texts others one.1 two)
-
--- beside the home's tables the new ones are safe, and so are all of the home after it
-pub after_safe : (state : DiskState) (id : ℕ) (m : Merge) (h : Home) → AreSafe state id h.last.tables h.texts → AreSafe state id (infos_from h.last.next_table_id m.tables) (texts_of m.tables)
-    → AreSafe state id (home_after m h).last.tables (home_after m h).texts
-after_safe state id m h old new =
-    safe_both state id (infos_from h.last.next_table_id m.tables) (drop m.table_count h.last.tables) (texts_of m.tables) (drop m.table_count h.texts) new
-    (safe_left state id m.table_count h.last.tables h.texts old)
-
 -- ---- what they hold
 
 module _ (m : Merge) (lists entries : List (List Entry)) (h : Home) (is : MergesTables m lists entries h.last) (right : AreRight h.last.tables h.texts entries) where

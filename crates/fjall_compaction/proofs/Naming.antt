@@ -1,15 +1,16 @@
 -- The names that are planned for tables that were made.
 use Rattle.std.proofs.Common.{◌≡◌, ℕ, zero, suc, ◌+◌, ◌-◌, ◌<◌, ◌^◌, List, [], ◌∷◌, ◌++◌, get_or, length, take, false, String, string_bytes, nat_lt, lt-ltb, refl, sym, ap, subst, ◌∙◌, arith}
 use Rattle.std.specs.declared.alloc.Global.{Global}
-use Rattle.fjall_files.specs.Names.{table_name}
+use Rattle.fjall_files.specs.Names.{IsNameOf, keyspace_folder, table_name}
 use Rattle.fjall_jobs.specs.declared.made_table.MadeTable.{MadeTable}
 use Rattle.fjall_table.specs.declared.level.Level.TheVariants.{L1}
 use Rattle.fjall_table.specs.declared.table_info.TableInfo.{TableInfo}
-use Rattle.fjall_base.specs.Disk.{Name}
+use Rattle.fjall_base.specs.Disk.{Meaning, Name}
 use Rattle.fjall_manifest.specs.Records.{Fields}
 use Rattle.fjall_compaction.specs.declared.merge.plan.MergePlan.{MergePlan}
 use Rattle.fjall_compaction.specs.Merges.{Merge, infos_from}
-use Rattle.fjall_compaction.specs.MergePlans.{AreNamed, IsMergePlan}
+use Rattle.fjall_compaction.specs.MergePlans.{AreNamed, HasNoTableFolder, IsMergePlan}
+use Rattle.fjall_compaction.specs.Putting.{AreNewFiles, HaveNoFolders}
 
 -- there are as many as tables
 pub as_many : (id next : ℕ) (tables : List MadeTable) (names : List (String Global)) → AreNamed id next tables names → length names ≡ length tables
@@ -72,31 +73,41 @@ infos_more next tables i t at lt =
     let on : i + 1 ≡ suc i = omega arith in
     ap (λ (n : ℕ). infos_from next (take n tables)) on ∙ infos_suc next tables i t lt ∙ ap (λ (x : MadeTable). infos_from next (take i tables) ++ info_of (next + i) x ∷ []) (sym at)
 
--- ---- of a plan
+-- the name at a place
+pub found : (id next : ℕ) (tables : List MadeTable) (names : List (String Global)) → AreNamed id next tables names → (i : ℕ) → i < length names → (file : String Global) → file ≡ get_or names i file
+    → (name : Name) → name ≡ string_bytes file → name ≡ table_name id (next + i)
+found id next tables names named i lt file at name called = called ∙ ap (λ (f : String Global). string_bytes f) at ∙ (named_at id next tables names i file named lt).named
 
--- the name is that of the keyspace's table of this number
-pub record IsTableName (id n : ℕ) (name : Name) : Type 0 where
-  pub small : id < 2 ^ 64
-  pub below : n < 2 ^ 64 - 1
-  pub is : name ≡ table_name id n
+-- all of their ids have their place
+pub room : (id next : ℕ) (tables : List MadeTable) (names : List (String Global)) → AreNamed id next tables names → (i : ℕ) → i < length tables → next + length tables < 2 ^ 64
+room id next [] names named i lt = absurd (omega (arith, lt))
+room id next (t ∷ tables) [] named i lt = absurd named
+room id next (t ∷ []) (name ∷ names) named i lt = let below = named.0 in omega (arith, below)
+room id next (t ∷ u ∷ tables) (name ∷ names) named i lt = let later = room id (next + 1) (u ∷ tables) names named.2 0 (omega arith) in omega (arith, later)
 
-module _ (id : ℕ) (last : Fields) (m : Merge) (plan : MergePlan) (tables : List MadeTable) (made : m.tables ≡ tables) (is : IsMergePlan id last m plan) where
-  pub planned : AreNamed id last.next_table_id tables plan.files.items
-  planned = subst (λ (l : List MadeTable). AreNamed id last.next_table_id l plan.files.items) made is.files
-
-  -- the file at a place
-  pub found : (names : List (String Global)) → names ≡ plan.files.items → (i : ℕ) → i < length names → (file : String Global) → file ≡ get_or names i file → (name : Name) → name ≡ string_bytes file
-      → IsTableName id (last.next_table_id + i) name
-  found names same i lt file at name called =
-      let one = named_at id last.next_table_id tables names i file (subst (λ (l : List (String Global)). AreNamed id last.next_table_id tables l) (sym same) planned) lt in
-      record { small = is.folder.0; below = one.below; is = called ∙ ap (λ (f : String Global). string_bytes f) at ∙ one.named }
-
-  -- and there is one for each table
-  pub room : last.next_table_id + length tables < 2 ^ 64
-  room = subst (λ (l : List MadeTable). last.next_table_id + length l < 2 ^ 64) made is.fits.room.next_table_id
-
+-- and there is one for each table
 pub one_for_each : (id next : ℕ) (tables : List MadeTable) (names : List (String Global)) (i : ℕ) → AreNamed id next tables names → i < length tables → false ≡ nat_lt i (length names) → ⊥
 one_for_each id next tables names i named lt none =
     let many = as_many id next tables names named in
     let there = lt-ltb i (length names) (omega (arith, lt, many)) in
     let bad : ⊥ = cc in bad
+
+-- ---- of a plan
+
+pub files_at : (id next : ℕ) (tables : List MadeTable) (folder : Name) (files : List (String Global)) → IsNameOf keyspace_folder folder id → AreNamed id next tables files
+    → AreNewFiles id next tables folder files
+files_at id next tables folder files home named = record { home = home; named = named }
+
+module _ (id : ℕ) (last : Fields) (m : Merge) (plan : MergePlan) (tables : List MadeTable) (made : m.tables ≡ tables) (is : IsMergePlan id last m plan) where
+  pub merge_files : (folder : Name) → folder ≡ string_bytes plan.folder → (files : List (String Global)) → files ≡ plan.files.items → AreNewFiles id last.next_table_id tables folder files
+  merge_files folder at files read = record {
+    home = (is.folder.0, at ∙ is.folder.1);
+    named = subst (λ (l : List (String Global)). AreNamed id last.next_table_id tables l) (sym read) (subst (λ (l : List MadeTable). AreNamed id last.next_table_id l plan.files.items) made is.files);
+  }
+
+  pub merge_room : last.next_table_id + length tables < 2 ^ 64
+  merge_room = subst (λ (l : List MadeTable). last.next_table_id + length l < 2 ^ 64) made is.fits.room.next_table_id
+
+-- no new table's name is a folder's, where no table's is
+pub none_given : (disk : Meaning) (id next count : ℕ) → next + count < 2 ^ 64 → HasNoTableFolder disk id → HaveNoFolders disk id next count
+none_given disk id next count fits none n from until = none n (omega (arith, until, fits))

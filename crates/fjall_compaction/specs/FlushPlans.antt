@@ -16,7 +16,7 @@ use Rattle.fjall_manifest.specs.Homes.{AreSafe, Home, Rests}
 use Rattle.fjall_recovery.specs.Halves.{Tree}
 use Rattle.fjall_recovery.specs.Places.{LiesInTree}
 use Rattle.fjall_compaction.specs.declared.flush.plan.FlushPlan.{FlushPlan}
-use Rattle.fjall_compaction.specs.Flushes.{Flush, Follows, HasAt, flush_of, flush_with, home_after, infos_from, record_after, tree_after}
+use Rattle.fjall_compaction.specs.Flushes.{Flush, Follows, HasAt, flush_of, flush_with, infos_from, record_after, tree_after}
 use Rattle.fjall_compaction.specs.Room.{IsRecordRefusal}
 
 -- where a table was made, its file has the name of this id's, which isn't the greatest; where none was made, there is no name
@@ -84,11 +84,6 @@ ForPlanned plan made Holds = (id number : ℕ) (last : Fields) → IsFlushPlan i
 -- the same, of whatever tables were planned with whichever clears
 abbrev pub ForPlannedOf : FlushPlan → List MadeTable → ((id next : ℕ) → Type 0) → Type 0
 ForPlannedOf plan tables Holds = (id number : ℕ) (clears : List ℕ) (last : Fields) → IsFlushPlan id last (flush_with number tables clears) plan → Holds id last.next_table_id
-
--- for whichever home rests, where a plan is of its last record, and the home with these tables behind its own
-abbrev pub ForHomeOn : Meaning → FlushPlan → List MadeTable → (ℕ → List Fields → Home → Home → Type 0) → Type 0
-ForHomeOn disk plan tables Holds = (id number : ℕ) (clears : List ℕ) (records : List Fields) (h : Home) → Rests (state_in disk) id records h
-    → IsFlushPlan id h.last (flush_with number tables clears) plan → Holds id records h (home_after (flush_with number tables clears) h)
 
 -- for whichever tree lies on the disk, and the tree with these tables behind those of one of its keyspaces
 abbrev pub ForTablesOn : Meaning → FlushPlan → List MadeTable → (List Fields → Tree → ℕ → Home → Tree → Type 0) → Type 0

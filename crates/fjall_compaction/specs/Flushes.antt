@@ -10,6 +10,7 @@ use Rattle.fjall_memtable.specs.Sorted.{flat}
 use Rattle.fjall_views.specs.Jobs.{OnceEach}
 use Rattle.fjall_jobs.specs.declared.flush_made.FlushMade.{FlushMade}
 use Rattle.fjall_jobs.specs.declared.made_table.MadeTable.{MadeTable}
+use Rattle.fjall_jobs.specs.Made.{flush_clears, flush_tables}
 use Rattle.fjall_jobs.specs.Sequences.{AreMadeTables}
 use Rattle.fjall_manifest.specs.Records.{Fields}
 use Rattle.fjall_manifest.specs.Homes.{Home}
@@ -27,7 +28,7 @@ flush_with number tables clears = record { number = number; tables = tables; cle
 
 -- what a flush made, where it covers all up to this number
 abbrev pub flush_of : ℕ → FlushMade → Flush
-flush_of number made = record { number = number; tables = made.tables.items; clears = made.clears.items }
+flush_of number made = record { number = number; tables = flush_tables made; clears = flush_clears made }
 
 -- ---- the record
 

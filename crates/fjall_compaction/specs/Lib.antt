@@ -11,3 +11,4 @@ pub mod Planned
 pub mod Merges
 pub mod MergePlans
 pub mod MergeFinishing
+pub mod Putting

@@ -7,7 +7,7 @@ use Rattle.fjall_table_reader.specs.Readers.{AreRead, Reader}
 use Rattle.fjall_files.specs.Names.{IsNameOf, current_name, keyspace_folder, table_name}
 use Rattle.fjall_compaction.specs.Flushes.{HasAt}
 use Rattle.fjall_compaction.specs.FlushPlans.{HaveFiles}
-use Rattle.fjall_manifest.specs.Homes.{Home, Rests}
+use Rattle.fjall_manifest.specs.Homes.{Home}
 use Rattle.fjall_manifest.specs.Reading.{AreRight}
 use Rattle.fjall_jobs.specs.declared.made_table.MadeTable.{MadeTable}
 use Rattle.fjall_jobs.specs.Sequences.{AreMadeTables}
@@ -63,11 +63,6 @@ HasNoTableFolder disk id = (n : ℕ) → n < 2 ^ 64 → IsNoFolder (state_in dis
 -- for the keyspace of which a plan is of these tables, and the id that the first of them gets, whatever its last record is
 abbrev pub ForPlan : MergePlan → List MadeTable → ((id next : ℕ) → Type 0) → Type 0
 ForPlan plan tables Holds = (id : ℕ) (m : Merge) (last : Fields) → m.tables ≡ tables → IsMergePlan id last m plan → Holds id last.next_table_id
-
--- for whichever home rests, where a plan is of its last record and of these tables, and the home after the merge
-abbrev pub ForHomeOn : Meaning → MergePlan → List MadeTable → (ℕ → List Fields → Home → Home → Type 0) → Type 0
-ForHomeOn disk plan tables Holds = (id : ℕ) (m : Merge) (records : List Fields) (h : Home) → m.tables ≡ tables → Rests (state_in disk) id records h → IsMergePlan id h.last m plan
-    → Holds id records h (home_after m h)
 
 -- for whichever tree lies on the disk, and the tree after a merge of one of its keyspaces that made these tables
 abbrev pub ForMergeOn : Meaning → MergePlan → List MadeTable → (List Fields → Tree → ℕ → Tree → Type 0) → Type 0

@@ -4,6 +4,7 @@ use Rattle.fjall_compaction.specs.Flushes.{texts_of}
 use Rattle.fjall_manifest.specs.Homes.{Home}
 use Rattle.fjall_jobs.specs.declared.made_table.MadeTable.{MadeTable}
 use Rattle.fjall_jobs.specs.declared.merge_made.MergeMade.{MergeMade}
+use Rattle.fjall_jobs.specs.Made.{merge_clears, merge_tables}
 use Rattle.fjall_jobs.specs.Sequences.{AreMadeTables}
 use Rattle.fjall_recovery.specs.Halves.{Tree, with_home_at}
 use Rattle.fjall_memtable.specs.Sorted.{flat}
@@ -23,7 +24,7 @@ pub record Merge : Type 0 where
 
 -- what a merge made that takes so many tables and clears
 abbrev pub merge_of : ℕ × ℕ → MergeMade → Merge
-merge_of input made = record { table_count = input.0; clear_count = input.1; tables = made.tables.items; clears = made.clears.items }
+merge_of input made = record { table_count = input.0; clear_count = input.1; tables = merge_tables made; clears = merge_clears made }
 
 -- ---- the record
 

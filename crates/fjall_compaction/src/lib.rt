@@ -6,12 +6,13 @@ mod flush;
 mod ingestion;
 mod merge;
 mod place;
+mod readers;
+mod writing;
 
 pub use flush::{
     FlushPlan, a_crash_keeps_what_was_synced, a_finished_flush_is_known, a_flush_keeps_the_store,
     a_flush_of_memory_may_count, a_flush_that_is_out_may_count, a_flush_that_is_out_takes_parts,
-    a_flushed_home_is_right, plan_flush, plan_tables, put_record, table_readers, write_flush,
-    write_tables,
+    a_flushed_home_is_right, plan_flush, write_flush, write_tables,
 };
 pub use ingestion::{
     IngestPlan, MemoryPlan, PlannedIngestion, a_crash_leaves_all_or_nothing,
@@ -22,6 +23,7 @@ pub use ingestion::{
 };
 pub use merge::{
     MergePlan, a_crash_keeps_the_store, a_finished_merge_is_known, a_merge_keeps_the_store,
-    a_merge_that_is_out_may_count, a_merged_home_is_right, merged_readers, plan_merge,
-    remove_taken, write_merge,
+    a_merge_that_is_out_may_count, a_merged_home_is_right, plan_merge, write_merge,
 };
+pub use readers::{merged_readers, table_readers};
+pub use writing::{put_record, remove_taken};

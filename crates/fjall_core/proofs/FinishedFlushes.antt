@@ -17,7 +17,7 @@ use Rattle.fjall_history.specs.declared.job.JobId.{JobId}
 use Rattle.fjall_history.specs.declared.reply.Reply.{Reply}
 use Rattle.fjall_history.specs.declared.reply.Reply.TheVariants.{Flag, Refused}
 use Rattle.fjall_jobs.specs.declared.flush_made.FlushMade.{FlushMade}
-use Rattle.fjall_jobs.specs.Flushes.{flush_task}
+use Rattle.fjall_jobs.specs.Made.{flush_tables, flushed_task}
 use Rattle.fjall_jobs.specs.Tasks.{Task}
 use Rattle.fjall_journal.specs.Writer.{Journal}
 use Rattle.fjall_recovery.specs.Known.{GoesOnFrom, last_known}
@@ -71,7 +71,7 @@ use Rattle.fjall_core.proofs.RecordedTables.{recorded_flush}
 
 -- the call that finishes what was made
 abbrev pub finishing : FlushMade → CallShape
-finishing made = OfFlushFinish (job_of (flush_task made.job))
+finishing made = OfFlushFinish (job_of (flushed_task made))
 
 -- the reply to one that isn't stale
 abbrev pub done_reply : Result Unit Error → Reply
@@ -204,27 +204,27 @@ both_of : (a b : Bool) → (a && b) ≡ true → (a ≡ true) × (b ≡ true)
 both_of true b is = (refl, is)
 both_of false b is = absurd (true≢false (sym is))
 
-pub may_finish : (core : Held) (made : FlushMade) → KnowsTask core.memory (flush_task made.job) → IsDueToFinish core (job_of (flush_task made.job)) → core.memory.poisoned ≡ false → MayPut core made
+pub may_finish : (core : Held) (made : FlushMade) → KnowsTask core.memory (flushed_task made) → IsDueToFinish core (job_of (flushed_task made)) → core.memory.poisoned ≡ false → MayPut core made
 may_finish core made known (out, takes) well =
-    let job = job_of (flush_task made.job) in
+    let job = job_of (flushed_task made) in
     let flush = (shape_in job.keyspace_id core.memory.trees).flush in
     let both = both_of (is_living (store_in core) job.keyspace_id) (nat_lt 0 (count_out flush)) takes in
     record { well = well; living = both.0; out = known.1 (due_takes job.number flush out ∙ both.1); some = known.2 }
 
 -- where it was looked for by its job's name, and nothing has changed, it is out of a keyspace that lives
-module _ (old mid : Held) (made : FlushMade) (number id : ℕ) (numbered : number ≡ (flush_task made.job).id) (at : id ≡ keyspace_of made)
+module _ (old mid : Held) (made : FlushMade) (number id : ℕ) (numbered : number ≡ (flushed_task made).id) (at : id ≡ keyspace_of made)
     (found : IsDueToFinish old (record { number = number; keyspace_id = id }) × (old.memory.poisoned ≡ false) × (mid ≡ old)) where
-  named : IsDueToFinish old (job_of (flush_task made.job))
+  named : IsDueToFinish old (job_of (flushed_task made))
   named = subst (λ (job : JobId). IsDueToFinish old job) (λ i. record { number = numbered i; keyspace_id = at i }) found.0
 
-  pub due_there : (is_living (store_in mid) (keyspace_of made) ≡ true) × (is_flushing mid.memory.trees (job_of (flush_task made.job)) ≡ true)
+  pub due_there : (is_living (store_in mid) (keyspace_of made) ≡ true) × (is_flushing mid.memory.trees (job_of (flushed_task made)) ≡ true)
   due_there =
       let here = keyspace_of made in
       let both = both_of (is_living (store_in old) here) (nat_lt 0 (count_out (shape_in here old.memory.trees).flush)) named.1 in
-      subst (λ (h : Held). (is_living (store_in h) here ≡ true) × (is_flushing h.memory.trees (job_of (flush_task made.job)) ≡ true)) (sym found.2) (both.0, named.0)
+      subst (λ (h : Held). (is_living (store_in h) here ≡ true) × (is_flushing h.memory.trees (job_of (flushed_task made)) ≡ true)) (sym found.2) (both.0, named.0)
 
   -- and may be put, where memory knows it
-  pub may_go_on : KnowsIfDue old (flush_task made.job) → MayPut mid made
+  pub may_go_on : KnowsIfDue old (flushed_task made) → MayPut mid made
   may_go_on known = subst (λ (h : Held). MayPut h made) (sym found.2) (may_finish old made (known named) named found.1)
 
 -- what was made of a job is known, where the job is
@@ -263,7 +263,7 @@ takes_some runs sealed (suc count) is some = grind (arith, nat_tests)
 
 module _ (honest : Type 0) (old new : Held) (made : FlushMade) (may : MayPut old made) where
   abbrev job : JobId
-  job = job_of (flush_task made.job)
+  job = job_of (flushed_task made)
 
   abbrev id : ℕ
   id = keyspace_of made
@@ -275,14 +275,14 @@ module _ (honest : Type 0) (old new : Held) (made : FlushMade) (may : MayPut old
   takes : takes_effect old job ≡ true
   takes =
       let out = may.out.out in
-      let least = takes_some (flush_task made.job).runs (shape_in id old.memory.trees).memory.sealed out.count may.out.runs may.some in
+      let least = takes_some (flushed_task made).runs (shape_in id old.memory.trees).memory.sealed out.count may.out.runs may.some in
       both_true (is_living (store_in old) id) (nat_lt 0 (count_out (shape_in id old.memory.trees).flush)) may.living (ap (λ (o : Option Flushing). nat_lt 0 (count_out o)) may.out.is ∙ least)
 
   due : IsDueToFinish old job
   due = (out_is, takes)
 
   abbrev IsPut : Held → Type 0
-  IsPut mid = IsFlushFinished old.memory id (last_known old.memory.records (living_there old made may)) may.out.out made.tables.items mid.memory
+  IsPut mid = IsFlushFinished old.memory id (last_known old.memory.records (living_there old made may)) may.out.out (flush_tables made) mid.memory
 
   finished_there : (mid : Held) → PutInMemory old.memory made mid.memory → IsPut mid
   finished_there mid put = put (living_there old made may) may.out.out (lives_there old made may) may.out.is
@@ -291,9 +291,9 @@ module _ (honest : Type 0) (old new : Held) (made : FlushMade) (may : MayPut old
   in_memory mid fin = record {
     k = living_there old made may;
     lives = lives_there old made may;
-    task = flush_task made.job;
+    task = flushed_task made;
     begun = may.out;
-    tables = made.tables.items;
+    tables = flush_tables made;
     clears = clears_there old made may;
     made = flushed_there old made may;
     readers = fin.readers;
@@ -302,7 +302,7 @@ module _ (honest : Type 0) (old new : Held) (made : FlushMade) (may : MayPut old
   }
 
   -- what is so of the record after it
-  meets : (Meets : Fields → Type 0) → Meets (record_after (flush_with (shape_in id old.memory.trees) may.out.out made.tables.items) (last_known old.memory.records (living_there old made may)))
+  meets : (Meets : Fields → Type 0) → Meets (record_after (flush_with (shape_in id old.memory.trees) may.out.out (flush_tables made)) (last_known old.memory.records (living_there old made may)))
       → FinishMeets old job Meets
   meets Meets so =
       let last = last_known old.memory.records (living_there old made may) in (
@@ -311,7 +311,7 @@ module _ (honest : Type 0) (old new : Held) (made : FlushMade) (may : MayPut old
         (
           living_there old made may,
           lives_there old made may,
-          subst (λ (o : Option Flushing). FlushMeets (shape_in id old.memory.trees) o last Meets) (sym may.out.is) (made.tables.items, at_most_one made, so),
+          subst (λ (o : Option Flushing). FlushMeets (shape_in id old.memory.trees) o last Meets) (sym may.out.is) (flush_tables made, at_most_one made, so),
         ),
       )
 
@@ -348,10 +348,10 @@ module _ (honest : Type 0) (old new : Held) (made : FlushMade) (may : MayPut old
 
   -- ---- states
 
-  module _ (mid : Held) (fin : IsFlushFinished old.memory (keyspace_of made) (last_known old.memory.records (living_there old made may)) may.out.out made.tables.items mid.memory) (becomes : Becomes old mid.memory mid)
+  module _ (mid : Held) (fin : IsFlushFinished old.memory (keyspace_of made) (last_known old.memory.records (living_there old made may)) may.out.out (flush_tables made) mid.memory) (becomes : Becomes old mid.memory mid)
       (s : State) (stands : StandsFor old s) where
     abbrev parts_with : Parts
-    parts_with = machine.flushed id may.out.out made.tables.items (lists_there old made may) fin.readers s.parts
+    parts_with = machine.flushed id may.out.out (flush_tables made) (lists_there old made may) fin.readers s.parts
 
     abbrev state_with : State
     state_with = record s { parts = parts_with }
@@ -363,11 +363,11 @@ module _ (honest : Type 0) (old new : Held) (made : FlushMade) (may : MayPut old
     abbrev memory_with : Remembered
     memory_with =
         let last = last_known old.memory.records (living_there old made may) in
-        with_flush id may.out.out fin.readers (record_after (flush_with (shape_in id old.memory.trees) may.out.out made.tables.items) last) old.memory
+        with_flush id may.out.out fin.readers (record_after (flush_with (shape_in id old.memory.trees) may.out.out (flush_tables made)) last) old.memory
 
     both : Flushed s.parts id parts_with × memory.MemoryStandsFor memory_with old.catalog.next_table_id state_with
     both =
-        a_finished_flush_stands old.memory old.catalog.next_table_id s stands.remembered id (flush_task made.job) may.out made.tables.items (clears_there old made may) (flushed_there old made may) (living_there old made may)
+        a_finished_flush_stands old.memory old.catalog.next_table_id s stands.remembered id (flushed_task made) may.out (flush_tables made) (clears_there old made may) (flushed_there old made may) (living_there old made may)
         (lives_there old made may) fin.readers fin.are.infos
 
     stands_with : StandsFor mid state_with
@@ -380,9 +380,9 @@ module _ (honest : Type 0) (old new : Held) (made : FlushMade) (may : MayPut old
 
     -- the keyspace's last record counts the new table, and those of others stay
     abbrev record_with : Fields
-    record_with = record_after (flush_with (shape_in id s.parts.trees) may.out.out made.tables.items) (s.parts.records id)
+    record_with = record_after (flush_with (shape_in id s.parts.trees) may.out.out (flush_tables made)) (s.parts.records id)
 
-    records_grown : (state_with.parts.records id).next_table_id ≡ (s.parts.records id).next_table_id + length made.tables.items
+    records_grown : (state_with.parts.records id).next_table_id ≡ (s.parts.records id).next_table_id + length (flush_tables made)
     records_grown = ap (λ (b : Bool). (if b then record_with else s.parts.records id).next_table_id) (eq-eqb id id refl)
 
     records_other : (other : ℕ) → (other == id) ≡ false → state_with.parts.records other ≡ s.parts.records other

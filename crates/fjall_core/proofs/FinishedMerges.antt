@@ -15,7 +15,7 @@ use Rattle.fjall_history.specs.declared.job.JobId.{JobId}
 use Rattle.fjall_history.specs.declared.reply.Reply.{Reply}
 use Rattle.fjall_history.specs.declared.reply.Reply.TheVariants.{Flag, Refused}
 use Rattle.fjall_jobs.specs.declared.merge_made.MergeMade.{MergeMade}
-use Rattle.fjall_jobs.specs.Merges.{merge_task}
+use Rattle.fjall_jobs.specs.Made.{merge_clears, merge_tables, merged_target, merged_task}
 use Rattle.fjall_jobs.specs.Tasks.{Task}
 use Rattle.fjall_journal.specs.Writer.{Journal, counted}
 use Rattle.fjall_recovery.specs.Known.{last_known}
@@ -64,7 +64,7 @@ use Rattle.fjall_core.proofs.RecordedTables.{recorded_altered, recorded_merge}
 
 -- the call that finishes what was made
 abbrev pub finishing : MergeMade → CallShape
-finishing made = OfMergeFinish (job_of (merge_task made.job))
+finishing made = OfMergeFinish (job_of (merged_task made))
 
 -- where a core goes on from a state
 abbrev pub GoesOn : Held → State → CallShape → Reply → Held → Type 0
@@ -163,7 +163,7 @@ counts_more mid after new same later is = record {
 
 module _ (honest : Type 0) (old new : Held) (made : MergeMade) (may : MayMerge old made) where
   abbrev task : Task
-  task = merge_task made.job
+  task = merged_task made
 
   abbrev job : JobId
   job = job_of task
@@ -191,10 +191,10 @@ module _ (honest : Type 0) (old new : Held) (made : MergeMade) (may : MayMerge o
   abbrev in_memory : (mid : Held) → MergedAsMade old.memory made mid.memory → MergedInMemory old.memory id mid.memory
   in_memory mid merged =
       let fin = merged k out at was in
-      record { k = k; lives = at; out = out; was = was; tables = made.tables.items; clears = made.clears.items; readers = fin.readers; infos = fin.are.infos; is = fin.is }
+      record { k = k; lives = at; out = out; was = was; tables = merge_tables made; clears = merge_clears made; readers = fin.readers; infos = fin.are.infos; is = fin.is }
 
   lacks : (Lacks : Fields → Merge → Type 0) → Lacks (last_known old.memory.records k) (counted_as out made) → LacksAt old job Lacks
-  lacks Lacks less = (due, may.well, (k, at, (out, was, made.tables.items, made.clears.items, less)))
+  lacks Lacks less = (due, may.well, (k, at, (out, was, merge_tables made, merge_clears made, less)))
 
   unput_owes : (error : Error) → PutsMerge honest old made (Err error) new → Owes old (finishing made) (Refused error) new
   unput_owes (Io kind) (fault, wrote) = inr (inr (due, may.well, inl fault))
@@ -227,7 +227,7 @@ module _ (honest : Type 0) (old new : Held) (made : MergeMade) (may : MayMerge o
 
   -- ---- states that know it
 
-  module _ (s : State) (stands : StandsFor old s) (reads : ReadsOn old s) (known : KnowsMerge s made.job.target (merge_task made.job)) where
+  module _ (s : State) (stands : StandsFor old s) (reads : ReadsOn old s) (known : KnowsMerge s (merged_target made) (merged_task made)) where
     abbrev table : ℕ
     table = old.catalog.next_table_id
 
@@ -244,7 +244,7 @@ module _ (honest : Type 0) (old new : Held) (made : MergeMade) (may : MayMerge o
     abbrev begun : IsMerging (shape_in id old.memory.trees) (s.parts.entries id) task
     begun = merging_same id s.parts.trees old.memory.trees stands.remembered.trees (s.parts.entries id) task (known.begun out_there)
 
-    sized : made.job.target ≡ target_size (options_in (present s) id)
+    sized : merged_target made ≡ target_size (options_in (present s) id)
     sized = known.target_is lives_there
 
     all_read : ReadsAll old.disk (shape_in id old.memory.trees) (s.parts.entries id)
@@ -279,11 +279,11 @@ module _ (honest : Type 0) (old new : Held) (made : MergeMade) (may : MayMerge o
       well_there,
       subst (λ (x : Option Merging × ℕ × Fields). MayLack x.0 x.1 id (shape_in id s.parts.trees) (s.parts.entries id) x.2 Lacks)
           (λ i. (
-            sym (law.out_there old.memory table s stands.remembered id made.job.target task has.begun made.tables.items made.clears.items has.merged) i,
+            sym (law.out_there old.memory table s stands.remembered id (merged_target made) task has.begun (merge_tables made) (merge_clears made) has.merged) i,
             sized i,
             sym (known_record old.memory table s stands.remembered id there lives_so_there) i,
           ))
-          (made.tables.items, made.clears.items, made_there old.memory table s stands.remembered id made.job.target task has.begun made.tables.items made.clears.items has.merged, less),
+          (merge_tables made, merge_clears made, made_there old.memory table s stands.remembered id (merged_target made) task has.begun (merge_tables made) (merge_clears made) has.merged, less),
     )
 
     unput_step : (error : Error) → PutsMerge honest old made (Err error) new → is_io error ≡ false → StepOf s (finishing made) (Refused error) s
@@ -311,7 +311,7 @@ module _ (honest : Type 0) (old new : Held) (made : MergeMade) (may : MayMerge o
 
     module _ (mid : Held) (fin : IsPut old made s.parts.entries has mid) (becomes : Becomes old mid.memory mid) (wrote : WroteMerge old.memory made old.disk mid.disk true) where
       abbrev parts_with : Parts
-      parts_with = machine.merged id out_of made.tables.items made.clears.items has.merged.lists fin.readers s.parts
+      parts_with = machine.merged id out_of (merge_tables made) (merge_clears made) has.merged.lists fin.readers s.parts
 
       abbrev state_with : State
       state_with = record s { parts = parts_with }
@@ -323,10 +323,10 @@ module _ (honest : Type 0) (old new : Held) (made : MergeMade) (may : MayMerge o
       held_with : memory.MemoryStandsFor memory_with table state_with
       held_with =
           let each = sym (length_read old.disk (shape_in id old.memory.trees).tables (s.parts.entries id) all_read.tables) in
-          finished_stands old.memory table s stands.remembered id made.job.target task has.begun made.tables.items made.clears.items has.merged there lives_so_there fin.readers fin.are.infos each
+          finished_stands old.memory table s stands.remembered id (merged_target made) task has.begun (merge_tables made) (merge_clears made) has.merged there lives_so_there fin.readers fin.are.infos each
 
       merged_so : Merged s id parts_with
-      merged_so = merged_there old.memory table s stands.remembered id made.job.target task has.begun made.tables.items made.clears.items has.merged there lives_so_there fin.readers fin.are.infos sized
+      merged_so = merged_there old.memory table s stands.remembered id (merged_target made) task has.begun (merge_tables made) (merge_clears made) has.merged there lives_so_there fin.readers fin.are.infos sized
 
       stands_with : StandsFor mid state_with
       stands_with = record {
@@ -337,7 +337,7 @@ module _ (honest : Type 0) (old new : Held) (made : MergeMade) (may : MayMerge o
       }
 
       -- the keyspace's last record counts the new tables, and those of others stay
-      records_grown : (state_with.parts.records id).next_table_id ≡ (s.parts.records id).next_table_id + length made.tables.items
+      records_grown : (state_with.parts.records id).next_table_id ≡ (s.parts.records id).next_table_id + length (merge_tables made)
       records_grown = ap (λ (b : Bool). (if b then record_after does (s.parts.records id) else s.parts.records id).next_table_id) (eq-eqb id id refl)
 
       records_other : (other : ℕ) → (other == id) ≡ false → state_with.parts.records other ≡ s.parts.records other
@@ -417,7 +417,7 @@ module _ (honest : Type 0) (old new : Held) (made : MergeMade) (may : MayMerge o
   -- ---- what came of it
 
   abbrev Meets : State → Type 0
-  Meets s = KnowsMerge s made.job.target (merge_task made.job)
+  Meets s = KnowsMerge s (merged_target made) (merged_task made)
 
   -- the names of the tables that it took
   abbrev AreNames : List (String Global) → Type 0

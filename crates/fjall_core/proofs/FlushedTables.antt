@@ -10,7 +10,7 @@ use Rattle.fjall_files.specs.Names.{table_name}
 use Rattle.fjall_compaction.specs.Flushes.{infos_from}
 use Rattle.fjall_jobs.specs.declared.flush_made.FlushMade.{FlushMade}
 use Rattle.fjall_jobs.specs.declared.made_table.MadeTable.{MadeTable}
-use Rattle.fjall_jobs.specs.Flushes.{flush_task}
+use Rattle.fjall_jobs.specs.Made.{flush_tables, flushed_task}
 use Rattle.fjall_jobs.specs.Sequences.{AreMadeTables, IsMadeTable}
 use Rattle.fjall_recovery.specs.Known.{AreListed, IsGiven, last_known}
 use Rattle.fjall_recovery.proofs.ListedTables.{AreNext, listed_behind, listed_later}
@@ -144,7 +144,7 @@ module _ (old new : Held) (made : FlushMade) (may : MayPut old made) (done : Boo
       by k (k.id == id) refl (reads.tables i d lt) (lawful.given i d lt)
     where
       has : tree_at id old.memory.trees ≡ Some (shape_in id old.memory.trees)
-      has = flushing_tree id old.memory.trees (flush_task made.job) may.out
+      has = flushing_tree id old.memory.trees (flushed_task made) may.out
 
       by : (k : Planted) (b : Bool) → (k.id == id) ≡ b → LieAtHome old.disk k.id (s.parts.records k.id).next_table_id (s.parts.entries k.id) (is_among s.damaged k.id) k.shape.tables
           → k.id < old.memory.keyspaces.next → at_home.HaveFiles old.disk new.disk k.shape.tables
@@ -179,7 +179,7 @@ module _ (old new : Held) (made : FlushMade) (may : MayPut old made) (done : Boo
 -- ---- with the new one
 
 module _ (old new : Held) (made : FlushMade) (may : MayPut old made) (s : State) (stands : StandsFor old s) (reads : ReadsOn old s) (wrote : WroteFlush old.memory made old.disk new.disk true)
-    (fin : IsFlushFinished old.memory (keyspace_of made) (last_known old.memory.records (living_there old made may)) may.out.out made.tables.items new.memory) (becomes : Becomes old new.memory new) where
+    (fin : IsFlushFinished old.memory (keyspace_of made) (last_known old.memory.records (living_there old made may)) may.out.out (flush_tables made) new.memory) (becomes : Becomes old new.memory new) where
   abbrev own : ℕ
   own = keyspace_of made
 
@@ -189,7 +189,7 @@ module _ (old new : Held) (made : FlushMade) (may : MayPut old made) (s : State)
   abbrev more : ℕ → List (List Entry)
   more = entries_after old made may s.parts.entries
 
-  files : HaveFiles new.disk own (last_known old.memory.records (living_there old made may)).next_table_id made.tables.items
+  files : HaveFiles new.disk own (last_known old.memory.records (living_there old made may)).next_table_id (flush_tables made)
   files = wrote.files refl (living_there old made may) may.out.out (lives_there old made may) may.out.is
 
   read_new : AreRead new.disk fin.readers lists
@@ -198,10 +198,10 @@ module _ (old new : Held) (made : FlushMade) (may : MayPut old made) (s : State)
   abbrev from : ℕ
   from = (last_known old.memory.records (living_there old made may)).next_table_id
 
-  fits : from + length made.tables.items < 2 ^ 64
+  fits : from + length (flush_tables made) < 2 ^ 64
   fits = wrote.fits refl (living_there old made may) may.out.out (lives_there old made may) may.out.is
 
-  lie_with : (k : Planted) (next : ℕ) → k.id ≡ own → (s.parts.records own).next_table_id + length made.tables.items ≤ next
+  lie_with : (k : Planted) (next : ℕ) → k.id ≡ own → (s.parts.records own).next_table_id + length (flush_tables made) ≤ next
       → LieAtHome new.disk k.id (s.parts.records k.id).next_table_id (s.parts.entries k.id) (is_among s.damaged k.id) k.shape.tables
       → LieAtHome new.disk k.id next (s.parts.entries own ++ lists) (is_among s.damaged k.id) (k.shape.tables ++ fin.readers)
   lie_with k next same more_given lie =
@@ -211,17 +211,17 @@ module _ (old new : Held) (made : FlushMade) (may : MayPut old made) (s : State)
         positive = lie.positive;
         read = subst (λ (n : ℕ). AreRead new.disk (k.shape.tables ++ fin.readers) (s.parts.entries n ++ lists)) same (read_both new.disk k.shape.tables fin.readers (s.parts.entries k.id) lists lie.read read_new);
         named = subst (λ (n : ℕ). AreListed n next (k.shape.tables ++ fin.readers)) (sym same)
-            (new_listed own from next k.shape.tables made.tables.items fin.readers
+            (new_listed own from next k.shape.tables (flush_tables made) fin.readers
             (subst (λ (x : ℕ × ℕ). AreListed x.0 x.1 k.shape.tables) (λ i. (same i, (old_next ∙ known) i)) lie.named) fin.are.names fin.are.infos fits
             (omega (arith, known, more_given)));
         damage = λ wrong. elim (wrong_parts new.disk k.shape.tables fin.readers wrong) [
           | inl before ↦ lie.damage before
-          | inr added ↦ absurd (none_wrong new.disk own from made.tables.items lists fin.readers fin.are.names (flushed_there old made may).made files read_new added)
+          | inr added ↦ absurd (none_wrong new.disk own from (flush_tables made) lists fin.readers fin.are.names (flushed_there old made may).made files read_new added)
         ];
       }
 
   -- the records say so, and those of other keyspaces as before
-  module _ (t : State) (entries : t.parts.entries ≡ more) (damaged : t.damaged ≡ s.damaged) (grown : (t.parts.records own).next_table_id ≡ (s.parts.records own).next_table_id + length made.tables.items)
+  module _ (t : State) (entries : t.parts.entries ≡ more) (damaged : t.damaged ≡ s.damaged) (grown : (t.parts.records own).next_table_id ≡ (s.parts.records own).next_table_id + length (flush_tables made))
       (others : (id : ℕ) → (id == own) ≡ false → t.parts.records id ≡ s.parts.records id) where
     lies : (k : Planted) (b : Bool) → (k.id == own) ≡ b → LieAtHome new.disk k.id (s.parts.records k.id).next_table_id (s.parts.entries k.id) (is_among s.damaged k.id) k.shape.tables
         → LieAtHome new.disk k.id (t.parts.records k.id).next_table_id (cond b (s.parts.entries own ++ lists) (s.parts.entries k.id)) (is_among s.damaged k.id)

@@ -20,7 +20,7 @@ use Rattle.fjall_manifest.proofs.Outside.{within_keyspaces}
 use Rattle.fjall_manifest.proofs.Resting.{last_record}
 use Rattle.fjall_jobs.specs.declared.flush_made.FlushMade.{FlushMade}
 use Rattle.fjall_jobs.specs.declared.made_table.MadeTable.{MadeTable}
-use Rattle.fjall_jobs.specs.Flushes.{flush_task}
+use Rattle.fjall_jobs.specs.Made.{flush_tables, flushed_task}
 use Rattle.fjall_jobs.specs.Tasks.{IsFlushed, Task}
 use Rattle.fjall_journal.specs.Writer as writer
 use Rattle.fjall_recovery.specs.Known.{IsKnown, last_known}
@@ -62,8 +62,8 @@ use Rattle.fjall_core.proofs.RootUnchanged.{within_finished, within_root, writin
 pub record MayPut (old : Held) (made : FlushMade) : Type 0 where
   pub well : old.memory.poisoned ≡ false
   pub living : is_living (store_in old) (keyspace_of made) ≡ true
-  pub out : IsFlushing (shape_in (keyspace_of made) old.memory.trees) (flush_task made.job)
-  pub some : (flush_task made.job).runs ≢ []
+  pub out : IsFlushing (shape_in (keyspace_of made) old.memory.trees) (flushed_task made)
+  pub some : (flushed_task made).runs ≢ []
 
 module _ (old : Held) (made : FlushMade) (may : MayPut old made) where
   abbrev id : ℕ
@@ -73,7 +73,7 @@ module _ (old : Held) (made : FlushMade) (may : MayPut old made) where
   m = old.memory
 
   abbrev task : Task
-  task = flush_task made.job
+  task = flushed_task made
 
   abbrev shape : Shape
   shape = shape_in id m.trees
@@ -82,7 +82,7 @@ module _ (old : Held) (made : FlushMade) (may : MayPut old made) where
   out = may.out.out
 
   abbrev tables : List MadeTable
-  tables = made.tables.items
+  tables = flush_tables made
 
   -- the keyspace
   pub found : (k : LivingKeyspace) × (keyspace_at id m.keyspaces.living ≡ Some k)
@@ -187,7 +187,7 @@ module _ (old : Held) (made : FlushMade) (may : MayPut old made) where
 
     -- ---- once it was done
 
-    module _ (new : Held) (wrote : WroteFlush old.memory made old.disk new.disk true) (fin : IsFlushFinished old.memory (keyspace_of made) (last_known old.memory.records living_there) may.out.out made.tables.items new.memory)
+    module _ (new : Held) (wrote : WroteFlush old.memory made old.disk new.disk true) (fin : IsFlushFinished old.memory (keyspace_of made) (last_known old.memory.records living_there) may.out.out (flush_tables made) new.memory)
         (becomes : Becomes old new.memory new) where
       -- memory ends before the next number, and so does what the flush takes
       below : flush_end shape ≤ m.next
@@ -244,7 +244,7 @@ leads_over entries others old new d tried leads stands =
 
 -- the flush was finished: base and pending stay
 pub put_leads : (entries : ℕ → List (List Entry)) (old new : Held) (made : FlushMade) (may : MayPut old made) (d : Durable) → IsLawful old.memory → WroteFlush old.memory made old.disk new.disk true
-    → IsFlushFinished old.memory (keyspace_of made) (last_known old.memory.records (living_there old made may)) may.out.out made.tables.items new.memory → Becomes old new.memory new
+    → IsFlushFinished old.memory (keyspace_of made) (last_known old.memory.records (living_there old made may)) may.out.out (flush_tables made) new.memory → Becomes old new.memory new
     → kept (store_with_tables entries old) ≡ kept (store_with_tables (entries_after old made may entries) new) → StandsOn old entries d → Leads (entries_after old made may entries) new d []
 put_leads entries old new made may d lawful wrote fin becomes same = leads_over entries (entries_after old made may entries) old new d [] (λ base pending on.
     let lies = on.lies may.well in

@@ -1,6 +1,6 @@
 -- Jobs that are kept stay known, whatever calls are served.
 use Rattle.std.proofs.Common.{◌≡◌, ◌⊎◌, inl, inr, ℕ, ◌+◌, ◌-◌, ◌<◌, ◌^◌, All, Bool, true, false, if◌then◌else◌, get_or, List, [], ◌∷◌, ◌++◌, take, drop, Option, Some, None, unwrap_or, zero, suc, refl, sym, ◌∙◌, ap, subst, arith}
-use Rattle.std.specs.List.{list_any, slice_get}
+use Rattle.std.specs.List.{slice_get}
 use Rattle.std.specs.Option.{option_map}
 use Rattle.std.proofs.lemmas.Bool.{true≢false}
 use Rattle.std.proofs.lemmas.List.Elements.{All-nil, All-push}
@@ -12,10 +12,7 @@ use Rattle.fjall_history.specs.declared.job.JobId.{JobId}
 use Rattle.fjall_history.specs.declared.reply.Reply.{Reply}
 use Rattle.fjall_history.specs.declared.reply.Reply.TheVariants.{Began, Flag, Refused}
 use Rattle.fjall_history.specs.Queries.{Get, Page, Query}
-use Rattle.fjall_jobs.specs.declared.flush_job.FlushJob.{FlushJob}
-use Rattle.fjall_jobs.specs.declared.merge_job.MergeJob.{MergeJob}
 use Rattle.fjall_jobs.specs.Flushes.{flush_task}
-use Rattle.fjall_jobs.specs.Merges.{merge_task}
 use Rattle.fjall_jobs.specs.Tasks.{Task}
 use Rattle.fjall_compaction.specs.Flushes.{record_after}
 use Rattle.fjall_journal.specs.Changes.{Change, Emptied, Items}
@@ -41,10 +38,15 @@ use Rattle.fjall_machine.specs.Shapes as shapes
 use Rattle.fjall_trees.specs.Forests.{Forest, altered_at, tree_at}
 use Rattle.fjall_trees.specs.Tables.{shape_in}
 use Rattle.fjall_trees.proofs.Others.{altered_here}
-use Rattle.fjall_core.specs.declared.jobs.Jobs.{Jobs}
+use Rattle.fjall_core.specs.declared.jobs.Job.{Job}
+use Rattle.fjall_core.specs.declared.jobs.Job.TheVariants.{Flush, Merge}
+use Rattle.fjall_core.specs.declared.jobs.JobBegin.{JobBegin}
+use Rattle.fjall_core.specs.declared.jobs.JobBegin.TheVariants as begins
+use Rattle.fjall_core.specs.declared.jobs.JobKind.{JobKind}
+use Rattle.fjall_core.specs.declared.jobs.JobKind.TheVariants as kinds
 use Rattle.fjall_core.specs.Holding.{Held}
-use Rattle.fjall_core.specs.Jobs.{IsGivenBack, IsJobKnown, IsMergeGivenBack, IsPlain, Keeps, KeepsJobs, KeepsMerge, KeepsOtherMerges, KeepsOthers, has_name, is_kept, is_merge_kept, is_merge_named, is_named}
-use Rattle.fjall_core.proofs.FoundJobs.{any_last, any_more, any_without, at_place, same_name, without_one}
+use Rattle.fjall_core.specs.Jobs.{IsFlushKnown, IsGivenBack, IsJobKnown, IsPlain, IsSameJob, Keeps, KeepsJobs, KeepsOthers, begin_of, begun_kind, finish_of, is_kept, is_named, is_out}
+use Rattle.fjall_core.proofs.FoundJobs.{any_last, any_more, any_without, at_place, named_like, same_name, without_one}
 use Rattle.fjall_core.proofs.GoneFlushes.{IsGone, IsMergeGone, StaysTrue, flush_given, flushes_before, given_stays, gone_stays, merge_given, merge_gone_stays, merges_before, task_stays}
 use Rattle.fjall_core.specs.Standing.{EvictsInMemory, FindsDisorder, FlushedInMemory, Gives, GivesRead, HeldCount, IngestedInMemory, IngestionPoisons, Looks, LooksAt, MergedInMemory, Owes, OwesBegin, OwesChange, OwesFailure, OwesFinish, OwesIngestion, OwesMerge, OwesMergeBegin, OwesRefusal, RanOut, WorkPoisons, at_fault, begins_merge_in, evicted_in_memory, held_due, is_long, journal_synced, store_in, tables_of, takes_effect}
 
@@ -248,33 +250,30 @@ pub flush_known : (old new : Held) (shape : CallShape) (reply : Reply) → Owes 
 flush_known old new shape reply owes task = owed_stays (λ m. KnowsTask m task) (task_stays task) old new shape reply owes
 
 module _ (old new : Held) (shape : CallShape) (reply : Reply) (owes : Owes old shape reply new) where
-  -- so with all that are kept
-  pub all_known : (jobs : List FlushJob) → All (λ kept. KnowsTask old.memory (flush_task kept)) jobs → All (λ kept. KnowsTask new.memory (flush_task kept)) jobs
-  all_known jobs known i d lt = flush_known old new shape reply owes (flush_task (get_or jobs i d)) (known i d lt)
+  -- so with each that is kept
+  still_known : (kept : Job) → IsFlushKnown old.memory kept → IsFlushKnown new.memory kept
+  still_known (Flush kept) known = flush_known old new shape reply owes (flush_task kept) known
+  still_known (Merge kept) known = tt
 
-  -- a flush that isn't out before a call isn't out behind it, and no merge is
-  gone_on : (job : JobId) → job.number < old.memory.next_job → is_flushing old.memory.trees job ≡ false → is_flushing new.memory.trees job ≡ true → ⊥
-  gone_on job given none = (owed_stays (IsGone job) (gone_stays job) old new shape reply owes (given, λ is. true≢false (sym is ∙ none))).1
+  pub all_known : (jobs : List Job) → All (λ kept. IsFlushKnown old.memory kept) jobs → All (λ kept. IsFlushKnown new.memory kept) jobs
+  all_known jobs known i d lt = still_known (get_or jobs i d) (known i d lt)
 
-  merge_gone_on : (job : JobId) → job.number < old.memory.next_job → is_merging old.memory.trees job ≡ false → is_merging new.memory.trees job ≡ true → ⊥
-  merge_gone_on job given none = (owed_stays (IsMergeGone job) (merge_gone_stays job) old new shape reply owes (given, λ is. true≢false (sym is ∙ none))).1
+  -- a job that isn't out before a call isn't out behind it
+  gone_on : (kind : JobKind) (job : JobId) → job.number < old.memory.next_job → is_out old.memory kind job ≡ false → is_out new.memory kind job ≡ true → ⊥
+  gone_on kinds.Flush job given none = (owed_stays (IsGone job) (gone_stays job) old new shape reply owes (given, λ is. true≢false (sym is ∙ none))).1
+  gone_on kinds.Merge job given none = (owed_stays (IsMergeGone job) (merge_gone_stays job) old new shape reply owes (given, λ is. true≢false (sym is ∙ none))).1
 
-  -- it stays known where those stay kept that are out
-  pub still_known : (jobs others : Jobs) (job : JobId) → (is_flushing new.memory.trees job ≡ true → is_kept job jobs.flushes.items ≡ true → is_kept job others.flushes.items ≡ true)
-      → (is_merging new.memory.trees job ≡ true → is_merge_kept job jobs.merges.items ≡ true → is_merge_kept job others.merges.items ≡ true) → IsJobKnown old.memory jobs job → IsJobKnown new.memory others job
-  still_known jobs others job carry carry_merge known = record {
+  -- it stays known where that stays kept which is out
+  pub name_known : (jobs others : List Job) (job : JobId) → ((kind : JobKind) → is_out new.memory kind job ≡ true → is_kept kind job jobs ≡ true → is_kept kind job others ≡ true)
+      → IsJobKnown old.memory jobs job → IsJobKnown new.memory others job
+  name_known jobs others job carry known = record {
     given = owed_stays (λ m. job.number < m.next_job) (given_stays job.number) old new shape reply owes known.given;
-    flush = by_flush (is_flushing old.memory.trees job) refl;
-    merge = by_merge (is_merging old.memory.trees job) refl;
+    kept = λ kind. by kind (is_out old.memory kind job) refl;
   }
     where
-      by_flush : (out : Bool) → is_flushing old.memory.trees job ≡ out → is_flushing new.memory.trees job ≡ true → is_kept job others.flushes.items ≡ true
-      by_flush false none out = absurd (gone_on job known.given none out)
-      by_flush true is out = carry out (known.flush is)
-
-      by_merge : (out : Bool) → is_merging old.memory.trees job ≡ out → is_merging new.memory.trees job ≡ true → is_merge_kept job others.merges.items ≡ true
-      by_merge false none out = absurd (merge_gone_on job known.given none out)
-      by_merge true is out = carry_merge out (known.merge is)
+      by : (kind : JobKind) (out : Bool) → is_out old.memory kind job ≡ out → is_out new.memory kind job ≡ true → is_kept kind job others ≡ true
+      by kind false none out = absurd (gone_on kind job known.given none out)
+      by kind true is out = carry kind out (known.kept kind is)
 
 -- a reply more
 at_reply : (replies : List Reply) (reply : Reply) (place : ℕ) (other : Reply) → slice_get (replies ++ reply ∷ []) place ≡ Some other → (slice_get replies place ≡ Some other) ⊎ (reply ≡ other)
@@ -355,37 +354,35 @@ none_begun old new (OfCount count) job other (told, same) = count_begins old cou
 
 -- ---- what is kept behind a call
 
-module _ (old new : Held) (jobs : Jobs) (replies : List Reply) (keeps : KeepsJobs old.memory jobs replies) (shape : CallShape) (reply : Reply) (owes : Owes old shape reply new) where
-  -- other lists of jobs, of which the flushes are known, which have those that are out, and the one that began
-  pub keeps_with : (others : Jobs) → All (λ kept. KnowsTask new.memory (flush_task kept)) others.flushes.items
-      → ((job : JobId) → is_flushing new.memory.trees job ≡ true → is_kept job jobs.flushes.items ≡ true → is_kept job others.flushes.items ≡ true)
-      → ((job : JobId) → is_merging new.memory.trees job ≡ true → is_merge_kept job jobs.merges.items ≡ true → is_merge_kept job others.merges.items ≡ true)
+module _ (old new : Held) (jobs : List Job) (replies : List Reply) (keeps : KeepsJobs old.memory jobs replies) (shape : CallShape) (reply : Reply) (owes : Owes old shape reply new) where
+  -- another list of jobs that are known, which has those that are out, and the one that began
+  pub keeps_with : (others : List Job) → All (λ kept. IsFlushKnown new.memory kept) others
+      → ((kind : JobKind) (job : JobId) → is_out new.memory kind job ≡ true → is_kept kind job jobs ≡ true → is_kept kind job others ≡ true)
       → ((job : JobId) → reply ≡ Began (Some job) → IsJobKnown new.memory others job) → KeepsJobs new.memory others (replies ++ reply ∷ [])
-  keeps_with others known carry carry_merge began = record { known = known; named = λ place job told. by place job (at_reply replies reply place (Began (Some job)) told) }
+  keeps_with others known carry began = record { known = known; named = λ place job told. by place job (at_reply replies reply place (Began (Some job)) told) }
     where
       by : (place : ℕ) (job : JobId) → (slice_get replies place ≡ Some (Began (Some job))) ⊎ (reply ≡ Began (Some job)) → IsJobKnown new.memory others job
-      by place job (inl told) = still_known old new shape reply owes jobs others job (carry job) (carry_merge job) (keeps.named place job told)
+      by place job (inl told) = name_known old new shape reply owes jobs others job (λ kind. carry kind job) (keeps.named place job told)
       by place job (inr is) = began job is
 
+  -- the jobs that were kept are known still
+  kept_known : All (λ kept. IsFlushKnown new.memory kept) jobs
+  kept_known = all_known old new shape reply owes jobs keeps.known
+
+  -- the list stays as it is, where no job began
+  same_list : (others : List Job) → others ≡ jobs → ((job : JobId) → reply ≡ Began (Some job) → ⊥) → KeepsJobs new.memory others (replies ++ reply ∷ [])
+  same_list others same none =
+      subst (λ (l : List Job). KeepsJobs new.memory l (replies ++ reply ∷ [])) (sym same) (keeps_with jobs kept_known (λ kind job out kept. kept) (λ job is. absurd (none job is)))
+
   -- a call that begins no job is answered with none
-  unbegun : (others : Jobs) → BeginsNone shape → (job : JobId) → reply ≡ Began (Some job) → IsJobKnown new.memory others job
-  unbegun others none job is = absurd (none_begun old new shape job none (subst (λ (r : Reply). Owes old shape r new) is owes).1)
+  unbegun : BeginsNone shape → (job : JobId) → reply ≡ Began (Some job) → ⊥
+  unbegun none job is = none_begun old new shape job none (subst (λ (r : Reply). Owes old shape r new) is owes).1
 
-  -- a call that begins no job, and leaves the lists as they are
+  -- a call that begins no job, and leaves the list as it is
   pub keeps_on : BeginsNone shape → KeepsJobs new.memory jobs (replies ++ reply ∷ [])
-  keeps_on none = keeps_with jobs (all_known old new shape reply owes jobs.flushes.items keeps.known) (λ job out kept. kept) (λ job out kept. kept) (unbegun jobs none)
+  keeps_on none = same_list jobs refl (unbegun none)
 
-  -- a call that leaves the flushes as they are, or the merges
-  same_flushes : (others : Jobs) → others.flushes.items ≡ jobs.flushes.items → All (λ kept. KnowsTask new.memory (flush_task kept)) others.flushes.items
-  same_flushes others same = subst (λ (l : List FlushJob). All (λ kept. KnowsTask new.memory (flush_task kept)) l) (sym same) (all_known old new shape reply owes jobs.flushes.items keeps.known)
-
-  same_kept : (others : Jobs) → others.flushes.items ≡ jobs.flushes.items → (job : JobId) → is_flushing new.memory.trees job ≡ true → is_kept job jobs.flushes.items ≡ true → is_kept job others.flushes.items ≡ true
-  same_kept others same job out kept = ap (is_kept job) same ∙ kept
-
-  same_merges : (others : Jobs) → others.merges.items ≡ jobs.merges.items → (job : JobId) → is_merging new.memory.trees job ≡ true → is_merge_kept job jobs.merges.items ≡ true → is_merge_kept job others.merges.items ≡ true
-  same_merges others same job out kept = ap (is_merge_kept job) same ∙ kept
-
--- ---- a flush that begins
+-- ---- a job that begins
 
 -- It is named by the next number, and no merge has that.
 begun_flush : (old new : Held) (id : ℕ) (job : JobId) → IsLawful old.memory → Owes old (OfFlushBegin id) (Began (Some job)) new → (job.number < new.memory.next_job) × (is_merging new.memory.trees job ≡ true → ⊥)
@@ -412,36 +409,7 @@ begun_flush old new id job lawful (none, gives) = by (begins_flush old.memory.tr
         )
     by false (told, same) = let bad : ⊥ = cc in absurd bad
 
-module _ (old new : Held) (id : ℕ) (jobs others : Jobs) (replies : List Reply) (keeps : KeepsJobs old.memory jobs replies) (lawful : IsLawful old.memory) (same : others.merges.items ≡ jobs.merges.items) where
-  none_more : (reply : Reply) → Owes old (OfFlushBegin id) reply new → others.flushes.items ≡ jobs.flushes.items → ((job : JobId) → reply ≡ Began (Some job) → ⊥) → KeepsJobs new.memory others (replies ++ reply ∷ [])
-  none_more reply owes alike none =
-      let shape = OfFlushBegin id in
-      keeps_with old new jobs replies keeps shape reply owes others (same_flushes old new jobs replies keeps shape reply owes others alike) (same_kept old new jobs replies keeps shape reply owes others alike)
-      (same_merges old new jobs replies keeps shape reply owes others same) (λ job is. absurd (none job is))
-
-  one_more : (began : JobId) → Owes old (OfFlushBegin id) (Began (Some began)) new → Keeps new.memory (Began (Some began)) jobs.flushes.items others.flushes.items → KeepsJobs new.memory others (replies ++ Began (Some began) ∷ [])
-  one_more began owes (kept, is, knows, name) =
-      let shape = OfFlushBegin id in
-      let reply = Began (Some began) in
-      let all = All-push (λ (k : FlushJob). KnowsTask new.memory (flush_task k)) jobs.flushes.items kept (all_known old new shape reply owes jobs.flushes.items keeps.known) knows in
-      keeps_with old new jobs replies keeps shape reply owes others (subst (λ (l : List FlushJob). All (λ k. KnowsTask new.memory (flush_task k)) l) (sym is) all)
-      (λ q out was. ap (is_kept q) is ∙ any_more (is_named q) jobs.flushes.items kept was) (same_merges old new jobs replies keeps shape reply owes others same) (λ q told. by q told)
-    where
-      by : (q : JobId) → Began (Some began) ≡ Began (Some q) → IsJobKnown new.memory others q
-      by q told =
-          let same : began ≡ q = cc in
-          let fresh = begun_flush old new id began lawful owes in
-          subst (IsJobKnown new.memory others) same
-          (record { given = fresh.0; flush = λ out. ap (is_kept began) is ∙ any_last (is_named began) jobs.flushes.items kept name; merge = λ out. absurd (fresh.1 out) })
-
-  pub keeps_begun : (reply : Reply) → Owes old (OfFlushBegin id) reply new → Keeps new.memory reply jobs.flushes.items others.flushes.items → KeepsJobs new.memory others (replies ++ reply ∷ [])
-  keeps_begun (Began (Some began)) owes more = one_more began owes more
-  keeps_begun (Began None) owes alike = none_more (Began None) owes alike (λ job is. let bad : ⊥ = cc in bad)
-  keeps_begun reply owes alike = none_more reply owes alike (λ job is. let bad : ⊥ = cc in bad)
-
--- ---- a merge that begins
-
--- It is named by the next number, and no flush has that.
+-- the same of a merge, and no flush has it
 begun_merge : (old new : Held) (kind : MergeKind) (id : ℕ) (job : JobId) → IsLawful old.memory → Owes old (OfMergeBegin kind id) (Began (Some job)) new → (job.number < new.memory.next_job) × (is_flushing new.memory.trees job ≡ true → ⊥)
 begun_merge old new kind id job lawful (none, gives) = by (begins_merge_in old kind id) gives
   where
@@ -455,31 +423,42 @@ begun_merge old new kind id job lawful (none, gives) = by (begins_merge_in old k
         )
     by false (told, same) = let bad : ⊥ = cc in absurd bad
 
-module _ (old new : Held) (kind : MergeKind) (id : ℕ) (jobs others : Jobs) (replies : List Reply) (keeps : KeepsJobs old.memory jobs replies) (lawful : IsLawful old.memory) (same : others.flushes.items ≡ jobs.flushes.items) where
-  no_merge_more : (reply : Reply) → Owes old (OfMergeBegin kind id) reply new → others.merges.items ≡ jobs.merges.items → ((job : JobId) → reply ≡ Began (Some job) → ⊥) → KeepsJobs new.memory others (replies ++ reply ∷ [])
-  no_merge_more reply owes alike none =
-      let shape = OfMergeBegin kind id in
-      keeps_with old new jobs replies keeps shape reply owes others (same_flushes old new jobs replies keeps shape reply owes others same) (same_kept old new jobs replies keeps shape reply owes others same)
-      (same_merges old new jobs replies keeps shape reply owes others alike) (λ job is. absurd (none job is))
+-- It was given out, and no job of another kind is out under it.
+begun_alone : (old new : Held) (begin : JobBegin) (id : ℕ) (job : JobId) → IsLawful old.memory → Owes old (begin_of begin id) (Began (Some job)) new
+    → (job.number < new.memory.next_job) × ((kind : JobKind) → is_out new.memory kind job ≡ true → kind ≡ begun_kind begin)
+begun_alone old new begins.Flush id job lawful owes = let fresh = begun_flush old new id job lawful owes in (fresh.0, by fresh.1)
+  where
+    by : (is_merging new.memory.trees job ≡ true → ⊥) → (kind : JobKind) → is_out new.memory kind job ≡ true → kind ≡ kinds.Flush
+    by none kinds.Flush out = refl
+    by none kinds.Merge out = absurd (none out)
+begun_alone old new (begins.Merge kind) id job lawful owes = let fresh = begun_merge old new kind id job lawful owes in (fresh.0, by fresh.1)
+  where
+    by : (is_flushing new.memory.trees job ≡ true → ⊥) → (kind : JobKind) → is_out new.memory kind job ≡ true → kind ≡ kinds.Merge
+    by none kinds.Flush out = absurd (none out)
+    by none kinds.Merge out = refl
 
-  one_merge_more : (began : JobId) → Owes old (OfMergeBegin kind id) (Began (Some began)) new → KeepsMerge (Began (Some began)) jobs.merges.items others.merges.items → KeepsJobs new.memory others (replies ++ Began (Some began) ∷ [])
-  one_merge_more began owes (kept, is, name) =
-      let shape = OfMergeBegin kind id in
+module _ (old new : Held) (begin : JobBegin) (id : ℕ) (jobs others : List Job) (replies : List Reply) (keeps : KeepsJobs old.memory jobs replies) (lawful : IsLawful old.memory) where
+  one_more : (began : JobId) → Owes old (begin_of begin id) (Began (Some began)) new → Keeps (begun_kind begin) new.memory (Began (Some began)) jobs others → KeepsJobs new.memory others (replies ++ Began (Some began) ∷ [])
+  one_more began owes (kept, is, knows, name) =
+      let shape = begin_of begin id in
       let reply = Began (Some began) in
-      keeps_with old new jobs replies keeps shape reply owes others (same_flushes old new jobs replies keeps shape reply owes others same) (same_kept old new jobs replies keeps shape reply owes others same)
-      (λ q out was. ap (is_merge_kept q) is ∙ any_more (is_merge_named q) jobs.merges.items kept was) (λ q told. by q told)
+      let known = All-push (λ (k : Job). IsFlushKnown new.memory k) jobs kept (kept_known old new jobs replies keeps shape reply owes) knows in
+      keeps_with old new jobs replies keeps shape reply owes others (subst (λ (l : List Job). All (λ k. IsFlushKnown new.memory k) l) (sym is) known)
+      (λ kind q out was. ap (is_kept kind q) is ∙ any_more (is_named kind q) jobs kept was) (λ q told. by q told)
     where
       by : (q : JobId) → Began (Some began) ≡ Began (Some q) → IsJobKnown new.memory others q
       by q told =
           let same : began ≡ q = cc in
-          let fresh = begun_merge old new kind id began lawful owes in
-          subst (IsJobKnown new.memory others) same
-          (record { given = fresh.0; flush = λ out. absurd (fresh.1 out); merge = λ out. ap (is_merge_kept began) is ∙ any_last (is_merge_named began) jobs.merges.items kept name })
+          let fresh = begun_alone old new begin id began lawful owes in
+          subst (IsJobKnown new.memory others) same (record {
+            given = fresh.0;
+            kept = λ kind out. ap (is_kept kind began) is ∙ any_last (is_named kind began) jobs kept (subst (λ (k : JobKind). is_named k began kept ≡ true) (sym (fresh.1 kind out)) name);
+          })
 
-  pub keeps_merging : (reply : Reply) → Owes old (OfMergeBegin kind id) reply new → KeepsMerge reply jobs.merges.items others.merges.items → KeepsJobs new.memory others (replies ++ reply ∷ [])
-  keeps_merging (Began (Some began)) owes more = one_merge_more began owes more
-  keeps_merging (Began None) owes alike = no_merge_more (Began None) owes alike (λ job is. let bad : ⊥ = cc in bad)
-  keeps_merging reply owes alike = no_merge_more reply owes alike (λ job is. let bad : ⊥ = cc in bad)
+  pub keeps_begun : (reply : Reply) → Owes old (begin_of begin id) reply new → Keeps (begun_kind begin) new.memory reply jobs others → KeepsJobs new.memory others (replies ++ reply ∷ [])
+  keeps_begun (Began (Some began)) owes more = one_more began owes more
+  keeps_begun (Began None) owes alike = same_list old new jobs replies keeps (begin_of begin id) (Began None) owes others alike (λ job is. let bad : ⊥ = cc in bad)
+  keeps_begun reply owes alike = same_list old new jobs replies keeps (begin_of begin id) reply owes others alike (λ job is. let bad : ⊥ = cc in bad)
 
 -- ---- a job that is finished
 
@@ -492,8 +471,8 @@ tree_here id change Holds bare has trees = subst (λ (o : Option Tree). Holds (u
     by (Some tree) = has tree
 
 -- behind an answer its flush isn't out
-finished_out : (old new : Held) (job : JobId) (done : Bool) → Owes old (OfFlushFinish job) (Flag done) new → is_flushing new.memory.trees job ≡ false
-finished_out old new job done (none, gives) = by (is_flushing old.memory.trees job) refl (takes_effect old job) gives
+flush_ended : (old new : Held) (job : JobId) (done : Bool) → Owes old (OfFlushFinish job) (Flag done) new → is_flushing new.memory.trees job ≡ false
+flush_ended old new job done (none, gives) = by (is_flushing old.memory.trees job) refl (takes_effect old job) gives
   where
     gone : (change : Tree → Tree) → ((tree : Tree) → (change tree).flush ≡ None) → is_flushing (altered_at job.keyspace_id change old.memory.trees) job ≡ false
     gone change none = tree_here job.keyspace_id change (λ tree. is_flush_out job.number tree.flush ≡ false) refl (λ tree. ap (is_flush_out job.number) (none tree)) old.memory.trees
@@ -505,8 +484,8 @@ finished_out old new job done (none, gives) = by (is_flushing old.memory.trees j
     by false is takes (told, same) = ap (λ (h : Held). is_flushing h.memory.trees job) same ∙ is
 
 -- and so of its merge
-merged_out : (old new : Held) (job : JobId) (done : Bool) → Owes old (OfMergeFinish job) (Flag done) new → is_merging new.memory.trees job ≡ false
-merged_out old new job done (none, gives) = by (is_merging old.memory.trees job) refl (is_living (store_in old) job.keyspace_id) gives
+merge_ended : (old new : Held) (job : JobId) (done : Bool) → Owes old (OfMergeFinish job) (Flag done) new → is_merging new.memory.trees job ≡ false
+merge_ended old new job done (none, gives) = by (is_merging old.memory.trees job) refl (is_living (store_in old) job.keyspace_id) gives
   where
     gone : (change : Tree → Tree) → ((tree : Tree) → (change tree).merge ≡ None) → is_merging (altered_at job.keyspace_id change old.memory.trees) job ≡ false
     gone change none = tree_here job.keyspace_id change (λ tree. is_merge_out job.number tree.merge ≡ false) refl (λ tree. ap (is_merge_out job.number) (none tree)) old.memory.trees
@@ -517,107 +496,88 @@ merged_out old new job done (none, gives) = by (is_merging old.memory.trees job)
     by true is false (told, at) = ap (λ (h : Held). is_merging h.memory.trees job) at ∙ gone merge_dropped (λ tree. refl)
     by false is lives (told, same) = ap (λ (h : Held). is_merging h.memory.trees job) same ∙ is
 
--- A list without the job that has this name, which is out no more; or with it once more.
-module _ {Job : Type 0} (task_of : Job → Task) (jobs : List Job) (job : JobId) (kept : Job) (name : has_name job (task_of kept) ≡ true) (place : ℕ) (at : slice_get jobs place ≡ Some kept) where
+-- neither it is out
+ended : (old new : Held) (kind : JobKind) (job : JobId) (done : Bool) → Owes old (finish_of kind job) (Flag done) new → is_out new.memory kind job ≡ false
+ended old new kinds.Flush job done owes = flush_ended old new job done owes
+ended old new kinds.Merge job done owes = merge_ended old new job done owes
+
+-- A list without the job of this kind and name, which is out no more; or with it once more.
+module _ (jobs : List Job) (kind : JobKind) (job : JobId) (kept : Job) (name : is_named kind job kept ≡ true) (place : ℕ) (at : slice_get jobs place ≡ Some kept) where
   abbrev rest : List Job
   rest = take place jobs ++ drop (place + 1) jobs
 
-  one_less : (is_out : JobId → Bool) → is_out job ≡ false → (q : JobId) → is_out q ≡ true → list_any (λ k. has_name q (task_of k)) jobs ≡ true → list_any (λ k. has_name q (task_of k)) rest ≡ true
-  one_less is_out none q out was = by (has_name q (task_of kept)) refl
+  one_less : (m : Remembered) → is_out m kind job ≡ false → (k : JobKind) (q : JobId) → is_out m k q ≡ true → is_kept k q jobs ≡ true → is_kept k q rest ≡ true
+  one_less m none k q out was = by (is_named k q kept) refl
     where
-      by : (b : Bool) → has_name q (task_of kept) ≡ b → list_any (λ k. has_name q (task_of k)) rest ≡ true
-      by true is = absurd (true≢false (sym out ∙ ap is_out (same_name q job (task_of kept) is name) ∙ none))
-      by false other = any_without (λ (k : Job). has_name q (task_of k)) jobs place kept at other was
+      by : (b : Bool) → is_named k q kept ≡ b → is_kept k q rest ≡ true
+      by true is = let same = same_name k kind q job kept is name in absurd (true≢false (sym out ∙ (λ i. is_out m (same.0 i) (same.1 i)) ∙ none))
+      by false other = any_without (is_named k q) jobs place kept at other was
 
-  one_back : (back : Job) → task_of back ≡ task_of kept → (q : JobId) → list_any (λ k. has_name q (task_of k)) jobs ≡ true → list_any (λ k. has_name q (task_of k)) (rest ++ back ∷ []) ≡ true
-  one_back back same q was = by (has_name q (task_of kept)) refl
+  one_back : (back : Job) → IsSameJob kept back → (k : JobKind) (q : JobId) → is_kept k q jobs ≡ true → is_kept k q (rest ++ back ∷ []) ≡ true
+  one_back back same k q was = by (is_named k q kept) refl
     where
-      by : (b : Bool) → has_name q (task_of kept) ≡ b → list_any (λ k. has_name q (task_of k)) (rest ++ back ∷ []) ≡ true
-      by true is = any_last (λ (k : Job). has_name q (task_of k)) rest back (ap (has_name q) same ∙ is)
-      by false other = any_more (λ (k : Job). has_name q (task_of k)) rest back (any_without (λ (k : Job). has_name q (task_of k)) jobs place kept at other was)
-
--- ---- a flush that is finished
+      by : (b : Bool) → is_named k q kept ≡ b → is_kept k q (rest ++ back ∷ []) ≡ true
+      by true is = any_last (is_named k q) rest back (named_like kept back same k q ∙ is)
+      by false other = any_more (is_named k q) rest back (any_without (is_named k q) jobs place kept at other was)
 
 -- what was given back
-gave_none : (kept : FlushJob) (reply : Reply) → IsGivenBack kept reply None → (done : Bool) × (reply ≡ Flag done)
+gave_none : (kept : Job) (reply : Reply) → IsGivenBack kept reply None → (done : Bool) × (reply ≡ Flag done)
 gave_none kept (Flag done) given = (done, refl)
 gave_none kept (Refused error) given = absurd given
 gave_none kept reply given = absurd given
 
-gave_back : (kept : FlushJob) (reply : Reply) (back : FlushJob) → IsGivenBack kept reply (Some back) → flush_task back ≡ flush_task kept
+pub gave_back : (kept : Job) (reply : Reply) (back : Job) → IsGivenBack kept reply (Some back) → IsSameJob kept back
 gave_back kept (Flag done) back given = let no : Some back ≡ None = given in absurd cc
 gave_back kept (Refused error) back given = given
 gave_back kept reply back given = absurd given
 
-module _ (old new : Held) (job : JobId) (reply : Reply) (jobs others : Jobs) (replies : List Reply) (keeps : KeepsJobs old.memory jobs replies) (owes : Owes old (OfFlushFinish job) reply new) (same : others.merges.items ≡ jobs.merges.items) where
-  -- another list of flushes that are known, which has those that are out
-  other_flushes : (list : List FlushJob) → others.flushes.items ≡ list → All (λ kept. KnowsTask new.memory (flush_task kept)) list
-      → ((q : JobId) → is_flushing new.memory.trees q ≡ true → is_kept q jobs.flushes.items ≡ true → is_kept q list ≡ true) → KeepsJobs new.memory others (replies ++ reply ∷ [])
-  other_flushes list is known carry =
-      let shape = OfFlushFinish job in
-      keeps_with old new jobs replies keeps shape reply owes others (subst (λ (l : List FlushJob). All (λ kept. KnowsTask new.memory (flush_task kept)) l) (sym is) known)
-      (λ q out was. ap (is_kept q) is ∙ carry q out was) (same_merges old new jobs replies keeps shape reply owes others same) (unbegun old new jobs replies keeps shape reply owes others tt)
+known_like : (m : Remembered) (kept back : Job) → IsSameJob kept back → IsFlushKnown m kept → IsFlushKnown m back
+known_like m (Flush kept) (Flush back) same known = subst (KnowsTask m) (sym same) known
+known_like m (Merge kept) (Merge back) same known = tt
+known_like m (Flush kept) (Merge back) same known = absurd same
+known_like m (Merge kept) (Flush back) same known = absurd same
 
-  all : All (λ kept. KnowsTask new.memory (flush_task kept)) jobs.flushes.items
-  all = all_known old new (OfFlushFinish job) reply owes jobs.flushes.items keeps.known
+finish_begins_none : (kind : JobKind) (job : JobId) → BeginsNone (finish_of kind job)
+finish_begins_none kinds.Flush job = tt
+finish_begins_none kinds.Merge job = tt
 
-  pub keeps_finished : KeepsOthers job reply jobs.flushes.items others.flushes.items → KeepsJobs new.memory others (replies ++ reply ∷ [])
-  keeps_finished (inl alike) = other_flushes jobs.flushes.items alike all (λ q out was. was)
+module _ (old new : Held) (kind : JobKind) (job : JobId) (reply : Reply) (jobs others : List Job) (replies : List Reply) (keeps : KeepsJobs old.memory jobs replies) (owes : Owes old (finish_of kind job) reply new) where
+  none_began : (q : JobId) → reply ≡ Began (Some q) → ⊥
+  none_began = unbegun old new jobs replies keeps (finish_of kind job) reply owes (finish_begins_none kind job)
+
+  -- another list of jobs that are known, which has those that are out
+  other_list : (list : List Job) → others ≡ list → All (λ kept. IsFlushKnown new.memory kept) list
+      → ((k : JobKind) (q : JobId) → is_out new.memory k q ≡ true → is_kept k q jobs ≡ true → is_kept k q list ≡ true) → KeepsJobs new.memory others (replies ++ reply ∷ [])
+  other_list list is known carry =
+      subst (λ (l : List Job). KeepsJobs new.memory l (replies ++ reply ∷ [])) (sym is) (keeps_with old new jobs replies keeps (finish_of kind job) reply owes list known carry (λ q told. absurd (none_began q told)))
+
+  all : All (λ kept. IsFlushKnown new.memory kept) jobs
+  all = kept_known old new jobs replies keeps (finish_of kind job) reply owes
+
+  pub keeps_finished : KeepsOthers kind job reply jobs others → KeepsJobs new.memory others (replies ++ reply ∷ [])
+  keeps_finished (inl alike) = same_list old new jobs replies keeps (finish_of kind job) reply owes others alike none_began
   keeps_finished (inr (kept, left, (name, place, at, is), inl (alike, given))) =
       let told = gave_none kept reply given in
-      let none = finished_out old new job told.0 (subst (λ (r : Reply). Owes old (OfFlushFinish job) r new) told.1 owes) in
-      other_flushes (take place jobs.flushes.items ++ drop (place + 1) jobs.flushes.items) (alike ∙ is) (without_one (λ (k : FlushJob). KnowsTask new.memory (flush_task k)) jobs.flushes.items place all)
-      (one_less flush_task jobs.flushes.items job kept name place at (is_flushing new.memory.trees) none)
+      let gone = ended old new kind job told.0 (subst (λ (r : Reply). Owes old (finish_of kind job) r new) told.1 owes) in
+      other_list (take place jobs ++ drop (place + 1) jobs) (alike ∙ is) (without_one (λ (k : Job). IsFlushKnown new.memory k) jobs place all)
+      (one_less jobs kind job kept name place at new.memory gone)
   keeps_finished (inr (kept, left, (name, place, at, is), inr (back, alike, given))) =
-      let task = gave_back kept reply back given in
-      let P = λ (k : FlushJob). KnowsTask new.memory (flush_task k) in
-      let others_left = take place jobs.flushes.items ++ drop (place + 1) jobs.flushes.items in
-      other_flushes (others_left ++ back ∷ []) (alike ∙ ap (λ (l : List FlushJob). l ++ back ∷ []) is)
-      (All-push P others_left back (without_one P jobs.flushes.items place all) (subst (KnowsTask new.memory) (sym task) (at_place P jobs.flushes.items place kept all at)))
-      (λ q out was. one_back flush_task jobs.flushes.items job kept name place at back task q was)
-
--- ---- a merge that is finished
-
-merge_gave_none : (kept : MergeJob) (reply : Reply) → IsMergeGivenBack kept reply None → (done : Bool) × (reply ≡ Flag done)
-merge_gave_none kept (Flag done) given = (done, refl)
-merge_gave_none kept (Refused error) given = absurd given
-merge_gave_none kept reply given = absurd given
-
-pub merge_gave_back : (kept : MergeJob) (reply : Reply) (back : MergeJob) → IsMergeGivenBack kept reply (Some back) → (merge_task back ≡ merge_task kept) × (back.target ≡ kept.target)
-merge_gave_back kept (Flag done) back given = let no : Some back ≡ None = given in absurd cc
-merge_gave_back kept (Refused error) back given = given
-merge_gave_back kept reply back given = absurd given
-
-module _ (old new : Held) (job : JobId) (reply : Reply) (jobs others : Jobs) (replies : List Reply) (keeps : KeepsJobs old.memory jobs replies) (owes : Owes old (OfMergeFinish job) reply new) (same : others.flushes.items ≡ jobs.flushes.items) where
-  -- another list of merges, which has those that are out
-  other_merges : (list : List MergeJob) → others.merges.items ≡ list → ((q : JobId) → is_merging new.memory.trees q ≡ true → is_merge_kept q jobs.merges.items ≡ true → is_merge_kept q list ≡ true)
-      → KeepsJobs new.memory others (replies ++ reply ∷ [])
-  other_merges list is carry =
-      let shape = OfMergeFinish job in
-      keeps_with old new jobs replies keeps shape reply owes others (same_flushes old new jobs replies keeps shape reply owes others same) (same_kept old new jobs replies keeps shape reply owes others same)
-      (λ q out was. ap (is_merge_kept q) is ∙ carry q out was) (unbegun old new jobs replies keeps shape reply owes others tt)
-
-  pub keeps_merged : KeepsOtherMerges job reply jobs.merges.items others.merges.items → KeepsJobs new.memory others (replies ++ reply ∷ [])
-  keeps_merged (inl alike) = other_merges jobs.merges.items alike (λ q out was. was)
-  keeps_merged (inr (kept, left, (name, place, at, is), inl (alike, given))) =
-      let told = merge_gave_none kept reply given in
-      let none = merged_out old new job told.0 (subst (λ (r : Reply). Owes old (OfMergeFinish job) r new) told.1 owes) in
-      other_merges (take place jobs.merges.items ++ drop (place + 1) jobs.merges.items) (alike ∙ is) (one_less merge_task jobs.merges.items job kept name place at (is_merging new.memory.trees) none)
-  keeps_merged (inr (kept, left, (name, place, at, is), inr (back, alike, given))) =
-      other_merges ((take place jobs.merges.items ++ drop (place + 1) jobs.merges.items) ++ back ∷ []) (alike ∙ ap (λ (l : List MergeJob). l ++ back ∷ []) is)
-      (λ q out was. one_back merge_task jobs.merges.items job kept name place at back (merge_gave_back kept reply back given).0 q was)
+      let same = gave_back kept reply back given in
+      let P = λ (k : Job). IsFlushKnown new.memory k in
+      let others_left = take place jobs ++ drop (place + 1) jobs in
+      other_list (others_left ++ back ∷ []) (alike ∙ ap (λ (l : List Job). l ++ back ∷ []) is)
+      (All-push P others_left back (without_one P jobs place all) (known_like new.memory kept back same (at_place P jobs place kept all at)))
+      (λ k q out was. one_back jobs kind job kept name place at back same k q was)
 
 -- ---- the job that a finish names
 
--- the number of a flush that is out, or of a merge, isn't the greatest
-pub out_given : (m : Remembered) (job : JobId) → IsLawful m → is_flushing m.trees job ≡ true → job.number < 2 ^ 64 - 1
-out_given m job lawful out = let given = flush_given m job lawful out in let last = lawful.jobs in omega (arith, given, last)
-
-pub merge_out_given : (m : Remembered) (job : JobId) → IsLawful m → is_merging m.trees job ≡ true → job.number < 2 ^ 64 - 1
-merge_out_given m job lawful out = let given = merge_given m job lawful out in let last = lawful.jobs in omega (arith, given, last)
+-- the number of a job that is out isn't the greatest
+out_given : (m : Remembered) (kind : JobKind) (job : JobId) → IsLawful m → is_out m kind job ≡ true → job.number < 2 ^ 64 - 1
+out_given m kinds.Flush job lawful out = let given = flush_given m job lawful out in let last = lawful.jobs in omega (arith, given, last)
+out_given m kinds.Merge job lawful out = let given = merge_given m job lawful out in let last = lawful.jobs in omega (arith, given, last)
 
 -- a name that the replies told
-names_known : (m : Remembered) (jobs : Jobs) (replies : List Reply) → KeepsJobs m jobs replies → (place : ℕ) → (job_begun (slice_get replies place)).number < 2 ^ 64 - 1 → IsJobKnown m jobs (job_begun (slice_get replies place))
+names_known : (m : Remembered) (jobs : List Job) (replies : List Reply) → KeepsJobs m jobs replies → (place : ℕ) → (job_begun (slice_get replies place)).number < 2 ^ 64 - 1 → IsJobKnown m jobs (job_begun (slice_get replies place))
 names_known m jobs replies keeps place = by (slice_get replies place) refl
   where
     by : (o : Option Reply) → slice_get replies place ≡ o → (job_begun o).number < 2 ^ 64 - 1 → IsJobKnown m jobs (job_begun o)
@@ -635,17 +595,18 @@ merge_named replies (MergeFinish named) job is = let same : job ≡ job_begun (s
 merge_named replies call job is = let bad : ⊥ = cc in absurd bad
 
 -- the job that a finish in a list names is kept where it is out
-pub finish_kept : (m : Remembered) (jobs : Jobs) (replies : List Reply) → KeepsJobs m jobs replies → (call : Call) (job : JobId) → FlushFinish job ≡ resolved replies call → job.number < 2 ^ 64 - 1 → is_flushing m.trees job ≡ true
-    → is_kept job jobs.flushes.items ≡ true
-finish_kept m jobs replies keeps call job is given =
-    let at = finish_named replies call job is in
-    (subst (λ (j : JobId). j.number < 2 ^ 64 - 1 → IsJobKnown m jobs j) (sym at.1) (names_known m jobs replies keeps at.0) given).flush
+named_kept : (m : Remembered) (jobs : List Job) (replies : List Reply) → IsLawful m → KeepsJobs m jobs replies → (kind : JobKind) (job : JobId) → (place : ℕ) × (job ≡ job_begun (slice_get replies place)) → is_out m kind job ≡ true
+    → is_kept kind job jobs ≡ true
+named_kept m jobs replies lawful keeps kind job at out =
+    (subst (λ (j : JobId). j.number < 2 ^ 64 - 1 → IsJobKnown m jobs j) (sym at.1) (names_known m jobs replies keeps at.0) (out_given m kind job lawful out)).kept kind out
 
-pub merge_kept : (m : Remembered) (jobs : Jobs) (replies : List Reply) → KeepsJobs m jobs replies → (call : Call) (job : JobId) → MergeFinish job ≡ resolved replies call → job.number < 2 ^ 64 - 1 → is_merging m.trees job ≡ true
-    → is_merge_kept job jobs.merges.items ≡ true
-merge_kept m jobs replies keeps call job is given =
-    let at = merge_named replies call job is in
-    (subst (λ (j : JobId). j.number < 2 ^ 64 - 1 → IsJobKnown m jobs j) (sym at.1) (names_known m jobs replies keeps at.0) given).merge
+pub flush_kept : (m : Remembered) (jobs : List Job) (replies : List Reply) → IsLawful m → KeepsJobs m jobs replies → (call : Call) (job : JobId) → FlushFinish job ≡ resolved replies call → is_out m kinds.Flush job ≡ true
+    → is_kept kinds.Flush job jobs ≡ true
+flush_kept m jobs replies lawful keeps call job is = named_kept m jobs replies lawful keeps kinds.Flush job (finish_named replies call job is)
+
+pub merge_kept : (m : Remembered) (jobs : List Job) (replies : List Reply) → IsLawful m → KeepsJobs m jobs replies → (call : Call) (job : JobId) → MergeFinish job ≡ resolved replies call → is_out m kinds.Merge job ≡ true
+    → is_kept kinds.Merge job jobs ≡ true
+merge_kept m jobs replies lawful keeps call job is = named_kept m jobs replies lawful keeps kinds.Merge job (merge_named replies call job is)
 
 -- ---- calls
 
@@ -665,8 +626,8 @@ plain_begins (OfMergeBegin kind id) plain = plain
 plain_begins shape plain = tt
 
 -- no job is kept before the first call
-pub none_kept : (m : Remembered) (jobs : Jobs) (replies : List Reply) → jobs.flushes.items ≡ [] → replies ≡ [] → KeepsJobs m jobs replies
+pub none_kept : (m : Remembered) (jobs : List Job) (replies : List Reply) → jobs ≡ [] → replies ≡ [] → KeepsJobs m jobs replies
 none_kept m jobs replies no_jobs no_replies = record {
-  known = subst (λ (l : List FlushJob). All (λ kept. KnowsTask m (flush_task kept)) l) (sym no_jobs) (All-nil (λ (kept : FlushJob). KnowsTask m (flush_task kept)));
+  known = subst (λ (l : List Job). All (λ kept. IsFlushKnown m kept) l) (sym no_jobs) (All-nil (λ (kept : Job). IsFlushKnown m kept));
   named = λ place job told. let no : None ≡ Some (Began (Some job)) = sym (ap (λ (l : List Reply). slice_get l place) no_replies) ∙ told in absurd cc;
 }

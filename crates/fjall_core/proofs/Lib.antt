@@ -1,5 +1,5 @@
 mod Refusals
-mod CrashesInRuns
+pub mod CrashesInRuns
 mod ApproximateLengths
 mod AttemptedCommands
 pub mod RunsOverCrashes
@@ -46,8 +46,6 @@ mod Deletions
 mod Closings
 mod Opening
 pub mod CrashedDisks
-pub mod LastSyncs
-pub mod Lives
 pub mod Reopening
 mod JournalRotations
 mod PutFlushes
@@ -74,3 +72,5 @@ mod MergesOnDisk
 mod MergedTables
 mod FinishedMerges
 mod RecordedTables
+mod WildCrashes
+mod LookedUpTrees

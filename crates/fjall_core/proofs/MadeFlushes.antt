@@ -9,9 +9,10 @@ use Rattle.std.specs.declared.cmp.Ordering.TheVariants.{Less, Equal, Greater}
 use Rattle.fjall_base.specs.Pairs.{byte_order}
 use Rattle.fjall_jobs.specs.declared.flush_made.FlushMade.{FlushMade}
 use Rattle.fjall_jobs.specs.declared.made_table.MadeTable.{MadeTable}
-use Rattle.fjall_jobs.specs.Flushes.{flush_task}
+use Rattle.fjall_jobs.specs.Made.{flush_clears, flush_tables, flushed_task}
 use Rattle.fjall_jobs.specs.Sequences.{AreMadeTables, AreParted, IsMadeTable}
 use Rattle.fjall_jobs.specs.Tasks.{IsFlushed, Task}
+use Rattle.fjall_jobs.proofs.Made.{was_flushed}
 use Rattle.fjall_memtable.specs.Sorted.{flat}
 use Rattle.fjall_table.specs.Blocks.{Entry, IsBlock, IsEntry, IsOrdered, StandsBefore}
 use Rattle.fjall_table.specs.Tables.{AreBlocks, AreFull, IsTable, entries_of, table_text}
@@ -127,5 +128,5 @@ flushed_prop task tables clears x y =
     (y.made, y.parted, y.ordered, y.kept, y.clears_are)
 
 -- what was made of a task is so
-pub flushed_of : (made : FlushMade) → IsFlushed (flush_task made.job) made.tables.items made.clears.items
-flushed_of made = ∥∥₁_elim made.made (flushed_prop (flush_task made.job) made.tables.items made.clears.items) (λ is. is)
+pub flushed_of : (made : FlushMade) → IsFlushed (flushed_task made) (flush_tables made) (flush_clears made)
+flushed_of made = ∥∥₁_elim (was_flushed made) (flushed_prop (flushed_task made) (flush_tables made) (flush_clears made)) (λ is. is)

@@ -8,9 +8,11 @@ use Rattle.fjall_base.specs.Lists.{last_of}
 use Rattle.fjall_jobs.specs.declared.made_table.MadeTable.{MadeTable}
 use Rattle.fjall_jobs.specs.declared.merge_made.MergeMade.{MergeMade}
 use Rattle.fjall_jobs.specs.Keeping.{AreSorted}
-use Rattle.fjall_jobs.specs.Merges.{IsMerged, merge_task}
+use Rattle.fjall_jobs.specs.Made.{merge_clears, merge_tables, merged_target, merged_task}
+use Rattle.fjall_jobs.specs.Merges.{IsMerged}
 use Rattle.fjall_jobs.specs.Sequences.{AreMadeTables, AreParted}
 use Rattle.fjall_jobs.specs.Tasks.{Task}
+use Rattle.fjall_jobs.proofs.Made.{was_merged}
 use Rattle.fjall_memtable.specs.Kept.{AreClosedAt, IsClosedInTime}
 use Rattle.fjall_memtable.specs.Sorted.{flat}
 use Rattle.fjall_table.specs.Blocks.{Entry, IsOrdered}
@@ -60,6 +62,6 @@ merged_prop target task tables clears x y =
     (y.made, y.parted, y.ordered, y.kept, y.clears_are)
 
 -- what was made of a task is so, where its runs are sorted
-pub merged_of : (made : MergeMade) → AreSorted (merge_task made.job).runs → IsMerged made.job.target (merge_task made.job) made.tables.items made.clears.items
+pub merged_of : (made : MergeMade) → AreSorted (merged_task made).runs → IsMerged (merged_target made) (merged_task made) (merge_tables made) (merge_clears made)
 merged_of made sorted =
-    ∥∥₁_elim made.made (merged_prop made.job.target (merge_task made.job) made.tables.items made.clears.items) (λ is. is sorted)
+    ∥∥₁_elim (was_merged made) (merged_prop (merged_target made) (merged_task made) (merge_tables made) (merge_clears made)) (λ is. is sorted)

@@ -10,7 +10,7 @@ use Rattle.fjall_files.proofs.Tidying.{stays_none}
 use Rattle.fjall_history.specs.declared.reply.Reply.{Reply}
 use Rattle.fjall_history.specs.declared.reply.Reply.TheVariants.{Began, Refused}
 use Rattle.fjall_jobs.specs.declared.merge_job.MergeJob.{MergeJob}
-use Rattle.fjall_jobs.specs.Merges.{merge_task}
+use Rattle.fjall_jobs.specs.Merges.{merge_target, merge_task}
 use Rattle.fjall_tree.specs.Jobs.{IsMerging, merge_begun}
 use Rattle.fjall_recovery.specs.Refusals.{HasRisen}
 use Rattle.fjall_machine.specs.declared.merge_kind.MergeKind.{MergeKind}
@@ -71,7 +71,7 @@ pub record Came (honest : Bool) (old new : Held) (id : ℕ) (result : Result Mer
   pub begun : OnOk result (new.memory ≡ with_trees new.memory.trees (merge_out id old.memory))
   pub trees : OnOk result (AreSameTrees (merge_out id old.memory).trees new.memory.trees)
   pub named : IfOk result (λ job. ((merge_task job).id ≡ old.memory.next_job) × ((merge_task job).keyspace ≡ id))
-  pub target : IfOk result (λ job. job.target ≡ target_size (options_in (store_in old) id))
+  pub target : IfOk result (λ job. merge_target job ≡ target_size (options_in (store_in old) id))
   pub out : IsTrue honest → (entries : ℕ → List (List Entry)) → AreReadOn old.disk old.memory.trees entries
       → IfOk result (λ job. IsMerging (shape_in id new.memory.trees) (entries id) (merge_task job))
   pub unchanged : OnErr result (new.memory ≡ with_trees new.memory.trees old.memory)
@@ -129,7 +129,7 @@ module _ (honest : Bool) (old new : Held) (kind : MergeKind) (id : ℕ) (job : M
       (λ s d stands on tidy. came.disk.served h) (λ s d stands on. led_by new s d shape reply [] refl (λ sync. sync) (out_leads h s.parts.entries d on))
 
   -- the state that it is out in knows it
-  pub out_known : IsTrue honest → (s : State) → StandsFor old s → ReadsOn old s → KnowsMerge (machine.merge_out s id) job.target (merge_task job)
+  pub out_known : IsTrue honest → (s : State) → StandsFor old s → ReadsOn old s → KnowsMerge (machine.merge_out s id) (merge_target job) (merge_task job)
   out_known h s stands reads =
       subst (λ (n : ℕ). KnowsMerge (machine.merge_out s id) n (merge_task job)) (sym came.target)
       (a_begun_merge_is_known old.memory old.catalog.next_table_id s stands.remembered id new.memory.trees came.trees (merge_task job) came.named.0 came.named.1
@@ -206,6 +206,6 @@ module _ (honest : Bool) (old new : Held) (kind : MergeKind) (id : ℕ) (none : 
   begun_serves (Err error) came h = nothing_serves honest old new kind id none begins left error came h
 
   pub begun_known : (result : Result MergeJob Error) → Came honest old new id result → IsTrue honest → (s : State) → StandsFor old s → ReadsOn old s
-      → IfOk (shown result) (λ job. IfSome job (λ job. KnowsMerge (machine.merge_out s id) job.target (merge_task job)))
+      → IfOk (shown result) (λ job. IfSome job (λ job. KnowsMerge (machine.merge_out s id) (merge_target job) (merge_task job)))
   begun_known (Ok job) came h s stands reads = out_known honest old new kind id job came left h s stands reads
   begun_known (Err error) came h s stands reads = tt

@@ -14,7 +14,7 @@ use Rattle.fjall_compaction.specs.Flushes as flushes
 use Rattle.fjall_compaction.specs.FlushPlans.{HaveFiles}
 use Rattle.fjall_jobs.specs.declared.made_table.MadeTable.{MadeTable}
 use Rattle.fjall_jobs.specs.declared.merge_made.MergeMade.{MergeMade}
-use Rattle.fjall_jobs.specs.Merges.{merge_task}
+use Rattle.fjall_jobs.specs.Made.{merge_tables, merged_task}
 use Rattle.fjall_recovery.specs.Known.{AreListed, IsGiven}
 use Rattle.fjall_recovery.proofs.ListedTables.{AreNext, given_apart, listed_in_place}
 use Rattle.fjall_tree.specs.Jobs.{merge_finished}
@@ -137,7 +137,7 @@ module _ (old new : Held) (made : MergeMade) (s : State) (stands : StandsFor old
   record_there = last old made s.parts.entries has
 
   pub has_tree : tree_at id old.memory.trees ≡ Some shape
-  has_tree = merging_tree id old.memory.trees (s.parts.entries id) (merge_task made.job) has.begun
+  has_tree = merging_tree id old.memory.trees (s.parts.entries id) (merged_task made) has.begun
 
   pub small : id < 2 ^ 64
   small =
@@ -181,7 +181,7 @@ module _ (old mid : Held) (made : MergeMade) (s : State) (stands : StandsFor old
   own = keyspace_of made
 
   abbrev tables : List MadeTable
-  tables = made.tables.items
+  tables = merge_tables made
 
   abbrev count : ℕ
   count = (out old made s.parts.entries has).tables

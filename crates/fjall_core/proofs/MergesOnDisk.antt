@@ -19,7 +19,8 @@ use Rattle.fjall_manifest.proofs.Outside.{within_keyspaces}
 use Rattle.fjall_manifest.proofs.Resting.{last_record}
 use Rattle.fjall_jobs.specs.declared.made_table.MadeTable.{MadeTable}
 use Rattle.fjall_jobs.specs.declared.merge_made.MergeMade.{MergeMade}
-use Rattle.fjall_jobs.specs.Merges.{IsMerged, merge_task}
+use Rattle.fjall_jobs.specs.Made.{merge_clears, merge_tables, merged_target, merged_task}
+use Rattle.fjall_jobs.specs.Merges.{IsMerged}
 use Rattle.fjall_jobs.specs.Tasks.{Task}
 use Rattle.fjall_journal.specs.Batches.{shown}
 use Rattle.fjall_journal.specs.Writer as writer
@@ -70,24 +71,24 @@ use Rattle.fjall_core.proofs.RootUnchanged.{within_finished, within_root, writin
 pub record MayMerge (old : Held) (made : MergeMade) : Type 0 where
   pub well : old.memory.poisoned ≡ false
   pub living : is_living (store_in old) (keyspace_of made) ≡ true
-  pub out : is_merge_out (merge_task made.job).id (shape_in (keyspace_of made) old.memory.trees).merge ≡ true
+  pub out : is_merge_out (merged_task made).id (shape_in (keyspace_of made) old.memory.trees).merge ≡ true
 
 -- the name of its job
-pub named_by : (made : MergeMade) (trees : Forest) (number id : ℕ) → number ≡ (merge_task made.job).id → id ≡ keyspace_of made
-    → is_merging trees (record { number = number; keyspace_id = id }) ≡ is_merging trees (job_of (merge_task made.job))
+pub named_by : (made : MergeMade) (trees : Forest) (number id : ℕ) → number ≡ (merged_task made).id → id ≡ keyspace_of made
+    → is_merging trees (record { number = number; keyspace_id = id }) ≡ is_merging trees (job_of (merged_task made))
 named_by made trees number id numbered at = λ i. is_merging trees (record { number = numbered i; keyspace_id = at i })
 
 -- so it is where all that was looked for in a core's memory
-pub may_merge : (view core : Held) (made : MergeMade) (number id : ℕ) → view ≡ core → number ≡ (merge_task made.job).id → id ≡ keyspace_of made → is_merging view.memory.trees (record { number = number; keyspace_id = id }) ≡ true
+pub may_merge : (view core : Held) (made : MergeMade) (number id : ℕ) → view ≡ core → number ≡ (merged_task made).id → id ≡ keyspace_of made → is_merging view.memory.trees (record { number = number; keyspace_id = id }) ≡ true
     → is_living (store_in view) id ≡ true → view.memory.poisoned ≡ false → MayMerge core made
 may_merge view core made number id same numbered at out lives well = record {
   well = ap (λ (h : Held). h.memory.poisoned) (sym same) ∙ well;
   living = (λ i. is_living (store_in (sym same i)) (sym at i)) ∙ lives;
-  out = ap (λ (h : Held). is_merging h.memory.trees (job_of (merge_task made.job))) (sym same) ∙ sym (named_by made view.memory.trees number id numbered at) ∙ out;
+  out = ap (λ (h : Held). is_merging h.memory.trees (job_of (merged_task made))) (sym same) ∙ sym (named_by made view.memory.trees number id numbered at) ∙ out;
 }
 
 -- so where it was looked for by its job's name, and nothing has changed
-pub may_go_on : (old mid : Held) (made : MergeMade) (number id : ℕ) → number ≡ (merge_task made.job).id → id ≡ keyspace_of made
+pub may_go_on : (old mid : Held) (made : MergeMade) (number id : ℕ) → number ≡ (merged_task made).id → id ≡ keyspace_of made
     → IsDueToMerge old (record { number = number; keyspace_id = id }) × (old.memory.poisoned ≡ false) × (mid ≡ old) → MayMerge mid made
 may_go_on old mid made number id numbered at (due, well, same) = subst (λ (h : Held). MayMerge h made) (sym same) (may_merge old old made number id refl numbered at due.0 due.1 well)
 
@@ -107,8 +108,8 @@ module _ (core : Held) (id : ℕ) (lives : is_living (store_in core) id ≡ true
 -- A merge that is out was begun with its task, where tables have these entries, and made of it what it should.
 pub record HasMade (old : Held) (made : MergeMade) (entries : ℕ → List (List Entry)) : Type 0 where
   pub may : MayMerge old made
-  pub begun : IsMerging (shape_in (keyspace_of made) old.memory.trees) (entries (keyspace_of made)) (merge_task made.job)
-  pub merged : IsMerged made.job.target (merge_task made.job) made.tables.items made.clears.items
+  pub begun : IsMerging (shape_in (keyspace_of made) old.memory.trees) (entries (keyspace_of made)) (merged_task made)
+  pub merged : IsMerged (merged_target made) (merged_task made) (merge_tables made) (merge_clears made)
 
 module _ (old : Held) (made : MergeMade) (entries : ℕ → List (List Entry)) (has : HasMade old made entries) where
   abbrev id : ℕ
@@ -118,7 +119,7 @@ module _ (old : Held) (made : MergeMade) (entries : ℕ → List (List Entry)) (
   m = old.memory
 
   abbrev task : Task
-  task = merge_task made.job
+  task = merged_task made
 
   abbrev shape : Shape
   shape = shape_in id m.trees
@@ -127,7 +128,7 @@ module _ (old : Held) (made : MergeMade) (entries : ℕ → List (List Entry)) (
   out = has.begun.out
 
   abbrev tables : List MadeTable
-  tables = made.tables.items
+  tables = merge_tables made
 
   abbrev pub does : Merge
   does = counted_as out made
@@ -179,7 +180,7 @@ module _ (old : Held) (made : MergeMade) (entries : ℕ → List (List Entry)) (
     at = record { home = known.home; stored = known.stored }
 
     counts : MergesTables does lists (entries id) h.last
-    counts = Finishing.counts j t m.trees entries m.records living_there task can h known.home made.job.target tables made.clears.items has.merged
+    counts = Finishing.counts j t m.trees entries m.records living_there task can h known.home (merged_target made) tables (merge_clears made) has.merged
 
     abbrev home_then : Home
     home_then = home_after does h
@@ -244,7 +245,7 @@ module _ (old : Held) (made : MergeMade) (entries : ℕ → List (List Entry)) (
       unfolding put_lies
       put_knows =
           let infos = fin.are.infos ∙ ap (λ (l : Fields). infos_from l.next_table_id tables) known.last in
-          let after = Finishing.are_then j t m.trees entries m.records living_there task can h known.home made.job.target tables made.clears.items has.merged fin.readers infos in
+          let after = Finishing.are_then j t m.trees entries m.records living_there task can h known.home (merged_target made) tables (merge_clears made) has.merged fin.readers infos in
           let trees = altered_at id (merge_finished fin.readers out) m.trees in
           knows_memory entries_after old mid (with_merge id out fin.readers (record_after does last) m) j next fin.is (record {
             shown = after.replayed;

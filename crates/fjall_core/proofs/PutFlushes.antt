@@ -3,6 +3,7 @@ use Rattle.std.proofs.Common.{◌≡◌, ◌⊎◌, ◌≤◌, ◌∙◌, inl, i
 use Rattle.fjall_base.specs.declared.error.Error.{Error}
 use Rattle.fjall_base.specs.declared.error.Error.TheVariants.{Io}
 use Rattle.fjall_jobs.specs.declared.flush_made.FlushMade.{FlushMade}
+use Rattle.fjall_jobs.specs.Made.{flush_tables}
 use Rattle.fjall_jobs.specs.Tasks.{Task}
 use Rattle.fjall_journal.specs.Writer.{IsIo}
 use Rattle.fjall_manager.specs.Journals.{staying}
@@ -30,7 +31,7 @@ there old made lives =
 pub put_failed : (honest : Type 0) (old mid new : Held) (made : FlushMade) (error : Error) → mid ≡ record old { disk = mid.disk } → new ≡ (if is_io error then record mid { memory = poisoned mid.memory } else mid)
     → is_living (store_in old) (keyspace_of made) ≡ true → IsOfFlush old.memory made
     → ForFlush old.memory (keyspace_of made)
-    (λ k out. IsFinishRefusal (last_known old.memory.records k) (flush_with (shape_in (keyspace_of made) old.memory.trees) out made.tables.items) old.disk.faults mid.disk.faults error)
+    (λ k out. IsFinishRefusal (last_known old.memory.records k) (flush_with (shape_in (keyspace_of made) old.memory.trees) out (flush_tables made)) old.disk.faults mid.disk.faults error)
     → ((IsIo error → ⊥) → mid.disk ≡ old.disk) → (honest → WroteFlush old.memory made old.disk mid.disk false) → Puts honest old made (Err error) new
 put_failed honest old mid new made (Io kind) same is lives out cause untouched wrote =
     let k = there old made lives in

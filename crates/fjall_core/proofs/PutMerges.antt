@@ -5,7 +5,7 @@ use Rattle.fjall_base.specs.declared.error.Error.{Error}
 use Rattle.fjall_base.specs.declared.error.Error.TheVariants.{Io}
 use Rattle.fjall_base.specs.Errors.{IsFault}
 use Rattle.fjall_jobs.specs.declared.merge_made.MergeMade.{MergeMade}
-use Rattle.fjall_jobs.specs.Merges.{merge_task}
+use Rattle.fjall_jobs.specs.Made.{merged_task}
 use Rattle.fjall_journal.specs.Writer.{IsIo}
 use Rattle.fjall_recovery.specs.Known.{last_known}
 use Rattle.fjall_tree.specs.Jobs.{is_merge_out}
@@ -22,11 +22,11 @@ use Rattle.fjall_core.proofs.MergesOnDisk.{living_keyspace, lives_so}
 
 -- the writing failed, or was refused
 pub put_failed : (honest : Type 0) (old mid new : Held) (made : MergeMade) (error : Error) → mid ≡ record old { disk = mid.disk } → new ≡ (if is_io error then record mid { memory = poisoned mid.memory } else mid)
-    → is_living (store_in old) (keyspace_of made) ≡ true → is_merge_out (merge_task made.job).id (shape_in (keyspace_of made) old.memory.trees).merge ≡ true
+    → is_living (store_in old) (keyspace_of made) ≡ true → is_merge_out (merged_task made).id (shape_in (keyspace_of made) old.memory.trees).merge ≡ true
     → ForMerge old.memory (keyspace_of made) (λ k out. IsMergeRefusal (last_known old.memory.records k) (counted_as out made) old.disk.faults mid.disk.faults error)
     → ((IsIo error → ⊥) → mid.disk ≡ old.disk) → (honest → WroteMerge old.memory made old.disk mid.disk false) → PutsMerge honest old made (Err error) new
 put_failed honest old mid new made (Io kind) same is lives out cause untouched wrote =
-    let there = merge_there (merge_task made.job).id (shape_in (keyspace_of made) old.memory.trees).merge out in
+    let there = merge_there (merged_task made).id (shape_in (keyspace_of made) old.memory.trees).merge out in
     let fault = cause (living_keyspace old (keyspace_of made) lives) there.0 (lives_so old (keyspace_of made) lives) there.1 in
     subst (λ (h : Held). PutsMerge honest old made (Err (Io kind)) h) (sym is) (record { memory_is = ap (λ (h : Held). poisoned h.memory) same; faults = fault }, wrote)
 put_failed honest old mid new made error same is lives out cause untouched wrote = (is ∙ same ∙ (λ i. record old { disk = untouched (λ io. io) i }), cause)

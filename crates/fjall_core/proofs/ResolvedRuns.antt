@@ -2,12 +2,12 @@
 use Rattle.std.proofs.Common.{◌≡◌, ℕ, ◌+◌, ◌<◌, List, [], ◌∷◌, ◌++◌, length, take, get_or, sym, ◌∙◌, ap, subst, append_assoc, arith}
 use Rattle.std.proofs.lemmas.List.{append-nil, take_more}
 use Rattle.fjall_history.specs.declared.reply.Reply.{Reply}
-use Rattle.fjall_jobs.specs.declared.merge_job.MergeJob.{MergeJob}
 use Rattle.fjall_machine.specs.declared.call.Call.{Call}
 use Rattle.fjall_machine.specs.Machine.{State}
 use Rattle.fjall_machine.specs.Places.{resolved, resolved_all, resolved_behind}
 use Rattle.fjall_machine.specs.Shapes.{shape_of}
 use Rattle.fjall_core.specs.Durables.{Durable}
+use Rattle.fjall_core.specs.declared.jobs.Job.{Job}
 use Rattle.fjall_core.specs.Holding.{Held}
 use Rattle.fjall_core.specs.Jobs.{KeepsMerges, KnowsMerges}
 use Rattle.fjall_core.specs.Standing.{Owes, OwesAll, ServesWhere}
@@ -35,14 +35,14 @@ module _ (calls : List Call) (replies more : List Reply) (i : ℕ) (call : Call)
       (λ j. resolved_all ((take_more calls i call lt ∙ ap (λ c. take i calls ++ c ∷ []) (sym is)) j) (pushed j))
       ∙ resolved_more [] (take i calls) replies call reply count
 
-  pub call_more : (jobs later : List MergeJob) (mid new : Held) (s : State) (d : Durable) → SoFar jobs mid s d (so_far calls i replies) replies → ServesWhere (λ s. KnowsMerges s jobs) mid (shape_of (resolved replies call)) reply new
+  pub call_more : (jobs later : List Job) (mid new : Held) (s : State) (d : Durable) → SoFar jobs mid s d (so_far calls i replies) replies → ServesWhere (λ s. KnowsMerges s jobs) mid (shape_of (resolved replies call)) reply new
       → KeepsMerges mid jobs (shape_of (resolved replies call)) reply later → SoFar later new s d (so_far calls (i + 1) more) more
   call_more jobs later mid new s d before serves keeps =
       subst (λ cs. SoFar later new s d cs more) (sym grows)
       (subst (λ rs. SoFar later new s d (so_far calls i replies ++ resolved replies call ∷ []) rs) (sym pushed)
       (one_more jobs later mid new s d (so_far calls i replies) replies (resolved replies call) reply before serves keeps))
 
-  pub runs_more : (jobs later : List MergeJob) (old mid new : Held) → RunsKnown jobs old (so_far calls i replies) replies mid → ServesWhere (λ s. KnowsMerges s jobs) mid (shape_of (resolved replies call)) reply new
+  pub runs_more : (jobs later : List Job) (old mid new : Held) → RunsKnown jobs old (so_far calls i replies) replies mid → ServesWhere (λ s. KnowsMerges s jobs) mid (shape_of (resolved replies call)) reply new
       → KeepsMerges mid jobs (shape_of (resolved replies call)) reply later → RunsKnown later old (so_far calls (i + 1) more) more new
   runs_more jobs later old mid new before serves keeps =
       subst (λ cs. RunsKnown later old cs more new) (sym grows)

@@ -3,11 +3,11 @@ use Rattle.std.proofs.Common.{List, [], ◌∷◌, ◌++◌, refl, sym, ◌∙�
 use Rattle.fjall_base.specs.Store.{Command}
 use Rattle.fjall_base.specs.Disk.{LeavesOnly}
 use Rattle.fjall_files.specs.Tidy.{StaysTidy}
-use Rattle.fjall_jobs.specs.declared.merge_job.MergeJob.{MergeJob}
 use Rattle.fjall_machine.specs.declared.call.Call.{Call}
 use Rattle.fjall_machine.specs.Shapes.{shape_of}
 use Rattle.fjall_history.specs.declared.reply.Reply.{Reply}
 use Rattle.fjall_machine.specs.Machine.{Run, State, Step}
+use Rattle.fjall_core.specs.declared.jobs.Job.{Job}
 use Rattle.fjall_core.specs.Holding.{Held}
 use Rattle.fjall_core.specs.Durables.{Durable, StandsAmid}
 use Rattle.fjall_core.specs.Crashes.{attempt, RunOn, SafeAt}
@@ -18,7 +18,7 @@ use Rattle.fjall_core.proofs.AttemptedCommands.{run_tries}
 use Rattle.fjall_core.proofs.KeptMerges.{none_known}
 
 -- a run so far: the state that the core is in now, which knows the merges that are kept, and what the core stands on
-pub record SoFar (jobs : List MergeJob) (new : Held) (s : State) (d : Durable) (calls : List Call) (replies : List Reply) : Type 0 where
+pub record SoFar (jobs : List Job) (new : Held) (s : State) (d : Durable) (calls : List Call) (replies : List Reply) : Type 0 where
   pub tried : List Command
   pub state : State
   pub durable : Durable
@@ -32,7 +32,7 @@ pub none_yet : (core : Held) (s : State) (d : Durable) → StandsFor core s → 
 none_yet core s d stands reads on = record { tried = []; state = s; durable = d; stands = stands; reads = reads; on = on; run = (refl, refl, refl); knows = none_known s }
 
 -- one call more
-pub one_more : (jobs later : List MergeJob) (mid new : Held) (s : State) (d : Durable) (calls : List Call) (replies : List Reply) (c : Call) (r : Reply) → SoFar jobs mid s d calls replies
+pub one_more : (jobs later : List Job) (mid new : Held) (s : State) (d : Durable) (calls : List Call) (replies : List Reply) (c : Call) (r : Reply) → SoFar jobs mid s d calls replies
     → ServesWhere (λ s. KnowsMerges s jobs) mid (shape_of c) r new → KeepsMerges mid jobs (shape_of c) r later → SoFar later new s d (calls ++ c ∷ []) (replies ++ r ∷ [])
 one_more jobs later mid new s d calls replies c r so_far serves keeps =
     let next = serves.goes_on so_far.state so_far.stands so_far.reads so_far.knows in
@@ -66,7 +66,7 @@ run_behind s m t d n e [] more (r ∷ replies) others tried rest first run = abs
 run_behind s m t d n e (c ∷ calls) more [] others tried rest first run = absurd first
 
 -- a whole run
-pub ends : (jobs : List MergeJob) (old new : Held) (s : State) (d : Durable) (calls : List Call) (replies : List Reply) → StandsOn old s.parts.entries d → SoFar jobs new s d calls replies → RunsOn old calls replies new s d
+pub ends : (jobs : List Job) (old new : Held) (s : State) (d : Durable) (calls : List Call) (replies : List Reply) → StandsOn old s.parts.entries d → SoFar jobs new s d calls replies → RunsOn old calls replies new s d
 ends jobs old new s d calls replies on end =
     let passes = run_passes s end.state d end.durable calls replies end.tried on.rests end.run in
     record {
@@ -114,14 +114,14 @@ run_more s m t [] (r' ∷ replies) c r run step = absurd run
 run_more s m t (c' ∷ calls) [] c r run step = absurd run
 
 -- a run so far, to a state that knows the merges that are kept
-abbrev pub RunsKnown : List MergeJob → Held → List Call → List Reply → Held → Type 0
+abbrev pub RunsKnown : List Job → Held → List Call → List Reply → Held → Type 0
 RunsKnown jobs old calls replies new = (s : State) → StandsFor old s → ReadsOn old s → (t : State) × StandsFor new t × ReadsOn new t × Run s calls replies t × KnowsMerges t jobs
 
 pub runs_none : (core : Held) → RunsKnown [] core [] [] core
 runs_none core s stands reads = (s, stands, reads, refl, none_known s)
 
 -- one call more
-pub runs_push : (jobs later : List MergeJob) (old mid new : Held) (calls : List Call) (replies : List Reply) (c : Call) (r : Reply) → RunsKnown jobs old calls replies mid
+pub runs_push : (jobs later : List Job) (old mid new : Held) (calls : List Call) (replies : List Reply) (c : Call) (r : Reply) → RunsKnown jobs old calls replies mid
     → ServesWhere (λ s. KnowsMerges s jobs) mid (shape_of c) r new → KeepsMerges mid jobs (shape_of c) r later → RunsKnown later old (calls ++ c ∷ []) (replies ++ r ∷ []) new
 runs_push jobs later old mid new calls replies c r runs serves keeps s stands reads =
     let so_far = runs s stands reads in
@@ -129,5 +129,5 @@ runs_push jobs later old mid new calls replies c r runs serves keeps s stands re
     (next.0, next.1, next.2, run_more s so_far.0 next.0 calls replies c r so_far.3 next.3, keeps so_far.0 so_far.1 so_far.2 so_far.4 next.0 next.3)
 
 -- a whole run
-pub runs_end : (jobs : List MergeJob) (old new : Held) (calls : List Call) (replies : List Reply) → RunsKnown jobs old calls replies new → Runs old calls replies new
+pub runs_end : (jobs : List Job) (old new : Held) (calls : List Call) (replies : List Reply) → RunsKnown jobs old calls replies new → Runs old calls replies new
 runs_end jobs old new calls replies runs s stands reads = let end = runs s stands reads in (end.0, end.1, end.2, end.3)

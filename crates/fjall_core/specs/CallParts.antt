@@ -18,6 +18,7 @@ use Rattle.fjall_jobs.specs.declared.flush_job.FlushJob.{FlushJob}
 use Rattle.fjall_jobs.specs.declared.flush_made.FlushMade.{FlushMade}
 use Rattle.fjall_jobs.specs.declared.merge_made.MergeMade.{MergeMade}
 use Rattle.fjall_jobs.specs.Flushes.{flush_task}
+use Rattle.fjall_jobs.specs.Made.{flush_tables, merge_tables}
 use Rattle.fjall_journal.specs.declared.persist_mode.PersistMode.TheVariants.{SyncAll}
 use Rattle.fjall_recovery.specs.Known.{last_known}
 use Rattle.fjall_trees.specs.Tables.{shape_in}
@@ -183,15 +184,15 @@ pub record WroteFlush (m : Remembered) (made : FlushMade) (old new : Meaning) (d
   pub leaves : ForFinishing old m made (λ id records t h next. LeavesOnly old new (λ image. HasTree image t ⊎ HasTree image next))
   pub lies : done ≡ true → ForFinishing old m made (λ id records t h next. LiesInTree (state_in new) records next)
   pub beside : ForFlush m (keyspace_of made) (λ k out. KeepsTables (keyspace_of made) (last_known m.records k).next_table_id old new)
-  pub fits : done ≡ true → ForFlush m (keyspace_of made) (λ k out. (last_known m.records k).next_table_id + length made.tables.items < 2 ^ 64)
-  pub files : done ≡ true → ForFlush m (keyspace_of made) (λ k out. HaveFiles new (keyspace_of made) (last_known m.records k).next_table_id made.tables.items)
+  pub fits : done ≡ true → ForFlush m (keyspace_of made) (λ k out. (last_known m.records k).next_table_id + length (flush_tables made) < 2 ^ 64)
+  pub files : done ≡ true → ForFlush m (keyspace_of made) (λ k out. HaveFiles new (keyspace_of made) (last_known m.records k).next_table_id (flush_tables made))
   pub served : ForFinishing old m made (λ id records t h next. IsNoFolder (state_in old (table_name id h.last.next_table_id)).now → AllServed old new)
   pub kinds : StaysTidy old new
 
 -- the flush of that keyspace, which was out, is finished in memory
 abbrev pub PutInMemory : Remembered → FlushMade → Remembered → Type 0
 PutInMemory old made new =
-    ForFlush old (keyspace_of made) (λ k out. IsFlushFinished old (keyspace_of made) (last_known old.records k) out made.tables.items new)
+    ForFlush old (keyspace_of made) (λ k out. IsFlushFinished old (keyspace_of made) (last_known old.records k) out (flush_tables made) new)
 
 -- the flush is finished, on the disk and in memory; or a fault of the disk has poisoned the core; or nothing changed, for want of memory,
 -- of room in the record, or of an id for the table
@@ -201,7 +202,7 @@ Puts honest old made (Ok _) new =
 Puts honest old made (Err (Io kind)) new = Poisons old.memory old new × (honest → WroteFlush old.memory made old.disk new.disk false)
 Puts honest old made (Err error) new =
     (new ≡ old) × ForFlush old.memory (keyspace_of made)
-    (λ k out. IsFlushPlanRefusal (last_known old.memory.records k) (flush_with (shape_in (keyspace_of made) old.memory.trees) out made.tables.items) error)
+    (λ k out. IsFlushPlanRefusal (last_known old.memory.records k) (flush_with (shape_in (keyspace_of made) old.memory.trees) out (flush_tables made)) error)
 
 -- What an eviction did to the disk: a crash leaves all but some of the journals that go, the oldest ones; where it was done the writer
 -- goes on behind the others, and where it wasn't it stopped; and what stands in `keyspaces` stayed, in sight wherever the writer goes on.
@@ -240,10 +241,10 @@ pub record WroteMerge (m : Remembered) (made : MergeMade) (old new : Meaning) (d
   pub leaves : merged.ForMerging old m made (λ id records t h does next. LeavesOnly old new (λ image. HasTree image t ⊎ HasTree image next))
   pub lies : done ≡ true → merged.ForMerging old m made (λ id records t h does next. LiesInTree (state_in new) records next)
   pub beside : merged.ForMerge m (merged.keyspace_of made)
-      (λ k out. merging.MergeKeepsTables (merged.keyspace_of made) (last_known m.records k).next_table_id (length made.tables.items) old new)
-  pub fits : done ≡ true → merged.ForMerge m (merged.keyspace_of made) (λ k out. (last_known m.records k).next_table_id + length made.tables.items < 2 ^ 64)
+      (λ k out. merging.MergeKeepsTables (merged.keyspace_of made) (last_known m.records k).next_table_id (length (merge_tables made)) old new)
+  pub fits : done ≡ true → merged.ForMerge m (merged.keyspace_of made) (λ k out. (last_known m.records k).next_table_id + length (merge_tables made) < 2 ^ 64)
   pub files : done ≡ true → merged.ForMerge m (merged.keyspace_of made)
-      (λ k out. HaveFiles new (merged.keyspace_of made) (last_known m.records k).next_table_id made.tables.items)
+      (λ k out. HaveFiles new (merged.keyspace_of made) (last_known m.records k).next_table_id (merge_tables made))
   pub served : merged.ForMerging old m made (λ id records t h does next. merging.HasNoTableFolder old id → AllServed old new)
   pub kinds : StaysTidy old new
 

@@ -4,5 +4,4 @@ pub mod Durables
 pub mod Crashes
 pub mod Standing
 pub mod Openings
-pub mod Lives
 pub mod Jobs

@@ -1,7 +1,7 @@
 -- What opening makes of a disk.
 use Rattle.std.specs.Prelude.{◌≡◌, ◌⊎◌, ℕ, true, List, [], length, Option, Err, unwrap_or}
 use Rattle.fjall_base.specs.Store.{Store, Command, fold, kept}
-use Rattle.fjall_base.specs.Disk.{DiskState, LeavesOnly, Meaning, Took, standing, state_in}
+use Rattle.fjall_base.specs.Disk.{DiskState, DiskStep, Image, Leaves, LeavesBy, LeavesOnly, Meaning, Took, disk_of, standing, state_in}
 use Rattle.fjall_base.specs.declared.error.Error.{Error}
 use Rattle.fjall_base.specs.declared.error.Error.TheVariants.{Io}
 use Rattle.fjall_files.specs.Tidy.{StaysTidy}
@@ -14,10 +14,11 @@ use Rattle.fjall_journal.specs.declared.recovery_mode.RecoveryMode.{RecoveryMode
 use Rattle.std.specs.FinMap.{get}
 use Rattle.fjall_recovery.specs.Folders as folders
 use Rattle.fjall_recovery.specs.Folders.{Contents}
-use Rattle.fjall_recovery.specs.Refusals.{FolderRefusesIn, IsDue}
+use Rattle.fjall_recovery.specs.Refusals.{FolderRefusesIn, HasTornTail, IsDue, IsTornTail}
 use Rattle.fjall_recovery.specs.Amid.{HoldsAmid, IsBeginning, StandsAmid}
 use Rattle.fjall_recovery.specs.Held.{IsOpenFolder, number_held}
 use Rattle.fjall_recovery.specs.Homes.{no_fields}
+use Rattle.fjall_wild.specs.Wild.{SurvivesUnforged}
 use Rattle.fjall_opening.specs.Opened.{AreLeftIn, HaveEntriesIn, IsSomeFolder, store_entries}
 use Rattle.fjall_table.specs.Blocks.{Entry}
 use Rattle.fjall_table_reader.specs.Readers.{SomeTableIsWrong}
@@ -126,3 +127,28 @@ RefusalBlames error old new = BlamesDevice (reply_of (Err error)) old new
 -- for whatever base, with a beginning of which commands, the disk holds
 abbrev pub ForHeld : Meaning → (Store → List Command → Type 0) → Type 0
 ForHeld disk Holds = (base : Store) (pending : List Command) → HoldsAmid (state_in disk) base pending → Holds base pending
+
+-- ---- wild crashes
+
+-- A wild crash left what is on the disk: at some moment of steps of some disk, of each file the synced bytes and any others behind
+-- them that forge nothing. Of whatever a usual crash leaves at the moments of these steps this is so.
+pub record IsLeftWildly (disk : DiskState) (IsSo : Image → Type 0) : Type 0 where
+  pub old : DiskState
+  pub steps : List DiskStep
+  pub usual : (image : Image) → Leaves old steps image → IsSo image
+  pub image : Image
+  pub left : LeavesBy SurvivesUnforged old steps image
+  pub put : disk ≡ disk_of image
+
+-- The core opened as the base with a beginning of all these commands, which has at least those.
+pub record OpensWithin (core : Held) (base : Store) (least all : List Command) : Type 0 where
+  pub front : List Command
+  pub holds : IsBeginning least front
+  pub within : IsBeginning front all
+  pub opens : OpensAs core (kept (fold base front))
+
+-- Refused by name in this mode: what stands on the disk is no folder that opens, but for a torn tail that the mode refuses; and
+-- nothing has changed.
+pub record IsRefusedByName (mode : RecoveryMode) (old new : Meaning) (error : Error) : Type 0 where
+  pub unsound : (folder : Option Contents) → IsOpenFolder (standing (state_in old)) folder → IsTornTail mode (HasTornTail (standing (state_in old))) error
+  pub same : Took old new []

@@ -2,6 +2,7 @@
 
 ghost use Rattle.std.specs.Prelude.{◌≡◌, ◌⊎◌, ◌<◌, ◌≤◌, ◌-◌, ◌^◌, false, None, Ok, Some, IfErr, IfNone, IfOk, IfSome, IsTrue, OnErr, true};
 ghost use Rattle.fjall_jobs.specs.Flushes.{flush_task};
+ghost use Rattle.fjall_jobs.specs.Made.{flushed_task};
 ghost use Rattle.fjall_jobs.specs.Tasks.{Task};
 ghost use Rattle.fjall_machine.specs.Finishing.{keyspace_of};
 ghost use Rattle.fjall_machine.specs.Machine.{begins_flush, is_flushing, is_living};
@@ -96,7 +97,7 @@ impl<D: Disk> Engine<D> {
     // Finishes a flush that is out of a keyspace that lives: on the disk, and then in memory.
     fn put_flush(&mut self, made: &FlushMade) -> Result<()>
         requires living { is_living (store_in self.old) (keyspace_of made.now) ≡ true }
-        requires out { is_flushing self.old.memory.trees (job_of (flush_task made.now.job)) ≡ true }
+        requires out { is_flushing self.old.memory.trees (job_of (flushed_task made.now)) ≡ true }
         ensures puts { IsOfFlush self.old.memory made.now → Puts (IsTrue D.honest) self.old made.now result self.new }
         ensures later { self.old.disk.faults ≤ self.new.disk.faults }
         ensures poisons { OnErr result ((self.new.disk ≡ self.old.disk) ⊎ (self.new.memory.poisoned ≡ true)) }
@@ -112,7 +113,7 @@ impl<D: Disk> Engine<D> {
     // Finishes a flush that isn't stale, and removes the journals that nobody wants any more.
     fn finish(&mut self, made: &FlushMade) -> Result<()>
         requires living { is_living (store_in self.old) (keyspace_of made.now) ≡ true }
-        requires out { is_flushing self.old.memory.trees (job_of (flush_task made.now.job)) ≡ true }
+        requires out { is_flushing self.old.memory.trees (job_of (flushed_task made.now)) ≡ true }
         ensures finishes { IsOfFlush self.old.memory made.now → Finishes (IsTrue D.honest) self.old made.now result self.new }
         ensures later { self.old.disk.faults ≤ self.new.disk.faults }
         ensures poisons { OnErr result ((self.new.disk ≡ self.old.disk) ⊎ (self.new.memory.poisoned ≡ true)) }
@@ -147,11 +148,11 @@ impl<D: Disk> Engine<D> {
 
     // Whether the flush was finished, where it isn't stale.
     fn settle(&mut self, made: &FlushMade) -> Result<bool>
-        ensures serves { IsTrue D.honest → KnowsIfDue self.old (flush_task made.now.job)
-            → Serves self.old (OfFlushFinish (job_of (flush_task made.now.job))) (flag_reply result) self.new }
-        ensures owes { KnowsIfDue self.old (flush_task made.now.job)
-            → Owes self.old (OfFlushFinish (job_of (flush_task made.now.job))) (flag_reply result) self.new }
-        ensures stale { is_flushing self.old.memory.trees (job_of (flush_task made.now.job)) ≡ false → (result ≡ Ok false) × (self.new ≡ self.old) }
+        ensures serves { IsTrue D.honest → KnowsIfDue self.old (flushed_task made.now)
+            → Serves self.old (OfFlushFinish (job_of (flushed_task made.now))) (flag_reply result) self.new }
+        ensures owes { KnowsIfDue self.old (flushed_task made.now)
+            → Owes self.old (OfFlushFinish (job_of (flushed_task made.now))) (flag_reply result) self.new }
+        ensures stale { is_flushing self.old.memory.trees (job_of (flushed_task made.now)) ≡ false → (result ≡ Ok false) × (self.new ≡ self.old) }
         ensures later { self.old.disk.faults ≤ self.new.disk.faults }
         ensures poisons { OnErr result ((self.new.disk ≡ self.old.disk) ⊎ (self.new.memory.poisoned ≡ true)) }
         ensures keeps { (task : Task) → KnowsTask self.old.memory task → KnowsTask self.new.memory task }
@@ -180,13 +181,13 @@ impl<D: Disk> Engine<D> {
     /// those of a flush that is out is put in its place, and `serves` and `owes` say nothing of that.
     pub fn flush_finish(&mut self, made: FlushMade) -> std::result::Result<bool, Refused<FlushMade>>
         // Where memory knows the flush, if it would take effect, the call is a step.
-        ensures serves { IsTrue D.honest → KnowsIfDue self.old (flush_task made.job)
-            → Serves self.old (OfFlushFinish (job_of (flush_task made.job))) (finish_reply result) self.new }
-        ensures owes { KnowsIfDue self.old (flush_task made.job)
-            → Owes self.old (OfFlushFinish (job_of (flush_task made.job))) (finish_reply result) self.new }
+        ensures serves { IsTrue D.honest → KnowsIfDue self.old (flushed_task made)
+            → Serves self.old (OfFlushFinish (job_of (flushed_task made))) (finish_reply result) self.new }
+        ensures owes { KnowsIfDue self.old (flushed_task made)
+            → Owes self.old (OfFlushFinish (job_of (flushed_task made))) (finish_reply result) self.new }
         // Whatever was made, one that isn't out changes nothing; after a refusal that came behind a change of the disk the core is poisoned;
         // and what is known of flushes stays known.
-        ensures stale { is_flushing self.old.memory.trees (job_of (flush_task made.job)) ≡ false → (result ≡ Ok false) × (self.new ≡ self.old) }
+        ensures stale { is_flushing self.old.memory.trees (job_of (flushed_task made)) ≡ false → (result ≡ Ok false) × (self.new ≡ self.old) }
         ensures back { IfErr result (λ refused. refused.value ≡ made) }
         ensures later { self.old.disk.faults ≤ self.new.disk.faults }
         ensures poisons { OnErr result ((self.new.disk ≡ self.old.disk) ⊎ (self.new.memory.poisoned ≡ true)) }

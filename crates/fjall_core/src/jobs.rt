@@ -1,83 +1,92 @@
 //! The jobs that a list of calls keeps while they are out.
 
-ghost use Rattle.std.specs.Prelude.{◌≡◌, ◌≢◌, ◌+◌, ◌≤◌, [], None, Some, IfOk, IsOkUnless, if◌then◌else◌, position, vec_capacity, vec_len};
+ghost use Rattle.std.specs.Prelude.{◌≡◌, ◌≢◌, ◌+◌, ◌≤◌, None, position, vec_capacity, vec_len};
 ghost use Rattle.fjall_base.specs.declared.error.Error.TheVariants.{OutOfMemory};
-ghost use Rattle.fjall_core.specs.Jobs.{Finds, is_merge_named, is_named};
+ghost use Rattle.fjall_core.specs.Jobs.{Finds, is_kind, is_named, kind_of, name_of};
 
-use fjall_base::{Error, Result, StorageError};
+use fjall_base::{Error, StorageError};
 use fjall_history::JobId;
 use fjall_jobs::{FlushJob, MergeJob};
-use std::alloc::Global;
+use fjall_machine::MergeKind;
 
-/// The jobs that are out, and that a list of calls is to run and finish: flushes and merges, each in the order of their calls.
-#[derive(Drop)]
-pub struct Jobs {
-    pub flushes: Vec<FlushJob>,
-    pub merges: Vec<MergeJob>,
+/// Which kind a job is of.
+#[derive(Debug, Clone, Copy, PartialEq, Eq)]
+pub(crate) enum JobKind {
+    /// A flush.
+    Flush,
+    /// A merge, a due or a major one.
+    Merge,
 }
 
-impl Jobs {
-    /// No jobs, with room for so many of each kind. It is refused for want of memory alone.
-    pub fn with_capacity(alloc: Global, count: usize) -> Result<Jobs>
-        ensures flushes { IfOk result (λ jobs. jobs.flushes.items ≡ []) }
-        ensures merges { IfOk result (λ jobs. jobs.merges.items ≡ []) }
-        ensures flush_room { IfOk result (λ jobs. count ≤ vec_capacity jobs.flushes) }
-        ensures merge_room { IfOk result (λ jobs. count ≤ vec_capacity jobs.merges) }
-        ensures only { IsOkUnless result Error.OutOfMemory }
+/// Which job of a keyspace is to begin.
+#[derive(Debug, Clone, Copy, PartialEq, Eq)]
+pub(crate) enum JobBegin {
+    /// A flush.
+    Flush,
+    /// A merge of this kind.
+    Merge(MergeKind),
+}
+
+/// A job that is out, and that a list of calls is to run and finish.
+#[derive(Drop)]
+pub enum Job {
+    /// A flush.
+    Flush(FlushJob),
+    /// A merge.
+    Merge(MergeJob),
+}
+
+impl Job {
+    /// The name that the call which began it is answered with.
+    pub fn name(&self) -> JobId
+        ensures { result ≡ name_of self.now }
     {
-        let flushes = Vec::with_capacity(alloc, count)?;
-        let merges = Vec::with_capacity(alloc, count)?;
-        Ok(Jobs { flushes, merges })
+        match self {
+            Job::Flush(job) => JobId {
+                number: job.id(),
+                keyspace_id: job.keyspace_id(),
+            },
+            Job::Merge(job) => JobId {
+                number: job.id(),
+                keyspace_id: job.keyspace_id(),
+            },
+        }
+    }
+
+    // Whether it is of this kind.
+    fn is_of(&self, kind: JobKind) -> bool
+        ensures { result ≡ is_kind kind (kind_of self.now) }
+    {
+        match self {
+            Job::Flush(_) => matches!(kind, JobKind::Flush),
+            Job::Merge(_) => matches!(kind, JobKind::Merge),
+        }
+    }
+
+    // Whether it is the job of this kind and name.
+    fn is_named(&self, kind: JobKind, job: JobId) -> bool
+        ensures { result ≡ is_named kind job self.now }
+    {
+        let name = self.name();
+        self.is_of(kind) && name.number == job.number && name.keyspace_id == job.keyspace_id
     }
 }
 
-// Whether it is the job of this name.
-fn is_named(kept: &FlushJob, job: JobId) -> bool
-    ensures { result ≡ is_named job kept.now }
+// Where the job of this kind and name stands among these.
+fn place_of(jobs: &[Job], kind: JobKind, job: JobId) -> Option<usize>
+    ensures { result ≡ position (λ kept. is_named kind job kept) jobs.now }
 {
-    kept.id() == job.number && kept.keyspace_id() == job.keyspace_id
+    jobs.iter().position(|kept| kept.is_named(kind, job))
 }
 
-// Where the flush of this name stands among these.
-fn place_of(jobs: &[FlushJob], job: JobId) -> Option<usize>
-    ensures { result ≡ position (λ kept. is_named job kept) jobs.now }
-{
-    jobs.iter().position(|kept| is_named(kept, job))
-}
-
-// Takes the flush of this name out of a list, where it is there.
-pub(crate) fn take_job(jobs: &mut Vec<FlushJob>, job: JobId) -> Option<FlushJob>
-    ensures finds { Finds (is_named job) jobs.old.items result jobs.new.items }
+// Takes the job of this kind and name out of a list, where it is there.
+pub(crate) fn take_job(jobs: &mut Vec<Job>, kind: JobKind, job: JobId) -> Option<Job>
+    ensures finds { Finds (is_named kind job) jobs.old.items result jobs.new.items }
     ensures room { vec_capacity jobs.new ≡ vec_capacity jobs.old }
     ensures len { vec_len jobs.new ≤ vec_len jobs.old }
     ensures less { result ≢ None → vec_len jobs.new + 1 ≡ vec_len jobs.old }
 {
-    let place = place_of(jobs, job)?;
-    Some(jobs.remove(place))
-}
-
-// Whether it is the merge of this name.
-fn is_merge_named(kept: &MergeJob, job: JobId) -> bool
-    ensures { result ≡ is_merge_named job kept.now }
-{
-    kept.id() == job.number && kept.keyspace_id() == job.keyspace_id
-}
-
-// Where the merge of this name stands among these.
-fn merge_place_of(jobs: &[MergeJob], job: JobId) -> Option<usize>
-    ensures { result ≡ position (λ kept. is_merge_named job kept) jobs.now }
-{
-    jobs.iter().position(|kept| is_merge_named(kept, job))
-}
-
-// Takes the merge of this name out of a list, where it is there.
-pub(crate) fn take_merge(jobs: &mut Vec<MergeJob>, job: JobId) -> Option<MergeJob>
-    ensures finds { Finds (is_merge_named job) jobs.old.items result jobs.new.items }
-    ensures room { vec_capacity jobs.new ≡ vec_capacity jobs.old }
-    ensures len { vec_len jobs.new ≤ vec_len jobs.old }
-    ensures less { result ≢ None → vec_len jobs.new + 1 ≡ vec_len jobs.old }
-{
-    let place = merge_place_of(jobs, job)?;
+    let place = place_of(jobs, kind, job)?;
     Some(jobs.remove(place))
 }
 

@@ -33,7 +33,10 @@ impl<D: Disk> Engine<D> {
         ensures held { result ≡ counted (version_count (shape_in id self.now.memory.trees)) }
         ensures parts { (s : State) → StandsFor self.now s → result ≡ counted (version_count (shape_in id s.parts.trees)) }
     {
-        self.memory.approximate_len(id)
+        match self.memory.tree(id) {
+            Some(tree) => tree.approximate_len(),
+            None => 0,
+        }
     }
 
     /// How many sealed memtables a keyspace has; 0 for an id without a keyspace.
@@ -41,7 +44,10 @@ impl<D: Disk> Engine<D> {
         ensures held { result ≡ length (shape_in id self.now.memory.trees).memory.sealed }
         ensures parts { (s : State) → StandsFor self.now s → result ≡ length (shape_in id s.parts.trees).memory.sealed }
     {
-        self.memory.sealed_memtable_count(id)
+        match self.memory.tree(id) {
+            Some(tree) => tree.sealed_memtable_count(),
+            None => 0,
+        }
     }
 
     /// The sizes of the memtables of all keyspaces that live, added up, each version its key, its value and 16 bytes. It stops

@@ -1,7 +1,8 @@
 //! Merges: tables that become others, at level 1, without the versions that nobody reads any more.
 
 ghost use Rattle.std.specs.Prelude.{◌≡◌, false, IfErr, IfNone, IfOk, IfSome, IsTrue, Ok, Some, true};
-ghost use Rattle.fjall_jobs.specs.Merges.{merge_task};
+ghost use Rattle.fjall_jobs.specs.Made.{merged_target, merged_task};
+ghost use Rattle.fjall_jobs.specs.Merges.{merge_target, merge_task};
 ghost use Rattle.fjall_tree.specs.Jobs.{is_merge_out};
 ghost use Rattle.fjall_machine.specs.declared.merge_kind.MergeKind.TheVariants.{Due, Major};
 ghost use Rattle.fjall_machine.specs.Machine.{State, is_living, is_merging, merge_count, merge_out};
@@ -24,7 +25,7 @@ impl<D: Disk> Engine<D> {
         ensures serves { IsTrue D.honest → Serves self.old (OfMergeBegin kind id) (merge_job_reply result) self.new }
         ensures owes { Owes self.old (OfMergeBegin kind id) (merge_job_reply result) self.new }
         ensures knows { IsTrue D.honest → (s : State) → StandsFor self.old s → ReadsOn self.old s
-            → IfOk result (λ job. IfSome job (λ job. KnowsMerge (merge_out s id) job.target (merge_task job))) }
+            → IfOk result (λ job. IfSome job (λ job. KnowsMerge (merge_out s id) (merge_target job) (merge_task job))) }
     {
         if let Some(error) = self.memory.rotation_refusal(id) {
             return Err(error);
@@ -54,7 +55,7 @@ impl<D: Disk> Engine<D> {
         ensures owes { Owes self.old (OfMergeBegin Due id) (merge_job_reply result) self.new }
         // Each state that the core stood for knows the merge, once it is out.
         ensures knows { IsTrue D.honest → (s : State) → StandsFor self.old s → ReadsOn self.old s
-            → IfOk result (λ job. IfSome job (λ job. KnowsMerge (merge_out s id) job.target (merge_task job))) }
+            → IfOk result (λ job. IfSome job (λ job. KnowsMerge (merge_out s id) (merge_target job) (merge_task job))) }
     {
         self.begin_merge(MergeKind::Due, id)
     }
@@ -66,7 +67,7 @@ impl<D: Disk> Engine<D> {
         ensures serves { IsTrue D.honest → Serves self.old (OfMergeBegin Major id) (merge_job_reply result) self.new }
         ensures owes { Owes self.old (OfMergeBegin Major id) (merge_job_reply result) self.new }
         ensures knows { IsTrue D.honest → (s : State) → StandsFor self.old s → ReadsOn self.old s
-            → IfOk result (λ job. IfSome job (λ job. KnowsMerge (merge_out s id) job.target (merge_task job))) }
+            → IfOk result (λ job. IfSome job (λ job. KnowsMerge (merge_out s id) (merge_target job) (merge_task job))) }
     {
         self.begin_merge(MergeKind::Major, id)
     }
@@ -74,7 +75,7 @@ impl<D: Disk> Engine<D> {
     // Finishes a merge that is out of a keyspace that lives: on the disk, and then in memory. The tables that it took stand still.
     fn put_merge(&mut self, made: &MergeMade) -> Result<Vec<String>>
         requires living { is_living (store_in self.old) (keyspace_of made.now) ≡ true }
-        requires out { is_merge_out (merge_task made.now.job).id (shape_in (keyspace_of made.now) self.old.memory.trees).merge ≡ true }
+        requires out { is_merge_out (merged_task made.now).id (shape_in (keyspace_of made.now) self.old.memory.trees).merge ≡ true }
         ensures puts { PutsMerge (IsTrue D.honest) self.old made.now result self.new }
     {
         match self.memory.finish_merge(self.alloc, &mut self.disk, made) {
@@ -100,7 +101,7 @@ impl<D: Disk> Engine<D> {
     // Finishes a merge that isn't stale, counts it, and removes the tables that it took.
     fn merge(&mut self, made: &MergeMade) -> Result<()>
         requires living { is_living (store_in self.old) (keyspace_of made.now) ≡ true }
-        requires out { is_merge_out (merge_task made.now.job).id (shape_in (keyspace_of made.now) self.old.memory.trees).merge ≡ true }
+        requires out { is_merge_out (merged_task made.now).id (shape_in (keyspace_of made.now) self.old.memory.trees).merge ≡ true }
         ensures merges { Merges (IsTrue D.honest) self.old made.now result self.new }
     {
         let taken = self.put_merge(made)?;
@@ -133,10 +134,10 @@ impl<D: Disk> Engine<D> {
 
     // Whether the merge was finished, where it isn't stale.
     fn settle_merge(&mut self, made: &MergeMade) -> Result<bool>
-        ensures serves { IsTrue D.honest → ServesWhere (KnowsMergeIfDue self.old made.now.job.target (merge_task made.now.job))
-            self.old (OfMergeFinish (job_of (merge_task made.now.job))) (flag_reply result) self.new }
-        ensures owes { Owes self.old (OfMergeFinish (job_of (merge_task made.now.job))) (flag_reply result) self.new }
-        ensures stale { is_merging self.old.memory.trees (job_of (merge_task made.now.job)) ≡ false → (result ≡ Ok false) × (self.new ≡ self.old) }
+        ensures serves { IsTrue D.honest → ServesWhere (KnowsMergeIfDue self.old (merged_target made.now) (merged_task made.now))
+            self.old (OfMergeFinish (job_of (merged_task made.now))) (flag_reply result) self.new }
+        ensures owes { Owes self.old (OfMergeFinish (job_of (merged_task made.now))) (flag_reply result) self.new }
+        ensures stale { is_merging self.old.memory.trees (job_of (merged_task made.now)) ≡ false → (result ≡ Ok false) × (self.new ≡ self.old) }
     {
         let job = JobId {
             number: made.id(),
@@ -160,11 +161,11 @@ impl<D: Disk> Engine<D> {
     /// the others nothing has changed.
     pub fn merge_finish(&mut self, made: MergeMade) -> std::result::Result<bool, Refused<MergeMade>>
         // Whichever state the core stood for that knows the merge, if it would take effect, the call steps on from it.
-        ensures serves { IsTrue D.honest → ServesWhere (KnowsMergeIfDue self.old made.job.target (merge_task made.job))
-            self.old (OfMergeFinish (job_of (merge_task made.job))) (merge_reply result) self.new }
-        ensures owes { Owes self.old (OfMergeFinish (job_of (merge_task made.job))) (merge_reply result) self.new }
+        ensures serves { IsTrue D.honest → ServesWhere (KnowsMergeIfDue self.old (merged_target made) (merged_task made))
+            self.old (OfMergeFinish (job_of (merged_task made))) (merge_reply result) self.new }
+        ensures owes { Owes self.old (OfMergeFinish (job_of (merged_task made))) (merge_reply result) self.new }
         // One that isn't out changes nothing, whatever was made.
-        ensures stale { is_merging self.old.memory.trees (job_of (merge_task made.job)) ≡ false → (result ≡ Ok false) × (self.new ≡ self.old) }
+        ensures stale { is_merging self.old.memory.trees (job_of (merged_task made)) ≡ false → (result ≡ Ok false) × (self.new ≡ self.old) }
         ensures back { IfErr result (λ refused. refused.value ≡ made) }
     {
         match self.settle_merge(&made) {

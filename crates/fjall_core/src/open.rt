@@ -4,13 +4,14 @@ ghost use Rattle.std.specs.Prelude.{◌≡◌, ◌≤◌, ℕ, List, Option, IsT
 ghost use Rattle.fjall_base.specs.Disk.{standing, state_in};
 ghost use Rattle.fjall_base.specs.declared.error.Error.{Error};
 ghost use Rattle.fjall_base.specs.declared.error.JournalRecoveryError.TheVariants.{TornTail};
-ghost use Rattle.fjall_base.specs.Store.{Store};
+ghost use Rattle.fjall_base.specs.Store.{Command, Store};
 ghost use Rattle.fjall_journal.specs.declared.recovery_mode.RecoveryMode.TheVariants.{RefuseTornTail};
+ghost use Rattle.fjall_recovery.specs.Amid.{StandsAmid};
 ghost use Rattle.fjall_recovery.specs.Folders.{Contents};
 ghost use Rattle.fjall_recovery.specs.Held.{IsOpenFolder};
 ghost use Rattle.fjall_recovery.specs.Refusals.{AreOne, HasRisen, HasTornTail, IsDue, IsOpeningRefusal, IsTornTail};
 ghost use Rattle.fjall_files.specs.Tidy.{IsTidy, StaysTidy};
-ghost use Rattle.fjall_core.specs.Openings.{IsDueTo, KeepsStore, Opens, OpensAs, OpensOn, OpensAmid, StaysAmid, ForHeld, RefusalBlames, RefusesFolder, Sweeps};
+ghost use Rattle.fjall_core.specs.Openings.{IsDueTo, IsLeftWildly, IsRefusedByName, KeepsStore, Opens, OpensAs, OpensOn, OpensAmid, OpensWithin, StaysAmid, ForHeld, RefusalBlames, RefusesFolder, Sweeps};
 ghost use Rattle.fjall_core.specs.Standing.{HoldsStore, store_with_tables};
 ghost use Rattle.fjall_table.specs.Blocks.{Entry};
 ghost use Rattle.fjall_machine.specs.Remembered.{AreBeside};
@@ -74,6 +75,12 @@ impl<D: Disk> Engine<D> {
         ensures amid { IsTrue D.honest → ForHeld (D.meaning disk) (λ base pending. IfOk result (λ core. OpensAmid (D.meaning disk) core base pending)) }
         ensures amid_err { IsTrue D.honest → ForHeld (D.meaning disk) (λ base pending.
             IfErr result (λ refused. StaysAmid (D.meaning disk) (D.meaning refused.value) base pending)) }
+        // What a wild crash left, where each usual crash then leaves the base with a beginning of these commands, opens as such a store
+        // too, or is refused by name, and then it is as it was: so it is whatever stands on the disk.
+        ensures any_bytes { IsTrue D.honest → (base : Store) (least all : List Command) → IsLeftWildly (state_in (D.meaning disk)) (StandsAmid base least all)
+            → IfOk result (λ core. OpensWithin core base least all) }
+        ensures by_name { IsTrue D.honest
+            → IfErr result (λ refused. IsDue (IsRefusedByName config.journal_recovery_mode (D.meaning disk) (D.meaning refused.value)) refused.error) }
     {
         let mode = config.journal_recovery_mode;
         let kept_bound = config.kept_block_bytes;

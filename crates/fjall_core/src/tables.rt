@@ -15,7 +15,10 @@ impl<D: Disk> Engine<D> {
         ensures held { result ≡ length (shape_in id self.now.memory.trees).tables }
         ensures parts { (s : State) → StandsFor self.now s → result ≡ length (shape_in id s.parts.trees).tables }
     {
-        self.memory.table_count(id)
+        match self.memory.tree(id) {
+            Some(tree) => tree.table_count(),
+            None => 0,
+        }
     }
 
     /// How many of a keyspace's tables stand at level 0, where flushes put them; 0 for an id without a keyspace.
@@ -23,7 +26,10 @@ impl<D: Disk> Engine<D> {
         ensures held { result ≡ count_by (λ t. is_l0 t.info.level) (shape_in id self.now.memory.trees).tables }
         ensures parts { (s : State) → StandsFor self.now s → result ≡ count_by (λ t. is_l0 t.info.level) (shape_in id s.parts.trees).tables }
     {
-        self.memory.l0_table_count(id)
+        match self.memory.tree(id) {
+            Some(tree) => tree.l0_table_count(),
+            None => 0,
+        }
     }
 
     /// How many bytes the files of a keyspace's tables have, added up; without an id those of all keyspaces that live and of all

@@ -7,6 +7,7 @@ pub mod Flushing
 mod Holding
 mod Keeping
 mod Looping
+pub mod Made
 mod Merging
 mod Parting
 mod Rooms

@@ -2,6 +2,7 @@ pub mod Blocks
 pub mod Flushes
 pub mod Inputs
 pub mod Keeping
+pub mod Made
 pub mod MergeInputs
 pub mod Merges
 pub mod Sequences

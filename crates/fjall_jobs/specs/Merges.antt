@@ -13,6 +13,10 @@ use Rattle.fjall_jobs.specs.Tasks.{Task}
 abbrev pub merge_task : MergeJob → Task
 merge_task job = record { id = job.id; keyspace = job.keyspace_id; watermark = job.watermark; runs = table_runs job.tables.items; clears = job.clears.items }
 
+-- the size at which it closes the tables that it makes
+abbrev pub merge_target : MergeJob → ℕ
+merge_target job = job.target
+
 -- What a merge made: in tables that are closed at a target, and in order, exactly the versions of its input that this neither
 -- hides at the watermark nor has as spent removals; and the clears that the watermark doesn't reach.
 pub record IsMerged (target : ℕ) (task : Task) (tables : List MadeTable) (clears : List ℕ) : Type 0 where

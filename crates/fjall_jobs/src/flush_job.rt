@@ -54,6 +54,7 @@ pub(crate) fn clears_of(alloc: Global, parts: &[Arc<Part>]) -> Result<Vec<u64>>
 
 impl FlushJob {
     ghost use Rattle.fjall_jobs.specs.Flushes.{flush_task};
+    ghost use Rattle.fjall_jobs.specs.Made.{flush_clears, flush_tables, flushed_task};
     ghost use Rattle.fjall_jobs.specs.Tasks.{IsFlushed};
 
     /// A flush of these sealed memtables of a keyspace, the oldest first, whose numbers stand apart. The watermark is below
@@ -113,8 +114,8 @@ impl FlushJob {
     /// Makes what stands in its input's place. It takes no disk and no lock. It is refused for want of memory alone, and
     /// hands the job back then.
     pub fn run(self, alloc: Global) -> std::result::Result<FlushMade, Refused<FlushJob>>
-        ensures job { IfOk result (λ made. flush_task made.job ≡ flush_task self) }
-        ensures made { IfOk result (λ made. IsFlushed (flush_task self) made.tables.items made.clears.items) }
+        ensures job { IfOk result (λ made. flushed_task made ≡ flush_task self) }
+        ensures made { IfOk result (λ made. IsFlushed (flush_task self) (flush_tables made) (flush_clears made)) }
         ensures error { IfErr result (λ refused. refused.error ≡ OutOfMemory) }
         ensures value { IfErr result (λ refused. flush_task refused.value ≡ flush_task self) }
     {

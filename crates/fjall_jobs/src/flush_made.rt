@@ -18,37 +18,39 @@ pub struct FlushMade {
 }
 
 impl FlushMade {
+    ghost use Rattle.fjall_jobs.specs.Made.{flush_clears, flush_tables, flushed_job, flushed_task};
+
     /// The number of the job.
     pub fn id(&self) -> u64
-        ensures { result ≡ (flush_task self.now.job).id }
+        ensures { result ≡ (flushed_task self.now).id }
     {
         self.job.id()
     }
 
     /// The id of the keyspace.
     pub fn keyspace_id(&self) -> u64
-        ensures { result ≡ (flush_task self.now.job).keyspace }
+        ensures { result ≡ (flushed_task self.now).keyspace }
     {
         self.job.keyspace_id()
     }
 
     /// The tables that were made, one at most.
     pub fn tables(&self) -> &[MadeTable]
-        ensures value { result.now ≡ self.now.tables.items }
+        ensures value { result.now ≡ flush_tables self.now }
     {
         &self.tables
     }
 
     /// The clears of the input, ascending.
     pub fn clears(&self) -> &[u64]
-        ensures value { result.now ≡ self.now.clears.items }
+        ensures value { result.now ≡ flush_clears self.now }
     {
         &self.clears
     }
 
     /// Gives the job back, and lets go of what was made.
     pub fn into_job(self) -> FlushJob
-        ensures { result ≡ self.job }
+        ensures { result ≡ flushed_job self }
     {
         let FlushMade { job, .. } = self;
         job

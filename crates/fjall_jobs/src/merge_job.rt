@@ -56,7 +56,8 @@ fn later_clears(alloc: Global, clears: &[u64], watermark: u64) -> Result<Vec<u64
 }
 
 impl MergeJob {
-    ghost use Rattle.fjall_jobs.specs.Merges.{IsMerged, merge_task};
+    ghost use Rattle.fjall_jobs.specs.Made.{merge_clears, merge_tables, merged_target, merged_task};
+    ghost use Rattle.fjall_jobs.specs.Merges.{IsMerged, merge_target, merge_task};
 
     /// A merge of these tables of a keyspace, each given by all of its blocks, the oldest first, and of these clears. The
     /// watermark is below 2^63.
@@ -70,7 +71,7 @@ impl MergeJob {
     ) -> MergeJob
         requires { watermark < 2 ^ 63 }
         ensures task { merge_task result ≡ record { id = id; keyspace = keyspace_id; watermark = watermark; runs = table_runs tables.items; clears = clears.items } }
-        ensures target { result.target ≡ target }
+        ensures target { merge_target result ≡ target }
     {
         MergeJob {
             id,
@@ -98,7 +99,7 @@ impl MergeJob {
 
     /// What is made of its input: tables, and clears.
     fn make(&self, alloc: Global) -> Result<(Vec<MadeTable>, Vec<u64>)>
-        ensures made { AreSorted (merge_task self.now).runs → IfOk result (λ made. IsMerged self.now.target (merge_task self.now) made.0.items made.1.items) }
+        ensures made { AreSorted (merge_task self.now).runs → IfOk result (λ made. IsMerged (merge_target self.now) (merge_task self.now) made.0.items made.1.items) }
         ensures only { AreSorted (merge_task self.now).runs → IsOkUnless result Error.OutOfMemory }
     {
         let clears = later_clears(alloc, self.clears.as_slice(), self.watermark)?;
@@ -116,12 +117,12 @@ impl MergeJob {
     /// Makes what stands in its input's place. It takes no disk and no lock. Where each table is in order, and no key has two
     /// versions of one number in them, it is refused for want of memory alone; it hands the job back then.
     pub fn run(self, alloc: Global) -> std::result::Result<MergeMade, Refused<MergeJob>>
-        ensures job { IfOk result (λ made. merge_task made.job ≡ merge_task self) }
-        ensures target { IfOk result (λ made. made.job.target ≡ self.target) }
-        ensures made { AreSorted (merge_task self).runs → IfOk result (λ made. IsMerged self.target (merge_task self) made.tables.items made.clears.items) }
+        ensures job { IfOk result (λ made. merged_task made ≡ merge_task self) }
+        ensures target { IfOk result (λ made. merged_target made ≡ merge_target self) }
+        ensures made { AreSorted (merge_task self).runs → IfOk result (λ made. IsMerged (merge_target self) (merge_task self) (merge_tables made) (merge_clears made)) }
         ensures error { AreSorted (merge_task self).runs → IfErr result (λ refused. refused.error ≡ OutOfMemory) }
         ensures value { IfErr result (λ refused. merge_task refused.value ≡ merge_task self) }
-        ensures value_target { IfErr result (λ refused. refused.value.target ≡ self.target) }
+        ensures value_target { IfErr result (λ refused. merge_target refused.value ≡ merge_target self) }
     {
         match self.make(alloc) {
             Ok((tables, clears)) => Ok(MergeMade {

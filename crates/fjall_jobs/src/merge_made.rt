@@ -20,37 +20,39 @@ pub struct MergeMade {
 }
 
 impl MergeMade {
+    ghost use Rattle.fjall_jobs.specs.Made.{merge_clears, merge_tables, merged_job, merged_task};
+
     /// The number of the job.
     pub fn id(&self) -> u64
-        ensures { result ≡ (merge_task self.now.job).id }
+        ensures { result ≡ (merged_task self.now).id }
     {
         self.job.id()
     }
 
     /// The id of the keyspace.
     pub fn keyspace_id(&self) -> u64
-        ensures { result ≡ (merge_task self.now.job).keyspace }
+        ensures { result ≡ (merged_task self.now).keyspace }
     {
         self.job.keyspace_id()
     }
 
     /// The tables that were made.
     pub fn tables(&self) -> &[MadeTable]
-        ensures value { result.now ≡ self.now.tables.items }
+        ensures value { result.now ≡ merge_tables self.now }
     {
         &self.tables
     }
 
     /// The clears that stay of the job's, in their order.
     pub fn clears(&self) -> &[u64]
-        ensures value { result.now ≡ self.now.clears.items }
+        ensures value { result.now ≡ merge_clears self.now }
     {
         &self.clears
     }
 
     /// Gives the job back, and lets go of what was made.
     pub fn into_job(self) -> MergeJob
-        ensures { result ≡ self.job }
+        ensures { result ≡ merged_job self }
     {
         let MergeMade { job, .. } = self;
         job

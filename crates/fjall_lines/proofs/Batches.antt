@@ -54,7 +54,7 @@ pub one_taken : (words : List (List ℕ)) (writes more : List Write) (id key val
 one_taken words writes more id key value rest after found write t split s is whole =
     subst (λ (l : List Write). Taken words l after) (sym whole) (one_more words writes id key value rest after write t split (subst (SpellsWrite id key value) is s))
 
-nothing : {X : Type 0} (l : List X) → (length l == 0) ≡ true → l ≡ []
+pub nothing : {X : Type 0} (l : List X) → (length l == 0) ≡ true → l ≡ []
 nothing [] h = refl
 nothing (x ∷ l) h = absurd (let none = eqb-true (length (x ∷ l)) 0 h in omega arith)
 

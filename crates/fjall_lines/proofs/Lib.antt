@@ -2,3 +2,4 @@ pub mod Bytes
 mod Spellings
 mod Cuts
 mod Batches
+mod Filling

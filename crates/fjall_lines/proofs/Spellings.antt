@@ -12,10 +12,10 @@ use Rattle.std.proofs.lemmas.Str.Parse.{tells_digits, numerals_by_value}
 use Rattle.std.proofs.lemmas.Fmt.{digits_decimal}
 use Rattle.hex.specs.Hex.{IsBytes, encode_lower, encode_with, lower_digits}
 use Rattle.fjall_lines.specs.declared.command.Command.{Command}
-use Rattle.fjall_lines.specs.declared.command.Command.TheVariants.{Ask, Crash, Reopen}
+use Rattle.fjall_lines.specs.declared.command.Command.TheVariants.{Ask, Crash, CrashWild, Reopen}
 use Rattle.fjall_lines.specs.declared.command.Request.{Request}
 use Rattle.fjall_lines.specs.declared.command.Request.TheVariants.{Keyspace, Delete, Insert, Remove, RemoveWeak, Clear, Batch, Get, Len, Scan, Snapshot, GetAt, CloseSnapshot, Begin, TxGet, TxInsert, Commit, Gc, Rotate, Flush, Merge, Persist}
-use Rattle.fjall_lines.specs.Lines.{hex_word, request_words, value_word, writes_words, words_of, spelling, IsCommand, IsRequest, IsWrite, Write, Spells, ReadsLine}
+use Rattle.fjall_lines.specs.Lines.{fill_words, fills_words, hex_word, request_words, value_word, writes_words, words_of, spelling, Fill, IsCommand, IsFill, IsRequest, IsWrite, Write, Spells, ReadsLine}
 use Rattle.fjall_lines.proofs.Bytes.{or_false, digit, lower_digit}
 
 abbrev is_space : ℕ → Bool
@@ -154,6 +154,15 @@ batch_words word (write ∷ writes) first h =
     (more (hex_word write.1) (value_word write.2) (writes_words writes) (bytes_word write.1 here.1)
     (batch_words (value_word write.2) writes (value_is_word write.2 here.2) (All-tail IsWrite write writes h))))
 
+-- the words of fills behind one more word
+fills_are_words : (word : List ℕ) (fills : List Fill) → IsWord word → All IsFill fills → AreWords (word ∷ fills_words fills)
+fills_are_words word [] first h = one word first
+fills_are_words word (fill ∷ fills) first h =
+    let here = All-head IsFill fill fills h in
+    more word fill.0 (hex_word fill.1 ∷ fills_words fills) first
+    (more fill.0 (hex_word fill.1) (fills_words fills) (record { whole = here.1; text = here.0 })
+    (fills_are_words (hex_word fill.1) fills (bytes_word fill.1 here.2) (All-tail IsFill fill fills h)))
+
 request_are_words : (request : Request) → IsRequest request → AreWords (request_words request)
 request_are_words (Keyspace name) h = more (codes "keyspace") name [] (plain (codes "keyspace") refl) (one name (record { whole = h.1; text = h.0 }))
 request_are_words (Delete id) h = with_number (codes "delete") id refl h
@@ -188,6 +197,7 @@ request_are_words Persist h = one (codes "persist") (plain (codes "persist") ref
 are_words : (command : Command) → IsCommand command → AreWords (words_of command)
 are_words (Ask request) h = request_are_words request h
 are_words (Crash keep) h = with_number (codes "crash") keep refl h
+are_words (CrashWild fills) h = fills_are_words (codes "crash_wild") fills (plain (codes "crash_wild") refl) h
 are_words Reopen h = one (codes "reopen") (plain (codes "reopen") refl)
 
 -- a command's spelling is text

@@ -1,2 +1,3 @@
+pub mod Fills
 pub mod Lines
 pub mod Hearing

@@ -3,9 +3,10 @@ use Rattle.std.specs.Prelude.{◌≡◌, ◌≢◌, ℕ, ◌==◌, ◌<◌, ◌^
 use Rattle.std.specs.List.{flat_map, list_any, onto_first, join_with_byte}
 use Rattle.std.specs.Str.{IsUtf8}
 use Rattle.hex.specs.Hex.{encode_lower, IsBytes}
+use Rattle.fjall_base.specs.Disk.{Name}
 use Rattle.fjall_base.specs.Pairs.{Bytes}
 use Rattle.fjall_lines.specs.declared.command.Command.{Command}
-use Rattle.fjall_lines.specs.declared.command.Command.TheVariants.{Ask, Crash, Reopen}
+use Rattle.fjall_lines.specs.declared.command.Command.TheVariants.{Ask, Crash, CrashWild, Reopen}
 use Rattle.fjall_lines.specs.declared.command.Request.{Request}
 use Rattle.fjall_lines.specs.declared.command.Request.TheVariants.{Keyspace, Delete, Insert, Remove, RemoveWeak, Clear, Batch, Get, Len, Scan, Snapshot, GetAt, CloseSnapshot, Begin, TxGet, TxInsert, Commit, Gc, Rotate, Flush, Merge, Persist}
 
@@ -36,6 +37,18 @@ write_words write = decimal write.0 ∷ hex_word write.1 ∷ value_word write.2 
 abbrev pub writes_words : List Write → List (List ℕ)
 writes_words writes = flat_map write_words writes
 
+-- a fill of a wild crash: a file's path below the root, and the bytes that stand behind its synced ones
+abbrev pub Fill : Type 0
+Fill = Name × Bytes
+
+-- the two words of a fill: the path is its word, byte for byte
+abbrev pub fill_words : Fill → List (List ℕ)
+fill_words fill = fill.0 ∷ hex_word fill.1 ∷ []
+
+-- the words of a wild crash behind its first
+abbrev pub fills_words : List Fill → List (List ℕ)
+fills_words fills = flat_map fill_words fills
+
 -- the words of a request: a keyspace's name is its word, byte for byte
 abbrev pub request_words : Request → List (List ℕ)
 request_words (Keyspace name) = codes "keyspace" ∷ name ∷ []
@@ -65,6 +78,7 @@ request_words Persist = codes "persist" ∷ []
 abbrev pub words_of : Command → List (List ℕ)
 words_of (Ask request) = request_words request
 words_of (Crash keep) = codes "crash" ∷ decimal keep ∷ []
+words_of (CrashWild fills) = codes "crash_wild" ∷ fills_words fills
 words_of Reopen = codes "reopen" ∷ []
 
 -- a command is spelled by its words, parted by one space
@@ -74,6 +88,10 @@ spelling command = join_with_byte 32 (words_of command)
 -- a write's id has 64 bits, its key and value are bytes
 abbrev pub IsWrite : Write → Type 0
 IsWrite write = (write.0 < 2 ^ 64) × IsBytes write.1 × IfSome write.2 IsBytes
+
+-- a fill's path is UTF-8 without a space, and behind it stand bytes
+abbrev pub IsFill : Fill → Type 0
+IsFill fill = IsUtf8 fill.0 × (list_any (λ b. b == 32) fill.0 ≡ false) × IsBytes fill.1
 
 -- a name is UTF-8 without a space, numbers have 64 bits, keys and values are bytes, and a batch has some write
 abbrev pub IsRequest : Request → Type 0
@@ -103,6 +121,7 @@ IsRequest Persist = Unit {0}
 abbrev pub IsCommand : Command → Type 0
 IsCommand (Ask request) = IsRequest request
 IsCommand (Crash keep) = keep < 2 ^ 64
+IsCommand (CrashWild fills) = All IsFill fills
 IsCommand Reopen = Unit {0}
 
 -- a batch, where it is one, has some write
@@ -133,6 +152,11 @@ pub record SpellsWrite (id key value : List ℕ) (found : Option Write) : Type 0
 pub record SpellsWrites (words : List (List ℕ)) (found : Option (List Write)) : Type 0 where
   pub spelled : IfSome found (λ writes. words ≡ writes_words writes)
   pub all_found : (writes : List Write) → All IsWrite writes → words ≡ writes_words writes → found ≡ Some writes
+
+-- the fills that these words spell, or none where they spell none
+pub record SpellsFills (words : List (List ℕ)) (found : Option (List Fill)) : Type 0 where
+  pub spelled : IfSome found (λ fills. words ≡ fills_words fills)
+  pub all_found : (fills : List Fill) → All IsFill fills → words ≡ fills_words fills → found ≡ Some fills
 
 -- the command that a line spells, or none where it spells none
 pub record ReadsLine (line : List ℕ) (found : Option Command) : Type 0 where

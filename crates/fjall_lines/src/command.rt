@@ -1,6 +1,7 @@
 //! The commands that a line may spell.
 
-ghost use Rattle.std.specs.Prelude.{◌≡◌};
+ghost use Rattle.std.specs.Prelude.{◌≡◌, map};
+ghost use Rattle.fjall_lines.specs.Fills.{named_bytes};
 
 use fjall_base::{Slice, UserKey, UserValue};
 use std::marker::Model;
@@ -36,6 +37,44 @@ impl Writes {
     /// The writes in their order.
     pub fn as_slice(&self) -> &[Write]
         ensures { result.now ≡ self.now }
+    {
+        &self.items
+    }
+}
+
+/// A file's path below the root, as `keyspaces/1/current`, and the bytes that a wild crash leaves behind its synced ones.
+pub type Fill = (String, Slice);
+
+/// What a wild crash leaves behind the synced bytes of files.
+#[derive(Drop)]
+pub struct Fills {
+    items: Vec<Fill>,
+}
+
+impl Model for Fills {
+    ghost use Rattle.std.specs.Prelude.{ℕ, List, map};
+    ghost use Rattle.std.specs.Coded.{codes};
+    ghost use Rattle.fjall_base.specs.Pairs.{Bytes};
+    ghost use Rattle.fjall_base.specs.Disk.{Name};
+    ghost use Rattle.fjall_lines.specs.Fills.{named_bytes};
+
+    ghost Value = { List (Name × Bytes) };
+
+    ghost coded = { Prim.hlevel codes };
+
+    ghost view = { λ fills. map named_bytes fills.items.items };
+}
+
+impl Fills {
+    pub(crate) fn new(items: Vec<Fill>) -> Fills
+        ensures { result ≡ map named_bytes items.items }
+    {
+        Fills { items }
+    }
+
+    /// The fills in their order.
+    pub fn as_slice(&self) -> &[Fill]
+        ensures { map named_bytes result.now ≡ self.now }
     {
         &self.items
     }
@@ -100,6 +139,9 @@ pub enum Command {
     /// `crash N`: of each file at most so many bytes that no sync has made safe are kept, and the
     /// core opens again.
     Crash(u64),
+    /// `crash_wild NAME BYTES ..`: of each file the synced bytes are kept, behind those of the file of each name these bytes
+    /// stand, and the core opens again.
+    CrashWild(Fills),
     /// `reopen`: the core closes and opens again.
     Reopen,
 }

@@ -5,6 +5,6 @@ mod command;
 mod parsing;
 mod script;
 
-pub use command::{Command, Request, Write, Writes};
+pub use command::{Command, Fill, Fills, Request, Write, Writes};
 pub use parsing::parse;
 pub use script::commands;

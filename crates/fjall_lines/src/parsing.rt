@@ -4,9 +4,9 @@ ghost use Rattle.std.specs.Prelude.{◌≡◌, ◌≢◌, ℕ, List, [], ◌∷�
 ghost use Rattle.std.specs.List.{list_any};
 ghost use Rattle.std.specs.Char.{is_ascii_uppercase};
 ghost use Rattle.hex.specs.Hex.{IsBytes};
-ghost use Rattle.fjall_lines.specs.Lines.{FindsIdAndKey, FindsValue, hex_word, ReadsLine, Spells, SpellsWrite, SpellsWrites, value_word};
+ghost use Rattle.fjall_lines.specs.Lines.{FindsIdAndKey, FindsValue, hex_word, ReadsLine, Spells, SpellsFills, SpellsWrite, SpellsWrites, value_word};
 
-use crate::command::{Command, Request, Write, Writes};
+use crate::command::{Command, Fills, Request, Write, Writes};
 use fjall_base::{Slice, UserKey, UserValue};
 use fjall_files::parse_number;
 use hex::FromHexError;
@@ -169,9 +169,40 @@ fn batch(alloc: Global, words: &[&str]) -> Result<Option<Command>, AllocError>
     Ok(Some(Command::Ask(Request::Batch(writes))))
 }
 
+// What a wild crash leaves that words spell, two words for each file.
+fn fills(alloc: Global, words: &[&str]) -> Result<Option<Fills>, AllocError>
+    ensures { IfOk result (λ found. SpellsFills (map (λ word. word.now) words.now) found) }
+{
+    let mut items = Vec::new(alloc);
+    let mut rest = words;
+    while let [name, word, after @ ..] = rest {
+        let Some(left) = bytes(alloc, word)? else {
+            return Ok(None);
+        };
+        let path = String::from_str(alloc, name)?;
+        items.push((path, left))?;
+        rest = after;
+    }
+    if !rest.is_empty() {
+        return Ok(None);
+    }
+    Ok(Some(Fills::new(items)))
+}
+
+// A wild crash may leave nothing behind what was synced.
+fn crash_wild(alloc: Global, words: &[&str]) -> Result<Option<Command>, AllocError>
+    ensures { IfOk result (λ found. Spells (codes "crash_wild" ∷ map (λ word. word.now) words.now) found) }
+{
+    let Some(fills) = fills(alloc, words)? else {
+        return Ok(None);
+    };
+    Ok(Some(Command::CrashWild(fills)))
+}
+
 // The command of one word.
 fn bare(word: &str) -> Option<Command>
-    requires { word.now ≢ codes "batch" }
+    requires no_batch { word.now ≢ codes "batch" }
+    requires no_wild_crash { word.now ≢ codes "crash_wild" }
     ensures { Spells (word.now ∷ []) result }
 {
     match word {
@@ -186,7 +217,8 @@ fn bare(word: &str) -> Option<Command>
 
 // The command of a word and a keyspace's name or a number.
 fn with_one(alloc: Global, word: &str, other: &str) -> Result<Option<Command>, AllocError>
-    requires { word.now ≢ codes "batch" }
+    requires no_batch { word.now ≢ codes "batch" }
+    requires no_wild_crash { word.now ≢ codes "crash_wild" }
     ensures { IfOk result (λ found. Spells (word.now ∷ other.now ∷ []) found) }
 {
     if word == "keyspace" {
@@ -213,7 +245,8 @@ fn with_one(alloc: Global, word: &str, other: &str) -> Result<Option<Command>, A
 
 // The command of a word, a keyspace's id and a key.
 fn with_key(alloc: Global, word: &str, id: &str, key: &str) -> Result<Option<Command>, AllocError>
-    requires { word.now ≢ codes "batch" }
+    requires no_batch { word.now ≢ codes "batch" }
+    requires no_wild_crash { word.now ≢ codes "crash_wild" }
     ensures { IfOk result (λ found. Spells (word.now ∷ id.now ∷ key.now ∷ []) found) }
 {
     let Some((id, key)) = id_and_key(alloc, id, key)? else {
@@ -235,7 +268,8 @@ fn with_three(
     second: &str,
     third: &str,
 ) -> Result<Option<Command>, AllocError>
-    requires { word.now ≢ codes "batch" }
+    requires no_batch { word.now ≢ codes "batch" }
+    requires no_wild_crash { word.now ≢ codes "crash_wild" }
     ensures { IfOk result (λ found. Spells (word.now ∷ first.now ∷ second.now ∷ third.now ∷ []) found) }
 {
     match word {
@@ -255,7 +289,8 @@ fn with_four(
     third: &str,
     fourth: &str,
 ) -> Result<Option<Command>, AllocError>
-    requires { word.now ≢ codes "batch" }
+    requires no_batch { word.now ≢ codes "batch" }
+    requires no_wild_crash { word.now ≢ codes "crash_wild" }
     ensures { IfOk result (λ found. Spells (word.now ∷ first.now ∷ second.now ∷ third.now ∷ fourth.now ∷ []) found) }
 {
     match word {
@@ -273,6 +308,9 @@ fn command(alloc: Global, words: &[&str]) -> Result<Option<Command>, AllocError>
     };
     if *word == "batch" {
         return batch(alloc, rest);
+    }
+    if *word == "crash_wild" {
+        return crash_wild(alloc, rest);
     }
     match rest {
         [] => Ok(bare(word)),

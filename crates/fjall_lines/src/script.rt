@@ -34,6 +34,7 @@ fn heard(found: Option<Command>, crashes: bool) -> Option<Command>
 {
     match found {
         Some(Command::Crash(_)) if !crashes => None,
+        Some(Command::CrashWild(_)) if !crashes => None,
         _ => found,
     }
 }

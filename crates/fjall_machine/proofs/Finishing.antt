@@ -15,7 +15,8 @@ use Rattle.fjall_compaction.specs.Flushes.{Flush, Follows, flush_of, record_afte
 use Rattle.fjall_compaction.specs.FlushPlans.{ForFlushOn, IsFlushPlan, IsFlushPlanRefusal}
 use Rattle.fjall_manifest.specs.Homes.{Home}
 use Rattle.fjall_jobs.specs.declared.flush_made.FlushMade.{FlushMade}
-use Rattle.fjall_jobs.specs.Flushes.{flush_task}
+use Rattle.fjall_jobs.specs.Made.{flush_clears, flush_tables, flushed_task}
+use Rattle.fjall_jobs.proofs.Made.{was_flushed}
 use Rattle.fjall_recovery.specs.Known.{last_known}
 use Rattle.fjall_tree.specs.Jobs.{IsFlushing, flush_end}
 use Rattle.fjall_tree.specs.Trees.{Flushing, Shape}
@@ -52,10 +53,10 @@ none_missing m is id lives none = true≢false (sym (record_kept m is id lives) 
 pub record MayFinish (m : Remembered) (made : FlushMade) (last : Fields) (number : ℕ) : Type 0 where
   pub known : Some last ≡ get m.records (keyspace_of made)
   pub ends : number ≡ flush_end (shape_in (keyspace_of made) m.trees) - 1
-  pub out : IsFlushing (shape_in (keyspace_of made) m.trees) (flush_task made.job)
+  pub out : IsFlushing (shape_in (keyspace_of made) m.trees) (flushed_task made)
 
 pub may_finish : (a m : Remembered) (made : FlushMade) (last : Fields) (id end number : ℕ) → a ≡ m → id ≡ keyspace_of made → Some last ≡ get a.records id → end ≡ flush_end (shape_in id a.trees) → number ≡ end - 1
-    → IsFlushing (shape_in (keyspace_of made) m.trees) (flush_task made.job) → MayFinish m made last number
+    → IsFlushing (shape_in (keyspace_of made) m.trees) (flushed_task made) → MayFinish m made last number
 may_finish a m made last id end number same at known ends is out = record {
   known = known ∙ (λ i. get (same i).records (at i));
   ends = is ∙ ap (λ (n : ℕ). n - 1) (ends ∙ (λ i. flush_end (shape_in (at i) (same i).trees)));
@@ -63,8 +64,8 @@ may_finish a m made last id end number same at known ends is out = record {
 }
 
 -- the clears of what was made are those of its task
-pub made_clears : (made : FlushMade) → made.clears.items ≡ (flush_task made.job).clears
-made_clears made = ∥∥₁_elim made.made (Coded-set (coded_list coded_ℕ) made.clears.items (flush_task made.job).clears) (λ is. is.clears_are)
+pub made_clears : (made : FlushMade) → flush_clears made ≡ (flushed_task made).clears
+made_clears made = ∥∥₁_elim (was_flushed made) (Coded-set (coded_list coded_ℕ) (flush_clears made) (flushed_task made).clears) (λ is. is.clears_are)
 
 some_same : {X : Type 0} (x y : X) (o : Option X) → o ≡ Some x → o ≡ Some y → x ≡ y
 some_same x y o one two = let both : Some x ≡ Some y = sym one ∙ two in cc
@@ -81,11 +82,11 @@ module _ (m : Remembered) (made : FlushMade) (last : Fields) (number : ℕ) (may
       let same = same_id k.id id (found_passes (λ j. j.id == id) m.keyspaces.living k at) in
       ap (λ (o : Option Fields). unwrap_or o (fields (first_of k.number))) (may.known ∙ ap (get m.records) (sym same))
 
-  pub flush_is : (out : Flushing) → tree.flush ≡ Some out → flush_of number made ≡ flush_with tree out made.tables.items
+  pub flush_is : (out : Flushing) → tree.flush ≡ Some out → flush_of number made ≡ flush_with tree out (flush_tables made)
   flush_is out was =
       let same : may.out.out ≡ out = some_same may.out.out out tree.flush may.out.is was in
       let clears = made_clears made ∙ may.out.clears ∙ ap (λ (o : Flushing). clears_in (take o.count tree.memory.sealed)) same in
-      λ i. record { number = may.ends i; tables = made.tables.items; clears = clears i }
+      λ i. record { number = may.ends i; tables = flush_tables made; clears = clears i }
 
   -- ---- refusals
 
@@ -94,7 +95,7 @@ module _ (m : Remembered) (made : FlushMade) (last : Fields) (number : ℕ) (may
   refused_as f before after error is = is
 
   pub refused : (k : LivingKeyspace) (out : Flushing) → keyspace_at id m.keyspaces.living ≡ Some k → tree.flush ≡ Some out → (before after : ℕ) (error : Error) → IsFlushPlanRefusal last (flush_of number made) error
-      → IsFinishRefusal (last_known m.records k) (flush_with tree out made.tables.items) before after error
+      → IsFinishRefusal (last_known m.records k) (flush_with tree out (flush_tables made)) before after error
   refused k out at was before after error is =
       subst (λ (f : Flush). IsFinishRefusal (last_known m.records k) f before after error) (flush_is out was)
       (subst (λ (l : Fields). IsFinishRefusal l (flush_of number made) before after error) (last_is k at) (refused_as (flush_of number made) before after error is))
@@ -113,10 +114,10 @@ module _ (m : Remembered) (made : FlushMade) (last : Fields) (number : ℕ) (may
   -- ---- memory
 
   pub finished : (k : LivingKeyspace) (out : Flushing) → keyspace_at id m.keyspaces.living ≡ Some k → tree.flush ≡ Some out → (a new : Remembered) (readers : List Reader) (written : Fields) → a ≡ m
-      → AreReadersOf id last.next_table_id made.tables.items readers → written ≡ record_after (flush_of number made) last → new ≡ with_flush id out readers written a
-      → IsFlushFinished m id (last_known m.records k) out made.tables.items new
+      → AreReadersOf id last.next_table_id (flush_tables made) readers → written ≡ record_after (flush_of number made) last → new ≡ with_flush id out readers written a
+      → IsFlushFinished m id (last_known m.records k) out (flush_tables made) new
   finished k out at was a new readers written same are says is = record {
     readers = readers;
-    are = subst (λ (l : Fields). AreReadersOf id l.next_table_id made.tables.items readers) (last_is k at) are;
+    are = subst (λ (l : Fields). AreReadersOf id l.next_table_id (flush_tables made) readers) (last_is k at) are;
     is = is ∙ (λ i. with_flush id out readers ((says ∙ (λ j. record_after (flush_is out was j) (last_is k at j))) i) (same i));
   }

@@ -10,6 +10,7 @@ use Rattle.fjall_table_reader.specs.Readers.{Reader}
 use Rattle.fjall_files.specs.Names.{table_name}
 use Rattle.fjall_jobs.specs.declared.made_table.MadeTable.{MadeTable}
 use Rattle.fjall_jobs.specs.declared.merge_made.MergeMade.{MergeMade}
+use Rattle.fjall_jobs.specs.Made.{merge_tables}
 use Rattle.fjall_recovery.specs.Known.{last_known}
 use Rattle.fjall_tree.specs.Jobs.{input_of, is_merge_out}
 use Rattle.fjall_tree.specs.Trees.{Merging}
@@ -78,7 +79,7 @@ module _ (m : Remembered) (made : MergeMade) (last : Fields) (input : ℕ × ℕ
   -- ---- the disk
 
   -- what is so of a merge as it was planned
-  pub on_disk : (disk : Meaning) (plan : MergePlan) → IsMergePlan id last (merge_of input made) plan → (tables : List MadeTable) → made.tables.items ≡ tables → (Holds : ℕ → List Fields → Tree → Tree → Type 0)
+  pub on_disk : (disk : Meaning) (plan : MergePlan) → IsMergePlan id last (merge_of input made) plan → (tables : List MadeTable) → merge_tables made ≡ tables → (Holds : ℕ → List Fields → Tree → Tree → Type 0)
       → ForMergeOn disk plan tables (λ records t other next. Holds other records t next) → ForMerging disk m made (λ other records t h does next. Holds other records t next)
   on_disk disk plan planned tables are Holds so k out at was records t h entries lists lies has right same merges =
       let known = last_is k at ∙ sym same in
@@ -95,10 +96,10 @@ module _ (m : Remembered) (made : MergeMade) (last : Fields) (input : ℕ × ℕ
   -- ---- memory
 
   pub finished : (k : LivingKeyspace) (out : Merging) → keyspace_at id m.keyspaces.living ≡ Some k → (shape_in id m.trees).merge ≡ Some out → (a new : Remembered) (readers : List Reader) (written : Fields) → a ≡ m
-      → AreMergeReaders id last.next_table_id made.tables.items readers → written ≡ record_after (merge_of input made) last → new ≡ with_merge id out readers written a
+      → AreMergeReaders id last.next_table_id (merge_tables made) readers → written ≡ record_after (merge_of input made) last → new ≡ with_merge id out readers written a
       → IsMergeFinished m id (last_known m.records k) out (counted_as out made) new
   finished k out at was a new readers written same are says is = record {
     readers = readers;
-    are = subst (λ (l : Fields). AreMergeReaders id l.next_table_id made.tables.items readers) (last_is k at) are;
+    are = subst (λ (l : Fields). AreMergeReaders id l.next_table_id (merge_tables made) readers) (last_is k at) are;
     is = is ∙ (λ i. with_merge id out readers ((says ∙ (λ j. record_after (merge_is out was j) (last_is k at j))) i) (same i));
   }

@@ -11,6 +11,7 @@ use Rattle.fjall_compaction.proofs.NewTables.{at_most_one}
 use Rattle.fjall_history.specs.declared.job.JobId.{JobId}
 use Rattle.fjall_history.specs.declared.reply.Reply.TheVariants.{Refused}
 use Rattle.fjall_jobs.specs.declared.flush_made.FlushMade.{FlushMade}
+use Rattle.fjall_jobs.specs.Made.{flush_tables}
 use Rattle.fjall_recovery.specs.Known.{last_known}
 use Rattle.fjall_tree.specs.Jobs.{count_out}
 use Rattle.fjall_tree.specs.Trees.{Flushing}
@@ -47,18 +48,18 @@ module _ (m : Remembered) (table : ℕ) (s : State) (stands : MemoryStandsFor m 
   record_there : s.parts.records job.keyspace_id ≡ last_known m.records k
   record_there = known_record m table s stands job.keyspace_id k at
 
-  meets : (made : FlushMade) (Meets : Fields → Type 0) → Meets (record_after (flush_with (shape_in job.keyspace_id m.trees) out made.tables.items) (last_known m.records k))
+  meets : (made : FlushMade) (Meets : Fields → Type 0) → Meets (record_after (flush_with (shape_in job.keyspace_id m.trees) out (flush_tables made)) (last_known m.records k))
       → FlushMeets (shape_in job.keyspace_id s.parts.trees) (shape_in job.keyspace_id s.parts.trees).flush (s.parts.records job.keyspace_id) Meets
   meets made Meets so =
       let tree = shape_in job.keyspace_id s.parts.trees in
       let same = same_in job.keyspace_id s.parts.trees m.trees stands.trees in
       subst (λ (o : Option Flushing). FlushMeets tree o (s.parts.records job.keyspace_id) Meets) (sym (sym same.flush ∙ was)) (
-        made.tables.items,
+        flush_tables made,
         at_most_one made,
-        subst Meets (sym (λ i. record_after (same_with tree (shape_in job.keyspace_id m.trees) same out made.tables.items i) (record_there i))) so,
+        subst Meets (sym (λ i. record_after (same_with tree (shape_in job.keyspace_id m.trees) same out (flush_tables made) i) (record_there i))) so,
       )
 
-  pub refusal_steps : (made : FlushMade) → s.poisoned ≡ false → (error : Error) → IsFlushPlanRefusal (last_known m.records k) (flush_with (shape_in job.keyspace_id m.trees) out made.tables.items) error
+  pub refusal_steps : (made : FlushMade) → s.poisoned ≡ false → (error : Error) → IsFlushPlanRefusal (last_known m.records k) (flush_with (shape_in job.keyspace_id m.trees) out (flush_tables made)) error
       → StepOf s (OfFlushFinish job) (Refused error) s
   refusal_steps made well OutOfMemory is = ((due_to_finish, well), refl)
   refusal_steps made well NumbersUsedUp used = ((due_to_finish, well, meets made LacksNextId used), refl)

@@ -11,7 +11,7 @@ use Rattle.fjall_compaction.specs.FlushPlans.{IsFlushPlanRefusal}
 use Rattle.fjall_manifest.specs.Homes.{Home}
 use Rattle.fjall_jobs.specs.declared.flush_made.FlushMade.{FlushMade}
 use Rattle.fjall_jobs.specs.declared.made_table.MadeTable.{MadeTable}
-use Rattle.fjall_jobs.specs.Flushes.{flush_task}
+use Rattle.fjall_jobs.specs.Made.{flush_tables, flushed_task}
 use Rattle.fjall_recovery.specs.Known.{last_known}
 use Rattle.fjall_tree.specs.Trees.{Flushing}
 use Rattle.fjall_meta.specs.declared.living.LivingKeyspace.{LivingKeyspace}
@@ -26,7 +26,7 @@ use Rattle.fjall_machine.specs.Remembered.{Remembered, with_flush}
 
 -- the keyspace of a flush
 abbrev pub keyspace_of : FlushMade → ℕ
-keyspace_of made = (flush_task made.job).keyspace
+keyspace_of made = (flushed_task made).keyspace
 
 -- ---- memory
 
@@ -54,6 +54,6 @@ abbrev pub ForFinishing : Meaning → Remembered → FlushMade → (ℕ → List
 ForFinishing disk m made Holds =
     let id = keyspace_of made in
     (k : LivingKeyspace) (out : Flushing) → keyspace_at id m.keyspaces.living ≡ Some k → (shape_in id m.trees).flush ≡ Some out
-    → let f = flush_with (shape_in id m.trees) out made.tables.items in
+    → let f = flush_with (shape_in id m.trees) out (flush_tables made) in
     (records : List Fields) (t : Tree) (h : Home) (versions : List Entry) (lists : List (List Entry)) → LiesInTree (state_in disk) records t → HasAt t id h versions
     → h.last ≡ last_known m.records k → Follows f lists h.last → Holds id records t h (tree_after id f lists h versions t)

@@ -11,7 +11,7 @@ use Rattle.fjall_compaction.specs.Flushes.{HasAt}
 use Rattle.fjall_manifest.specs.Homes.{Home}
 use Rattle.fjall_manifest.specs.Reading.{AreRight}
 use Rattle.fjall_jobs.specs.declared.merge_made.MergeMade.{MergeMade}
-use Rattle.fjall_jobs.specs.Merges.{merge_task}
+use Rattle.fjall_jobs.specs.Made.{merge_clears, merge_tables, merged_task}
 use Rattle.fjall_jobs.specs.Tasks.{Task}
 use Rattle.fjall_recovery.specs.Known.{last_known}
 use Rattle.fjall_tree.specs.Jobs.{IsMerging, is_merge_out}
@@ -50,11 +50,11 @@ IsQuiet shape = ⊥
 
 -- the keyspace of a merge
 abbrev pub keyspace_of : MergeMade → ℕ
-keyspace_of made = (merge_task made.job).keyspace
+keyspace_of made = (merged_task made).keyspace
 
 -- the merge that is out counts so, with what it made
 abbrev pub counted_as : Merging → MergeMade → Merge
-counted_as out made = counting.merge_out out made.tables.items made.clears.items
+counted_as out made = counting.merge_out out (merge_tables made) (merge_clears made)
 
 -- ---- memory
 

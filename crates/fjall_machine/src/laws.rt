@@ -11,6 +11,7 @@ ghost use Rattle.fjall_compaction.specs.Flushes.{infos_from, record_after};
 ghost use Rattle.fjall_compaction.specs.FlushPlans.{IsFlushPlanRefusal};
 ghost use Rattle.fjall_jobs.specs.declared.flush_made.FlushMade.{FlushMade};
 ghost use Rattle.fjall_jobs.specs.declared.made_table.MadeTable.{MadeTable};
+ghost use Rattle.fjall_jobs.specs.Made.{flush_tables};
 ghost use Rattle.fjall_jobs.specs.Tasks.{IsFlushed, Task};
 ghost use Rattle.fjall_journal.specs.Changes.{Change, Items};
 ghost use Rattle.fjall_journal.specs.Writer.{counted};
@@ -171,7 +172,7 @@ pub fn a_flush_refusal_is_a_step()
     ensures { (m : Remembered) (table : ℕ) (s : State) → MemoryStandsFor m table s → (job : JobId) (k : LivingKeyspace)
         → keyspace_at job.keyspace_id m.keyspaces.living ≡ Some k → is_flushing m.trees job ≡ true → (out : Flushing) → (shape_in job.keyspace_id m.trees).flush ≡ Some out
         → 0 < out.count → (made : FlushMade) → s.poisoned ≡ false → (error : Error)
-        → IsFlushPlanRefusal (last_known m.records k) (flush_with (shape_in job.keyspace_id m.trees) out made.tables.items) error → StepOf s (OfFlushFinish job) (Refused error) s }
+        → IsFlushPlanRefusal (last_known m.records k) (flush_with (shape_in job.keyspace_id m.trees) out (flush_tables made)) error → StepOf s (OfFlushFinish job) (Refused error) s }
 {}
 
 /// Sealed journals that nobody wants are gone: all of them, or some where it stopped before its end. What memory tells of what was

@@ -4,4 +4,5 @@ mod Cuts
 mod Crashed
 mod Housed
 mod Listed
+mod Filled
 mod Sent

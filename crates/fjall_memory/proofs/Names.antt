@@ -7,7 +7,7 @@ use Rattle.std.specs.Str.{bytes_eq}
 use Rattle.fjall_base.specs.Disk.{Name, DiskEntry, Missing, File, Folder, Place, DiskState, IsThere, standing, put, alter}
 use Rattle.fjall_memory.specs.declared.node.Named.{Named}
 use Rattle.fjall_memory.specs.declared.node.FileChange.{FileChange}
-use Rattle.fjall_memory.specs.declared.node.FileChange.TheVariants.{Append, Sync, Cut}
+use Rattle.fjall_memory.specs.declared.node.FileChange.TheVariants.{Append, Sync, Cut, Fill}
 use Rattle.fjall_memory.specs.Memory.{entry_of, place_of, state_of, FitsEntry, IsKind}
 use Rattle.fjall_memory.specs.declared.node.Kind.{Kind}
 use Rattle.fjall_memory.specs.declared.node.Kind.TheVariants as kinds
@@ -183,6 +183,7 @@ pub never_fits : (change : FileChange) → IsTrue false ↔ FitsEntry change Mis
 never_fits (Append bytes) = (λ bad. cc, λ fits. absurd fits)
 never_fits Sync = (λ bad. cc, λ fits. absurd fits)
 never_fits (Cut len) = (λ bad. cc, λ fits. absurd fits)
+never_fits (Fill bytes) = (λ bad. cc, λ fits. absurd fits)
 
 pub no_folder : (kind : Kind) (entry : DiskEntry) → IsKind kind entry → (kind ≡ kinds.Folder → ⊥) → entry ≡ Folder → ⊥
 no_folder kinds.Missing entry is not folder = let both : Missing ≡ Folder = sym is ∙ folder in cc

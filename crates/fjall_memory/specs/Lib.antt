@@ -1,3 +1,4 @@
+pub mod Wild
 pub mod Memory
 pub mod History
 pub mod Files

@@ -4,6 +4,7 @@ use Rattle.std.specs.declared.io.ErrorKind.TheVariants.{NotFound}
 use Rattle.fjall_base.specs.declared.error.Error.{Error}
 use Rattle.fjall_base.specs.declared.error.Error.TheVariants.{Io, OutOfMemory}
 use Rattle.fjall_base.specs.Disk.{Name, placed, DiskEntry, Missing, File, Folder, Place, DiskState, DiskStep, Put, Append, Sync, Loosen, Cut, SyncFolder, appended, all_synced, cut_to, IsFile, IsLong}
+use Rattle.fjall_memory.specs.Wild.{followed}
 use Rattle.fjall_memory.specs.declared.node.Node.{Node}
 use Rattle.fjall_memory.specs.declared.node.Node as node
 use Rattle.fjall_memory.specs.declared.node.Named.{Named}
@@ -45,18 +46,21 @@ abbrev pub changed : FileChange → DiskEntry → DiskEntry
 changed (of_file.TheVariants.Append bytes) = appended bytes.now
 changed of_file.TheVariants.Sync = all_synced
 changed (of_file.TheVariants.Cut len) = cut_to len
+changed (of_file.TheVariants.Fill bytes) = followed bytes.now
 
 -- the change can be made of such an entry
 abbrev pub FitsEntry : FileChange → DiskEntry → Type 0
 FitsEntry (of_file.TheVariants.Append bytes) = IsFile
 FitsEntry of_file.TheVariants.Sync = IsFile
 FitsEntry (of_file.TheVariants.Cut len) = IsLong len
+FitsEntry (of_file.TheVariants.Fill bytes) = IsFile
 
 -- the change takes no memory
 abbrev pub TakesNone : FileChange → Type 0
 TakesNone (of_file.TheVariants.Append bytes) = ⊥
 TakesNone of_file.TheVariants.Sync = Unit {0}
 TakesNone (of_file.TheVariants.Cut len) = Unit {0}
+TakesNone (of_file.TheVariants.Fill bytes) = ⊥
 
 -- the entry is of that kind
 abbrev pub IsKind : Kind → DiskEntry → Type 0

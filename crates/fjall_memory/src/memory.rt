@@ -1,14 +1,15 @@
 //! A disk in memory, for tests of crashes and of faults.
 
 ghost use Rattle.std.specs.Prelude.{◌≡◌, ◌≢◌, [], ◌∷◌, true, map, IfOk, IsOk, IsOkUnless, OnErr, OnOk};
-ghost use Rattle.fjall_base.specs.Disk.{IsImage, disk_of, state_in, Append, Cut, File, Folder, HasCause, Judged, Loosen, OnlyFaults, Sync, SyncFolder, Took, TookCut, TookOrNot, TookPart, making, removing, CanCreate, CanMakeFolder, CanRemoveFolder, HasFolder, IsEmpty, IsFile, IsLong, IsNoFile, IsNoFolder, IsThere, Lists, ReadsFile, ReadsAt, standing};
+ghost use Rattle.fjall_base.specs.Disk.{IsImage, IsImageBy, SurvivesWild, disk_of, state_in, Append, Cut, File, Folder, HasCause, Judged, Loosen, OnlyFaults, Sync, SyncFolder, Took, TookCut, TookOrNot, TookPart, making, removing, CanCreate, CanMakeFolder, CanRemoveFolder, HasFolder, IsEmpty, IsFile, IsLong, IsNoFile, IsNoFolder, IsThere, Lists, ReadsFile, ReadsAt, standing};
 ghost use Rattle.fjall_base.specs.Crash.{crashed};
 ghost use Rattle.fjall_memory.specs.Memory.{named_place};
+ghost use Rattle.fjall_memory.specs.Wild.{filled, fills_of};
 
 use crate::failing::Failing;
 use crate::files::Files;
 use crate::history::History;
-use crate::node::{Kind, Node, crash_names, holds_any, list_names};
+use crate::node::{Kind, Node, crash_names, fill_names, holds_any, list_names};
 use fjall_base::{DirEntry, Disk, Error, Result};
 use std::alloc::Global;
 
@@ -79,6 +80,42 @@ impl MemoryDisk {
             ..
         } = files;
         crash_names(&mut names, keep)?;
+        let history = History::new();
+        Ok(MemoryDisk {
+            files: Files {
+                alloc,
+                names,
+                history,
+            },
+            failing,
+        })
+    }
+
+    /// The disk after a wild crash: each file keeps its synced bytes, and behind them stand the bytes that
+    /// `fill` gives under its name. What is left counts as synced, and all names stay.
+    ///
+    /// Files that `fill` doesn't name keep their synced bytes alone, and a name that no file has is passed
+    /// over. Two fills of one name follow one another.
+    ///
+    /// That is one of the images that a wild crash may leave. A call that was told to fail still does.
+    ///
+    /// It fails with `Error::OutOfMemory` alone.
+    pub fn crash_wild(self, fill: &[(&str, &[u8])]) -> Result<MemoryDisk>
+        ensures image { IfOk result (λ _. IsImageBy SurvivesWild (state_in (meaning_in self)) (filled (fills_of fill.now) (crashed 0 (state_in (meaning_in self))))) }
+        ensures cause { IsOkUnless result Error.OutOfMemory }
+        ensures left { IfOk result (λ disk. state_in (meaning_in disk) ≡ disk_of (filled (fills_of fill.now) (crashed 0 (state_in (meaning_in self))))) }
+        ensures steps { IfOk result (λ disk. (meaning_in disk).steps ≡ []) }
+        ensures faults { IfOk result (λ disk. (meaning_in disk).faults ≡ (meaning_in self).faults) }
+        ensures told { IfOk result (λ disk. disk.failing ≡ self.failing) }
+    {
+        let MemoryDisk { files, failing } = self;
+        let Files {
+            alloc,
+            mut names,
+            ..
+        } = files;
+        crash_names(&mut names, 0)?;
+        fill_names(&mut names, fill)?;
         let history = History::new();
         Ok(MemoryDisk {
             files: Files {

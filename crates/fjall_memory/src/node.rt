@@ -5,8 +5,9 @@ ghost use Rattle.std.specs.Prelude.{List, All, AllPairs, Any, ◌≢◌, ◌≡�
 ghost use Rattle.std.specs.Bool.{OnTrue, OnFalse};
 ghost use Rattle.std.specs.List.{list_any};
 ghost use Rattle.std.specs.Str.{bytes_eq};
-ghost use Rattle.fjall_base.specs.Disk.{File, Folder, Missing, IsEmpty, IsFile, IsInList, IsLong, IsThere, Lists, ReadsFile, standing, disk_of, folder_of, put, alter, settle, settled, appended, all_synced, cut_to};
+ghost use Rattle.fjall_base.specs.Disk.{Image, File, Folder, Missing, IsEmpty, IsFile, IsInList, IsLong, IsThere, Lists, ReadsFile, standing, disk_of, folder_of, put, alter, settle, settled, appended, all_synced, cut_to};
 ghost use Rattle.fjall_memory.specs.Memory.{entry_of, place_of, state_of, changed, FitsEntry, IsKind, TakesNone};
+ghost use Rattle.fjall_memory.specs.Wild.{filled, fills_of, followed, following};
 ghost use Rattle.fjall_base.specs.Crash.{keeping, crashed};
 
 use fjall_base::DirEntry;
@@ -36,6 +37,8 @@ pub enum FileChange<'a> {
     Append(&'a [u8]),
     Sync,
     Cut(usize),
+    /// Adds bytes and syncs the file.
+    Fill(&'a [u8]),
 }
 
 impl Node {
@@ -109,6 +112,26 @@ impl Node {
         }
     }
 
+    /// Adds bytes to a file and syncs it; false where there is none.
+    pub fn fill(&mut self, bytes: &[u8]) -> Result<bool, AllocError>
+        ensures ok { IfOk result (λ done. OnTrue done (entry_of self.new ≡ followed bytes.now (entry_of self.old))) }
+        ensures file { IfOk result (λ done. IsTrue done ↔ IsFile (entry_of self.old)) }
+        ensures no { IfOk result (λ done. OnFalse done (entry_of self.new ≡ entry_of self.old)) }
+        ensures err { OnErr result (entry_of self.new ≡ entry_of self.old) }
+    {
+        match self {
+            Node::File {
+                bytes: held,
+                synced,
+            } => {
+                held.extend_from_slice(bytes)?;
+                *synced = held.len();
+                Ok(true)
+            }
+            _ => Ok(false),
+        }
+    }
+
     /// Changes a file; false where there is none, or it is too short.
     pub fn alter(&mut self, change: FileChange) -> Result<bool, AllocError>
         ensures ok { IfOk result (λ done. OnTrue done (entry_of self.new ≡ changed change.entry (entry_of self.old))) }
@@ -121,6 +144,7 @@ impl Node {
             FileChange::Append(bytes) => self.append(bytes),
             FileChange::Sync => self.sync(),
             FileChange::Cut(len) => self.cut(len),
+            FileChange::Fill(bytes) => self.fill(bytes),
         }
     }
 
@@ -363,6 +387,26 @@ fn crash_named(named: &mut Named, keep: usize) -> Result<(), AllocError>
 {
     named.older.clear();
     named.now.crash(keep)
+}
+
+/// Puts bytes behind those of a name's file, if it has one, all of them synced.
+fn fill_name(names: &mut Vec<Named>, name: &str, bytes: &[u8]) -> Result<(), AllocError>
+    ensures { (image : Image) → state_of names.old.items ≡ disk_of image
+        → OnOk result (state_of names.new.items ≡ disk_of (following name.now bytes.now image)) }
+{
+    alter_at(names, name, FileChange::Fill(bytes))?;
+    Ok(())
+}
+
+/// The same of each of these, in order.
+pub fn fill_names(names: &mut Vec<Named>, fill: &[(&str, &[u8])]) -> Result<(), AllocError>
+    ensures { (image : Image) → state_of names.old.items ≡ disk_of image
+        → OnOk result (state_of names.new.items ≡ disk_of (filled (fills_of fill.now) image)) }
+{
+    for (name, bytes) in fill {
+        fill_name(names, name, bytes)?;
+    }
+    Ok(())
 }
 
 // Whether something stands in the folder at that name.

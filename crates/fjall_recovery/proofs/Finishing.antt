@@ -11,7 +11,7 @@ use Rattle.fjall_base.specs.declared.error.Error.{Error}
 use Rattle.fjall_base.specs.declared.error.Error.TheVariants.{Io, JournalRecovery, OutOfMemory, Storage, Unrecoverable}
 use Rattle.fjall_base.specs.declared.error.JournalRecoveryError.TheVariants.{InvalidFileName}
 use Rattle.fjall_base.specs.Disk.{DiskEntry, Missing, File, Folder, Image, ReadsFile}
-use Rattle.fjall_journal.specs.Batches.{Shown, view}
+use Rattle.fjall_journal.specs.Batches.{view}
 use Rattle.fjall_manifest.specs.Records.{Fields}
 use Rattle.fjall_manifest.specs.Records as records
 use Rattle.fjall_manifest.specs.Homes.{Home}

@@ -3,13 +3,12 @@ use Rattle.std.proofs.Common.{◌≡◌, ℕ, IfOk, IfErr, OnOk, List, [], ◌�
 use Rattle.std.specs.Option.{option_or}
 use Rattle.fjall_base.specs.declared.error.Error.{Error}
 use Rattle.fjall_journal.specs.declared.batch.Batch.{Batch}
-use Rattle.fjall_journal.specs.declared.batch.Tail.TheVariants.{Damaged}
 use Rattle.fjall_journal.specs.Batches.{Shown, view}
 use Rattle.fjall_journal.specs.Reader.{Next, NextEnds, Reading}
 use Rattle.fjall_journal.proofs.Readings.{SoFar, finished, one_more}
 use Rattle.fjall_manager.specs.Marks.{JournalMarks}
 use Rattle.fjall_manager.specs.Telling.{AreMarksOf}
-use Rattle.fjall_contents.specs.Replays.{JournalFault, NamesFault, fault_of, first_fault, least_after}
+use Rattle.fjall_contents.specs.Replays.{JournalFault, NamesFault, first_fault, least_after}
 use Rattle.fjall_contents.proofs.Faults.{first_fault-append, least_after-append}
 use Rattle.fjall_recovery.specs.declared.look.Look.{Look}
 use Rattle.fjall_base.specs.declared.error.Error.TheVariants.{InvalidTag, Unrecoverable}

@@ -1,5 +1,5 @@
 -- What was read of a folder shows whatever an opening finds there; and what is stored in homes, as their last records tell.
-use Rattle.std.proofs.Common.{◌≡◌, ℕ, false, List, get_or, All, Option, None, Some, refl, subst}
+use Rattle.std.proofs.Common.{◌≡◌, ℕ, false, List, get_or, Option, None, Some, refl, subst}
 use Rattle.std.proofs.lemmas.List.Elements.{All-nil}
 use Rattle.std.specs.FinMap.{get}
 use Rattle.fjall_base.specs.Disk.{Image}

@@ -1,5 +1,5 @@
 -- What a disk holds, whatever a crash leaves of it.
-use Rattle.std.specs.Prelude.{◌≡◌, ℕ, List, [], Option, Some, None}
+use Rattle.std.specs.Prelude.{ℕ, Option, Some, None}
 use Rattle.fjall_base.specs.Store.{Store}
 use Rattle.fjall_base.specs.Disk.{DiskState, Image, IsImage, standing}
 use Rattle.fjall_meta.specs.Keyspaces.{no_keyspaces}

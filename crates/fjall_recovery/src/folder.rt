@@ -46,8 +46,9 @@ pub struct RecoveredFolder {
 }
 
 /// One past the number, and 0 where there is none.
-fn past(number: Option<u64>) -> u64
-    ensures { past number < 2 ^ 64 → result ≡ past number }
+pub(crate) fn past(number: Option<u64>) -> u64
+    ensures value { past number < 2 ^ 64 → result ≡ past number }
+    ensures small { IfSome number (λ n. n < 2 ^ 63) → result ≡ past number }
 {
     match number {
         Some(number) => number.saturating_add(1),

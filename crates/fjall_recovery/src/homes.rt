@@ -1,6 +1,6 @@
 //! The home of each keyspace: its last record, and the ends of its tables.
 
-ghost use Rattle.std.specs.Prelude.{◌≡◌, ◌≤◌, ◌↔◌, false, [], All, IsTrue, IfErr, IfOk};
+ghost use Rattle.std.specs.Prelude.{◌≡◌, ◌≤◌, ◌↔◌, [], IsTrue, IfErr, IfOk};
 ghost use Rattle.fjall_base.specs.Disk.{Took};
 ghost use Rattle.fjall_manifest.specs.Records.{view};
 ghost use Rattle.fjall_contents.specs.Contents.{is_beyond};
@@ -25,7 +25,7 @@ pub fn is_beyond(persisted: Option<u64>, number: u64) -> bool
 }
 
 /// Whether no clear that a record tells is beyond its persisted number.
-fn clears_are_within(last: &Record) -> bool
+pub(crate) fn clears_are_within(last: &Record) -> bool
     ensures { IsTrue result ↔ ClearsAreWithin (view last.now) }
 {
     last.clears

@@ -12,7 +12,6 @@ ghost use Rattle.fjall_contents.specs.Replays.{counts_unpersisted, value_of};
 ghost use Rattle.fjall_contents.specs.Views.{entry_of};
 
 use crate::counting::counts_unpersisted;
-use fjall_base::{Error, Result};
 use fjall_contents::Persisted;
 use fjall_journal::{Batch, ReadBatchItem, ValueType};
 use fjall_meta::MetaKeyspace;
@@ -36,7 +35,7 @@ fn put_item(
     number: u64,
     item: &ReadBatchItem,
     trees: &mut Trees,
-) -> std::result::Result<(), AllocError>
+) -> Result<(), AllocError>
     requires fits { IsEntry (entry_of number item.now) }
     requires small { number < 2 ^ 63 }
     requires begun { BeginBy (counts_unpersisted keyspaces.now persisted.now number) number (forest_of trees.old) }
@@ -60,7 +59,7 @@ fn put_items(
     number: u64,
     items: &[ReadBatchItem],
     trees: &mut Trees,
-) -> std::result::Result<(), AllocError>
+) -> Result<(), AllocError>
     requires fits { All (λ item. IsEntry (entry_of number item)) items.now }
     requires small { number < 2 ^ 63 }
     requires begun { BeginBy (counts_unpersisted keyspaces.now persisted.now number) number (forest_of trees.old) }
@@ -81,7 +80,7 @@ fn clear_trees(
     number: u64,
     ids: &[u64],
     trees: &mut Trees,
-) -> std::result::Result<(), AllocError>
+) -> Result<(), AllocError>
     requires small { number < 2 ^ 63 }
     requires begun { BeginBy (counts_unpersisted keyspaces.now persisted.now number) number (forest_of trees.old) }
     ensures { OnOk result (forest_of trees.new ≡ with_clears (counts_unpersisted keyspaces.now persisted.now number) number ids.now (forest_of trees.old)) }
@@ -100,7 +99,7 @@ pub(crate) fn take(
     persisted: &[Persisted],
     batch: &Batch,
     trees: &mut Trees,
-) -> std::result::Result<(), AllocError>
+) -> Result<(), AllocError>
     requires fits { MayReplay (view batch.now) }
     requires begun { BeginBy (counts_unpersisted keyspaces.now persisted.now batch.now.seqno) batch.now.seqno (forest_of trees.old) }
     ensures { OnOk result (forest_of trees.new ≡ with_batch (counts_unpersisted keyspaces.now persisted.now batch.now.seqno) (view batch.now) (forest_of trees.old)) }

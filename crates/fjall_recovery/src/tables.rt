@@ -10,18 +10,19 @@ ghost use Rattle.fjall_files.specs.Calls.{seen};
 ghost use Rattle.fjall_recovery.specs.Known.{AreAtHome};
 ghost use Rattle.fjall_recovery.specs.Opening.{HaveEntries, IsOpenedOn, KnowsStored, MayOpen, MayOpenAll, ShowsEntries, opened, reader_of, record_read, told_by};
 ghost use Rattle.fjall_recovery.specs.Folders.{Contents, IsOpenable};
-ghost use Rattle.fjall_recovery.specs.Homes.{AreHomesRead, ClearsAreWithin, HaveVersions, Versions};
+ghost use Rattle.fjall_recovery.specs.Homes.{AreHomesRead, HaveVersions, Versions};
 ghost use Rattle.fjall_recovery.specs.Beside.{AreEndedBy};
-ghost use Rattle.fjall_recovery.specs.Replayed.{ids_of, past};
+ghost use Rattle.fjall_recovery.specs.Replayed.{ids_of};
 ghost use Rattle.fjall_table.specs.Blocks.{Entry};
 ghost use Rattle.fjall_manifest.specs.Records.{view};
 ghost use Rattle.fjall_trees.specs.Forests.{AreBefore};
 ghost use Rattle.fjall_trees.specs.Views.{forest_of};
 
-use crate::homes::is_beyond;
+use crate::folder::past;
+use crate::homes::clears_are_within;
 use crate::records::LastRecords;
 use fjall_base::{Error, Result, StorageError};
-use fjall_manifest::{LoadedHome, Record};
+use fjall_manifest::LoadedHome;
 use fjall_meta::MetaKeyspace;
 use fjall_table_reader::{TableFile, TableReader};
 use fjall_tree::Tree;
@@ -56,32 +57,12 @@ fn ascend(numbers: &[u64]) -> bool
     true
 }
 
-/// Whether no clear that a record tells is beyond its persisted number.
-fn are_within(last: &Record) -> bool
-    ensures { IsTrue result ↔ ClearsAreWithin (view last.now) }
-{
-    last.clears
-        .iter()
-        .all(|number| !is_beyond(last.persisted, *number))
-}
-
 /// Whether a home is that of this id, and its record tells of a tree.
 fn may_open(id: u64, home: &LoadedHome) -> bool
     ensures { IsTrue result ↔ MayOpen id home.now }
 {
-    let record = &home.record;
-    home.id == id && is_number(record.persisted) && are_within(record) && ascend(&record.clears)
-}
-
-/// One past the number, and 0 where there is none.
-fn past(persisted: Option<u64>) -> u64
-    requires { IfSome persisted (λ n. n < 2 ^ 63) }
-    ensures { result ≡ past persisted }
-{
-    match persisted {
-        Some(number) => number + 1,
-        None => 0,
-    }
+    let last = &home.record;
+    home.id == id && is_number(last.persisted) && clears_are_within(last) && ascend(&last.clears)
 }
 
 /// Readers of these tables, which keep no block yet.

@@ -27,7 +27,7 @@ use Rattle.fjall_machine.specs.Places.{resolved, view_at}
 use Rattle.fjall_machine.specs.declared.merge_kind.MergeKind.TheVariants.{Major}
 use Rattle.fjall_machine.specs.Shapes.{CallShape, OfFlushBegin, OfFlushFinish, OfMergeBegin, OfMergeFinish, shape_of}
 use Rattle.fjall_lines.specs.declared.command.Command.{Command}
-use Rattle.fjall_lines.specs.declared.command.Command.TheVariants.{Ask, Crash, Reopen}
+use Rattle.fjall_lines.specs.declared.command.Command.TheVariants.{Ask, Crash, CrashWild, Reopen}
 use Rattle.fjall_lines.specs.declared.command.Request.{Request}
 use Rattle.fjall_lines.specs.declared.command.Request.TheVariants.{Keyspace, Delete, Insert, Remove, RemoveWeak, Clear, Batch, Get, Len, Scan, Snapshot, GetAt, CloseSnapshot, Begin, TxGet, TxInsert, Commit, Gc, Rotate, Flush, Merge, Persist}
 use Rattle.fjall_script.specs.Answers.{bad_line, done_text, flag_text, is_idle, last_said, number_text, ok_line, reply_text, reply_to}
@@ -470,6 +470,7 @@ front_answers [] so_far first earlier before calls replies made told old new alo
 front_answers (None ∷ rest) so_far first earlier before calls replies made told old new alone are come owes =
     (record { said = refl; bad = λ h. refl }, front_answers rest so_far first earlier before calls replies made told old new (All-tail IsCall None rest alone) are come owes)
 front_answers (Some (Crash keep) ∷ rest) so_far first earlier before calls replies made told old new alone are come owes = absurd (true≢false (All-head IsCall (Some (Crash keep)) rest alone))
+front_answers (Some (CrashWild fills) ∷ rest) so_far first earlier before calls replies made told old new alone are come owes = absurd (true≢false (All-head IsCall (Some (CrashWild fills)) rest alone))
 front_answers (Some Reopen ∷ rest) so_far first earlier before calls replies made told old new alone are come owes = absurd (true≢false (All-head IsCall (Some Reopen) rest alone))
 front_answers (Some (Ask request) ∷ rest) so_far first earlier before [] replies made told old new alone are come owes = absurd are
 front_answers (Some (Ask request) ∷ rest) so_far first earlier before (mine ∷ calls) replies made told old new alone are come owes =
@@ -490,6 +491,7 @@ AllZip-append (c ∷ a) b (p ∷ x) y h g = (h.0, AllZip-append a b x y h.1 g)
 -- a crash or a reopening is answered by ok, which is no bad line
 ok_answer : (mode : RecoveryMode) (honest : Bool) (stop : Option Command) (old new : Held) → Restarts mode honest stop old new → IsAnswer stop ok_line
 ok_answer mode honest (Some (Crash keep)) old new h = record { said = refl; bad = λ e. absurd (ok_is_good e) }
+ok_answer mode honest (Some (CrashWild fills)) old new h = record { said = refl; bad = λ e. absurd (ok_is_good e) }
 ok_answer mode honest (Some Reopen) old new h = record { said = refl; bad = λ e. absurd (ok_is_good e) }
 ok_answer mode honest (Some (Ask request)) old new h = absurd h
 ok_answer mode honest None old new h = absurd h

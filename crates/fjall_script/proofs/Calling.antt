@@ -4,7 +4,7 @@ use Rattle.std.proofs.lemmas.List.{append-nil, drop_all, map-append}
 use Rattle.std.proofs.lemmas.List.Concat.{flat_map-append}
 use Rattle.fjall_calls.specs.declared.call.TxCall.{TxCall}
 use Rattle.fjall_lines.specs.declared.command.Command.{Command}
-use Rattle.fjall_lines.specs.declared.command.Command.TheVariants.{Ask, Crash, Reopen}
+use Rattle.fjall_lines.specs.declared.command.Command.TheVariants.{Ask, Crash, CrashWild, Reopen}
 use Rattle.fjall_lines.specs.declared.command.Request.{Request}
 use Rattle.fjall_script.specs.Requests.{AddsCalls, AreCalls, AreCallsBehind, AreOfLines, IsCallOf, LineAdds, RequestMakes, SoFar, all_calls, begun_with, behind, calls_with, counts_of, job_of, none_so_far, nowhere, numbered_with, place_by, request_of, requests_of, so_far_in}
 use Rattle.fjall_script.specs.declared.calls.Job.{Job}
@@ -92,6 +92,7 @@ more_made earlier commands i found lines after lt at adds h = steps found adds (
     steps : (f : Option Command) → LineAdds (request_of f) lines after → MadeSoFar earlier commands (f ∷ rest) lines → MadeSoFar earlier commands rest after
     steps None same g = none None refl same g
     steps (Some (Crash keep)) same g = none (Some (Crash keep)) refl same g
+    steps (Some (CrashWild fills)) same g = none (Some (CrashWild fills)) refl same g
     steps (Some Reopen) same g = none (Some Reopen) refl same g
     steps (Some (Ask request)) adds g = some request adds g
 

@@ -3,7 +3,7 @@ use Rattle.std.proofs.Common.{◌≡◌, ℕ, ◌+◌, ◌≤◌, Bool, true, fa
 use Rattle.std.proofs.lemmas.Bool.{true≢false}
 use Rattle.std.proofs.lemmas.List.Sums.{count_by-le-length, sum_by-append, sum_by-cons}
 use Rattle.fjall_lines.specs.declared.command.Command.{Command}
-use Rattle.fjall_lines.specs.declared.command.Command.TheVariants.{Ask, Crash, Reopen}
+use Rattle.fjall_lines.specs.declared.command.Command.TheVariants.{Ask, Crash, CrashWild, Reopen}
 use Rattle.fjall_lines.specs.declared.command.Request.{Request}
 use Rattle.fjall_script.specs.Requests.{asked_with, asks_number, is_stop, opens, numbers_before, numbers_in}
 
@@ -42,6 +42,7 @@ asked_small earlier request = either (opens request)
 -- a crash or a reopening asks for none
 pub stops_ask_none : (found : Option Command) → is_stop found ≡ true → asks_number found ≡ false
 stops_ask_none (Some (Crash keep)) is = refl
+stops_ask_none (Some (CrashWild fills)) is = refl
 stops_ask_none (Some Reopen) is = refl
 stops_ask_none None is = refl
 stops_ask_none (Some (Ask request)) is = absurd (true≢false (sym is))

@@ -4,7 +4,9 @@ mod Fronts
 mod Passing
 mod Restarting
 mod Answered
+mod Lending
 mod Living
+mod Forging
 mod Serving
 mod Writing
 mod Printing

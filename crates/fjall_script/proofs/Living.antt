@@ -11,21 +11,27 @@ use Rattle.fjall_journal.specs.declared.recovery_mode.RecoveryMode.{RecoveryMode
 use Rattle.fjall_base.specs.Store.{Store, fold, kept}
 use Rattle.fjall_base.specs.Store as store
 use Rattle.fjall_base.specs.Crash.{crashed}
-use Rattle.fjall_base.specs.Disk.{DiskState, IsImage, Meaning, disk_of, state_in}
+use Rattle.fjall_base.specs.Disk.{DiskState, Image, IsImage, IsImageBy, Meaning, Survives, disk_of, standing, state_in}
 use Rattle.fjall_base.specs.declared.error.Error.{Error}
 use Rattle.fjall_meta.specs.Keyspaces.{no_keyspaces}
 use Rattle.fjall_contents.specs.Replays.{bare}
-use Rattle.fjall_recovery.specs.Amid.{HoldsAmid}
+use Rattle.fjall_memory.specs.Wild.{Fills, filled}
+use Rattle.fjall_recovery.specs.Amid.{HoldsAmid, StandsAmid}
+use Rattle.fjall_recovery.specs.Held.{IsOpenFolder}
+use Rattle.fjall_wild.specs.Wild.{IsUnforged, SurvivesUnforged}
+use Rattle.fjall_wild.proofs.Covering.{held_alone, held_more, leaves_wider, usual_where}
+use Rattle.fjall_wild.proofs.Folders.{wild_amid}
 use Rattle.fjall_history.specs.declared.reply.Reply.{Reply}
 use Rattle.fjall_machine.specs.declared.call.Call.{Call}
 use Rattle.fjall_machine.specs.Machine.{present}
 use Rattle.fjall_history.proofs.Moving.{sound_opening}
+use Rattle.fjall_core.specs.Durables.{CrashLeavesPending, Durable}
 use Rattle.fjall_core.specs.Holding.{Held}
-use Rattle.fjall_core.specs.Lives.{Closed, CutBehind, Ended, Life, Lives, NoLife, OneMore, Opened, Served, Unclosed, begun, start_of}
+use Rattle.fjall_lives.specs.Lives.{Closed, CutBehind, Ended, Life, Lives, NoLife, OneMore, Opened, Served, Unclosed, begun, start_of}
 use Rattle.fjall_core.specs.Openings.{OpensAmid, OpensAs}
-use Rattle.fjall_core.proofs.LastSyncs.{a_last_sync}
-use Rattle.fjall_core.proofs.CrashedDisks.{new_disk_tidy}
-use Rattle.fjall_core.proofs.Lives.{lives_blame, lives_hold, lives_open}
+use Rattle.fjall_lives.proofs.LastSyncs.{a_last_sync}
+use Rattle.fjall_lives.proofs.CrashedDisks.{new_disk_tidy}
+use Rattle.fjall_lives.proofs.Lives.{lives_blame, lives_hold, lives_open}
 use Rattle.fjall_core.proofs.Reopening.{holds_store_amid}
 use Rattle.fjall_core.proofs.RunsOverCrashes.{no_run}
 use Rattle.fjall_transactions.specs.Standing.{StandFor}
@@ -36,14 +42,14 @@ use Rattle.fjall_calls.specs.Steps.{NoCall}
 use Rattle.fjall_calls.specs.Worlds.{begins}
 use Rattle.fjall_calls.specs.Serving.{AllCome, NoneComes, OneComes, RunsTx}
 use Rattle.fjall_lines.specs.declared.command.Command.{Command}
-use Rattle.fjall_lines.specs.declared.command.Command.TheVariants.{Ask, Crash, Reopen}
+use Rattle.fjall_lines.specs.declared.command.Command.TheVariants.{Ask, Crash, CrashWild, Reopen}
 use Rattle.fjall_lines.specs.declared.command.Request.{Request}
 use Rattle.fjall_script.specs.Answers.{bad_line, ok_line, reply_text, reply_to}
 use Rattle.fjall_script.specs.Lived.{AreServed, Asked, GoesThrough, HasLived, IsServed, made_of, replies_of, served_in, told_as, unasked}
-use Rattle.fjall_script.specs.Machine.{BeginsSession, ClosesCore, Crashes, OpenedOn, new_disk}
+use Rattle.fjall_script.specs.Machine.{BeginsSession, ClosesCore, Crashes, CrashesWild, OpenedOn, new_disk}
 use Rattle.fjall_script.specs.Requests.{AreCalls, AreCallsBehind, SoFar, all_calls, asked_with, asks_number, behind, counts_of, is_stop, none_so_far, request_of, requests_of, numbers_before, numbers_in}
 use Rattle.fjall_script.specs.Sessions as sessions
-use Rattle.fjall_script.specs.Sessions.{Restarts, Session, answers_to}
+use Rattle.fjall_script.specs.Sessions.{ForgesNothing, IsUnforgedStop, Restarts, Session, answers_to}
 use Rattle.fjall_script.proofs.Counts.{asked_before, counted, none_asked, one_asked, stops_ask_none}
 use Rattle.fjall_script.proofs.Restarting.{bare_holds}
 
@@ -83,6 +89,9 @@ through-append k (None ∷ front) more counts later replies others each all =
 through-append k (Some (Crash keep) ∷ front) more counts later replies others each all =
     ap (λ (l : List (List ℕ)). ok_line ∷ l)
     (through-append k front more counts later replies others each all ∙ ap (λ (n : ℕ). answers_to k front counts replies ++ answers_to (k + n) more later others) (sym (none_asked (Some (Crash keep)) front refl)))
+through-append k (Some (CrashWild fills) ∷ front) more counts later replies others each all =
+    ap (λ (l : List (List ℕ)). ok_line ∷ l)
+    (through-append k front more counts later replies others each all ∙ ap (λ (n : ℕ). answers_to k front counts replies ++ answers_to (k + n) more later others) (sym (none_asked (Some (CrashWild fills)) front refl)))
 through-append k (Some Reopen ∷ front) more counts later replies others each all =
     ap (λ (l : List (List ℕ)). ok_line ∷ l)
     (through-append k front more counts later replies others each all ∙ ap (λ (n : ℕ). answers_to k front counts replies ++ answers_to (k + n) more later others) (sym (none_asked (Some Reopen) front refl)))
@@ -438,12 +447,14 @@ again mode commands stop rest printed old new beside s stops synced end next wai
   where
     no_call : (found : Option Command) → is_stop found ≡ true → requests_of (found ∷ []) ≡ []
     no_call (Some (Crash keep)) is = refl
+    no_call (Some (CrashWild fills)) is = refl
     no_call (Some Reopen) is = refl
     no_call None is = absurd (true≢false (sym is))
     no_call (Some (Ask request)) is = absurd (true≢false (sym is))
 
     ok_said : (earlier : ℕ) (found : Option Command) → is_stop found ≡ true → answers_to earlier (found ∷ []) [] [] ≡ ok_line ∷ []
     ok_said earlier (Some (Crash keep)) is = refl
+    ok_said earlier (Some (CrashWild fills)) is = refl
     ok_said earlier (Some Reopen) is = refl
     ok_said earlier None is = absurd (true≢false (sym is))
     ok_said earlier (Some (Ask request)) is = absurd (true≢false (sym is))
@@ -459,6 +470,10 @@ reopened mode commands rest printed old new beside s (Err error) closed closes d
     let after = (safely s.run.state s.run.durable s.run.stands s.run.reads s.run.on).after in
     again mode commands (Some Reopen) rest printed old new beside s refl last.0 (state_in closed) after.base after.pending (Unclosed last.0 error closed last.1 safely) disk (ap state_in same) o
 
+-- behind a run each crash leaves its base with a beginning of what is pending
+left_amid : (d : Durable) (disk : Meaning) → CrashLeavesPending d → d.meaning ≡ disk → (image : Image) → IsImage (state_in disk) image → StandsAmid d.base [] d.pending image
+left_amid d disk rests same image is = rests image (subst (λ (m : Meaning). IsImage (state_in m) image) (sym same) is)
+
 -- what a crash leaves
 crashes : (mode : RecoveryMode) (commands rest : List (Option Command)) (printed : List (List ℕ)) (old new : Held) (beside : Kept) (keep : ℕ) (s : LivedSo commands (Some (Crash keep) ∷ rest) true printed old beside) → Crashes mode true keep old new → LivedSo commands rest false (printed ++ ok_line ∷ []) new none_kept
 crashes mode commands rest printed old new beside keep s h =
@@ -466,27 +481,45 @@ crashes mode commands rest printed old new beside keep s h =
     let image = crashed keep (state_in old.disk) in
     let is = h.image refl in
     let last = a_last_sync s.first old (kept (fold s.base s.opened.front)) s.calls s.replies s.opened.opens s.run in
-    let amid = s.run.on.rests image (subst (λ (m : Meaning). IsImage (state_in m) image) (sym s.run.on.same) is) in
+    let amid = left_amid d old.disk s.run.on.rests s.run.on.same image is in
     let left = kept (fold d.base amid.front) in
-    again mode commands (Some (Crash keep)) rest printed old new beside s refl last.0 (disk_of image) left [] (CutBehind last.0 image left last.1 is amid.stands) h.disk (h.left refl) h.opened
+    let unforged : IsImageBy SurvivesUnforged (state_in old.disk) image = leaves_wider Survives SurvivesUnforged (usual_where IsUnforged held_more held_alone) (state_in old.disk) [] image is in
+    again mode commands (Some (Crash keep)) rest printed old new beside s refl last.0 (disk_of image) left [] (CutBehind last.0 image left last.1 unforged amid.stands) h.disk (h.left refl) h.opened
 
-restarts : (mode : RecoveryMode) (stop : Option Command) (commands rest : List (Option Command)) (printed : List (List ℕ)) (old new : Held) (beside : Kept) → LivedSo commands (stop ∷ rest) true printed old beside → Restarts mode true stop old new → LivedSo commands rest false (printed ++ ok_line ∷ []) new none_kept
-restarts mode (Some (Crash keep)) commands rest printed old new beside s h = crashes mode commands rest printed old new beside keep s h
-restarts mode (Some Reopen) commands rest printed old new beside s h = reopened mode commands rest printed old new beside s h.closing h.closed h.closes h.disk (h.same refl) h.opened
-restarts mode None commands rest printed old new beside s h = absurd h
-restarts mode (Some (Ask request)) commands rest printed old new beside s h = absurd h
+-- what a wild crash leaves that forges nothing, where it opens
+crashes_wild : (mode : RecoveryMode) (commands rest : List (Option Command)) (printed : List (List ℕ)) (old new : Held) (beside : Kept) (fills : Fills) (s : LivedSo commands (Some (CrashWild fills) ∷ rest) true printed old beside) → CrashesWild mode true fills old new
+    → IsUnforgedStop (Some (CrashWild fills)) old.disk → LivedSo commands rest false (printed ++ ok_line ∷ []) new none_kept
+crashes_wild mode commands rest printed old new beside fills s h unforged =
+    let d = s.run.durable in
+    let image = filled fills (crashed 0 (state_in old.disk)) in
+    let last = a_last_sync s.first old (kept (fold s.base s.opened.front)) s.calls s.replies s.opened.opens s.run in
+    let opened = h.opened.opened refl in
+    let there : IsOpenFolder image opened.folder = subst (λ (state : DiskState). IsOpenFolder (standing state) opened.folder) (h.left refl) opened.is in
+    let amid = wild_amid (state_in old.disk) [] d.base [] d.pending image opened.folder (left_amid d old.disk s.run.on.rests s.run.on.same) unforged there in
+    let left = kept (fold d.base amid.front) in
+    again mode commands (Some (CrashWild fills)) rest printed old new beside s refl last.0 (disk_of image) left [] (CutBehind last.0 image left last.1 unforged amid.stands) h.disk (h.left refl) h.opened
+
+restarts : (mode : RecoveryMode) (stop : Option Command) (commands rest : List (Option Command)) (printed : List (List ℕ)) (old new : Held) (beside : Kept) → LivedSo commands (stop ∷ rest) true printed old beside → Restarts mode true stop old new → IsUnforgedStop stop old.disk
+    → LivedSo commands rest false (printed ++ ok_line ∷ []) new none_kept
+restarts mode (Some (Crash keep)) commands rest printed old new beside s h unforged = crashes mode commands rest printed old new beside keep s h
+restarts mode (Some (CrashWild fills)) commands rest printed old new beside s h unforged = crashes_wild mode commands rest printed old new beside fills s h unforged
+restarts mode (Some Reopen) commands rest printed old new beside s h unforged = reopened mode commands rest printed old new beside s h.closing h.closed h.closes h.disk (h.same refl) h.opened
+restarts mode None commands rest printed old new beside s h unforged = absurd h
+restarts mode (Some (Ask request)) commands rest printed old new beside s h unforged = absurd h
 
 -- ---- a session
 
-lived_so : (mode : RecoveryMode) (commands rest : List (Option Command)) (ran : Bool) (core : Held) (beside : Kept) (printed : List (List ℕ)) → Session mode true commands ran core beside printed rest → LivedSo commands rest ran printed core beside
-lived_so mode commands _ _ _ _ _ (sessions.begun core h) = begins_so mode commands core h
-lived_so mode commands _ _ _ _ _ (sessions.run old new before after printed lines rest made replies s alone stop are ran) =
-    runs commands lines rest old new before after printed made replies (lived_so mode commands (lines ++ rest) false old before printed s) alone are ran
-lived_so mode commands _ _ _ _ _ (sessions.restarted old new before printed stop rest s h) = restarts mode stop commands rest printed old new before (lived_so mode commands (stop ∷ rest) true old before printed s) h
+lived_so : (mode : RecoveryMode) (commands rest : List (Option Command)) (ran : Bool) (core : Held) (beside : Kept) (printed : List (List ℕ)) (session : Session mode true commands ran core beside printed rest) → ForgesNothing session
+    → LivedSo commands rest ran printed core beside
+lived_so mode commands _ _ _ _ _ (sessions.begun core h) unforged = begins_so mode commands core h
+lived_so mode commands _ _ _ _ _ (sessions.run old new before after printed lines rest made replies s alone stop are ran) unforged =
+    runs commands lines rest old new before after printed made replies (lived_so mode commands (lines ++ rest) false old before printed s unforged) alone are ran
+lived_so mode commands _ _ _ _ _ (sessions.restarted old new before printed stop rest s h) unforged =
+    restarts mode stop commands rest printed old new before (lived_so mode commands (stop ∷ rest) true old before printed s unforged.0) h unforged.1
 
-has_lived : (mode : RecoveryMode) (commands rest : List (Option Command)) (ran : Bool) (core : Held) (beside : Kept) (printed : List (List ℕ)) → Session mode true commands ran core beside printed rest → HasLived commands rest printed core beside
-has_lived mode commands rest ran core beside printed session =
-    let s = lived_so mode commands rest ran core beside printed session in
+has_lived : (mode : RecoveryMode) (commands rest : List (Option Command)) (ran : Bool) (core : Held) (beside : Kept) (printed : List (List ℕ)) (session : Session mode true commands ran core beside printed rest) → ForgesNothing session → HasLived commands rest printed core beside
+has_lived mode commands rest ran core beside printed session unforged =
+    let s = lived_so mode commands rest ran core beside printed session unforged in
     let behind = lives_open (state_in new_disk) (bare no_keyspaces) s.lives s.disk s.base s.pending s.first start_holds s.before s.opened in
     record {
       front = s.front;
@@ -512,8 +545,8 @@ has_lived mode commands rest ran core beside printed session =
       stands = behind.2;
     }
 
--- over a disk that returns what it holds
-pub session_lived : (mode : RecoveryMode) (honest : Bool) (commands rest : List (Option Command)) (ran : Bool) (core : Held) (beside : Kept) (printed : List (List ℕ)) → Session mode honest commands ran core beside printed rest → IsTrue honest
+-- over a disk that returns what it holds, where no wild crash forged anything
+pub session_lived : (mode : RecoveryMode) (honest : Bool) (commands rest : List (Option Command)) (ran : Bool) (core : Held) (beside : Kept) (printed : List (List ℕ)) (session : Session mode honest commands ran core beside printed rest) → IsTrue honest → ForgesNothing session
     → HasLived commands rest printed core beside
-session_lived mode true commands rest ran core beside printed s h = has_lived mode commands rest ran core beside printed s
-session_lived mode false commands rest ran core beside printed s h = absurd (true≢false (sym h))
+session_lived mode true commands rest ran core beside printed s h unforged = has_lived mode commands rest ran core beside printed s unforged
+session_lived mode false commands rest ran core beside printed s h unforged = absurd (true≢false (sym h))

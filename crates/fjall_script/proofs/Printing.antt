@@ -1,9 +1,10 @@
 -- One more answer is printed.
 use Rattle.std.proofs.Common.{◌≡◌, ℕ, ◌+◌, ◌<◌, List, [], ◌∷◌, ◌++◌, length, drop, take, get_or, Option, Some, None, sym, ap, ◌∙◌, append_assoc}
 use Rattle.std.proofs.lemmas.List.{drop_more}
+use Rattle.fjall_memory.specs.Wild.{Fills}
 use Rattle.fjall_history.specs.declared.reply.Reply.{Reply}
 use Rattle.fjall_lines.specs.declared.command.Command.{Command}
-use Rattle.fjall_lines.specs.declared.command.Command.TheVariants.{Ask, Crash, Reopen}
+use Rattle.fjall_lines.specs.declared.command.Command.TheVariants.{Ask, Crash, CrashWild, Reopen}
 use Rattle.fjall_lines.specs.declared.command.Request.{Request}
 use Rattle.fjall_script.specs.Answers.{reply_text, reply_to, bad_line, ok_line, text_of}
 use Rattle.fjall_script.specs.Requests.{asked_with}
@@ -37,6 +38,10 @@ bad_said earlier found counts left none rest = ap (λ (f : Option Command). answ
 pub crash_said : (earlier : ℕ) (found : Option Command) (counts : List ℕ) (left : List Reply) (keep : ℕ) → found ≡ Some (Crash keep) → (rest : List (Option Command))
     → answers_to earlier (found ∷ rest) counts left ≡ ok_line ∷ answers_to earlier rest counts left
 crash_said earlier found counts left keep is rest = ap (λ (f : Option Command). answers_to earlier (f ∷ rest) counts left) is
+
+pub wild_crash_said : (earlier : ℕ) (found : Option Command) (counts : List ℕ) (left : List Reply) (fills : Fills) → found ≡ Some (CrashWild fills) → (rest : List (Option Command))
+    → answers_to earlier (found ∷ rest) counts left ≡ ok_line ∷ answers_to earlier rest counts left
+wild_crash_said earlier found counts left fills is rest = ap (λ (f : Option Command). answers_to earlier (f ∷ rest) counts left) is
 
 pub reopen_said : (earlier : ℕ) (found : Option Command) (counts : List ℕ) (left : List Reply) → found ≡ Some Reopen → (rest : List (Option Command)) → answers_to earlier (found ∷ rest) counts left ≡ ok_line ∷ answers_to earlier rest counts left
 reopen_said earlier found counts left is rest = ap (λ (f : Option Command). answers_to earlier (f ∷ rest) counts left) is

@@ -10,7 +10,7 @@ use Rattle.fjall_history.specs.declared.reply.Reply.{Reply}
 use Rattle.fjall_machine.specs.declared.call.Call.{Call}
 use Rattle.fjall_core.specs.Holding.{Held}
 use Rattle.fjall_core.specs.Crashes.{BlamesEach}
-use Rattle.fjall_core.specs.Lives.{AreLeftOf, Life, Lives, Served, all_left, begun, start_of}
+use Rattle.fjall_lives.specs.Lives.{AreLeftOf, Life, Lives, Served, all_left, begun, start_of}
 use Rattle.fjall_core.specs.Openings.{OpensAmid, OpensAs}
 use Rattle.fjall_core.specs.Standing.{ReadsOn}
 use Rattle.fjall_transactions.specs.Standing.{StandFor, Told}

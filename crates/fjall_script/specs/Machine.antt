@@ -4,10 +4,11 @@ use Rattle.std.specs.Prelude.{◌≡◌, ℕ, Bool, false, IsTrue, [], List, Res
 use Rattle.fjall_journal.specs.declared.recovery_mode.RecoveryMode.{RecoveryMode}
 use Rattle.fjall_journal.specs.declared.recovery_mode.RecoveryMode.TheVariants.{RefuseTornTail}
 use Rattle.fjall_base.specs.Crash.{crashed}
-use Rattle.fjall_base.specs.Disk.{Meaning, IsImage, disk_of, standing, state_in}
+use Rattle.fjall_base.specs.Disk.{Meaning, IsImage, IsImageBy, SurvivesWild, disk_of, standing, state_in}
 use Rattle.fjall_base.specs.Store.{Command, Store}
 use Rattle.fjall_base.specs.declared.error.Error.{Error}
 use Rattle.fjall_base.specs.declared.error.Error.TheVariants.{Io, Locked, OutOfMemory}
+use Rattle.fjall_memory.specs.Wild.{Fills, filled}
 use Rattle.fjall_meta.specs.Keyspaces.{no_keyspaces}
 use Rattle.fjall_table.specs.Blocks.{Entry}
 use Rattle.fjall_contents.specs.Replays.{bare}
@@ -70,6 +71,14 @@ pub record Crashes (mode : RecoveryMode) (honest : Bool) (keep : ℕ) (old new :
   pub disk : Meaning
   pub image : IsTrue honest → IsImage (state_in old.disk) (crashed keep (state_in old.disk))
   pub left : IsTrue honest → state_in disk ≡ disk_of (crashed keep (state_in old.disk))
+  pub opened : OpenedOn mode honest disk new
+
+-- A core that was opened on what a wild crash of the old one's disk left: of each file its synced bytes, and behind them what was
+-- given for it.
+pub record CrashesWild (mode : RecoveryMode) (honest : Bool) (fills : Fills) (old new : Held) : Type 0 where
+  pub disk : Meaning
+  pub image : IsTrue honest → IsImageBy SurvivesWild (state_in old.disk) (filled fills (crashed 0 (state_in old.disk)))
+  pub left : IsTrue honest → state_in disk ≡ disk_of (filled fills (crashed 0 (state_in old.disk)))
   pub opened : OpenedOn mode honest disk new
 
 -- The core's disk after a closing, answered or refused. A crash meanwhile leaves a beginning of what was accepted, with all

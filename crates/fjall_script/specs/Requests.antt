@@ -19,7 +19,7 @@ use Rattle.fjall_calls.specs.declared.call.TxCall.{TxCall}
 use Rattle.fjall_calls.specs.declared.call.TxCall.TheVariants as tx
 use Rattle.fjall_calls.specs.declared.call.Within.TheVariants as within
 use Rattle.fjall_lines.specs.declared.command.Command.{Command}
-use Rattle.fjall_lines.specs.declared.command.Command.TheVariants.{Ask, Crash, Reopen}
+use Rattle.fjall_lines.specs.declared.command.Command.TheVariants.{Ask, Crash, CrashWild, Reopen}
 use Rattle.fjall_lines.specs.declared.command.Request.{Request}
 use Rattle.fjall_lines.specs.declared.command.Request.TheVariants.{Keyspace, Delete, Insert, Remove, RemoveWeak, Clear, Batch, Get, Len, Scan, Snapshot, GetAt, CloseSnapshot, Begin, TxGet, TxInsert, Commit, Gc, Rotate, Flush, Merge, Persist}
 use Rattle.fjall_lines.specs.Lines.{Write}
@@ -39,8 +39,14 @@ requests_of lines = filter_map request_of lines
 -- a crash or a reopening, which ends a list of calls
 abbrev pub is_stop : Option Command → Bool
 is_stop (Some (Crash keep)) = true
+is_stop (Some (CrashWild fills)) = true
 is_stop (Some Reopen) = true
 is_stop found = false
+
+-- the line asks for a wild crash
+abbrev pub is_wild_crash : Option Command → Bool
+is_wild_crash (Some (CrashWild fills)) = true
+is_wild_crash found = false
 
 -- ---- numbers of snapshots and transactions
 

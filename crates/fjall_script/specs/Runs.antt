@@ -18,11 +18,11 @@ use Rattle.fjall_core.specs.Holding.{Held}
 use Rattle.fjall_transactions.specs.Transactions.{Kept}
 use Rattle.fjall_script.specs.Lived.{HasLived}
 use Rattle.fjall_script.specs.Machine.{IsClosed, NotBegun}
-use Rattle.fjall_script.specs.Sessions.{EndsBy, IsAnswer, Session}
+use Rattle.fjall_script.specs.Sessions.{EndsBy, ForgesNothing, IsAnswer, Session}
 
 -- Each line of the text is read as a command or as none, a session of these came to its end, the core was
 -- closed, and what was printed was added: an answer for each. Over a disk that returns what it holds the session came to lives
--- of engines one after another.
+-- of engines one after another, where no wild crash forged anything.
 pub record AnswersInput (mode : RecoveryMode) (honest : Bool) (text : List ℕ) (old new : Option (List ℕ)) : Type 0 where
   pub commands : List (Option Command)
   pub core : Held
@@ -31,13 +31,13 @@ pub record AnswersInput (mode : RecoveryMode) (honest : Bool) (text : List ℕ) 
   pub reads : AllZip (Hears honest) (lines_of text) commands
   pub session : Session mode honest commands true core kept printed []
   pub closed : IsClosed honest core
-  pub lived : IsTrue honest → HasLived commands [] printed core kept
+  pub lived : IsTrue honest → ForgesNothing session → HasLived commands [] printed core kept
   pub answers : AllZip IsAnswer commands printed
   pub appends : Appends old new (text_of printed)
 
 -- Each line of the text is read as a command or as none, and a session of these has come so far. What it printed are the
 -- answers to the commands of a beginning, one for each; the rest has none. Over a disk that returns what it holds it came to
--- lives of engines one after another.
+-- lives of engines one after another, where no wild crash forged anything.
 pub record RunsInput (mode : RecoveryMode) (honest : Bool) (text : List ℕ) : Type 0 where
   pub commands : List (Option Command)
   pub front : List (Option Command)
@@ -50,7 +50,7 @@ pub record RunsInput (mode : RecoveryMode) (honest : Bool) (text : List ℕ) : T
   pub split : commands ≡ front ++ rest
   pub session : Session mode honest commands ran core kept printed rest
   pub answers : AllZip IsAnswer front printed
-  pub lived : IsTrue honest → HasLived commands rest printed core kept
+  pub lived : IsTrue honest → ForgesNothing session → HasLived commands rest printed core kept
 
 -- What is printed for an input that fails with this refusal. Where no core could be opened, or the input could not be read,
 -- nothing; where the session was refused, all that it answered before; where the output failed, a beginning of that.

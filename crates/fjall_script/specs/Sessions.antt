@@ -3,9 +3,11 @@ use Rattle.std.specs.Prelude.{◌≡◌, ℕ, ◌+◌, Bool, true, false, List, 
 use Rattle.std.specs.Io.KnownBytes.{Appends, Keeps}
 use Rattle.fjall_journal.specs.declared.recovery_mode.RecoveryMode.{RecoveryMode}
 use Rattle.fjall_base.specs.Crash.{crashed}
-use Rattle.fjall_base.specs.Disk.{Meaning, IsImage, disk_of, state_in}
+use Rattle.fjall_base.specs.Disk.{Meaning, IsImage, IsImageBy, SurvivesWild, disk_of, state_in}
 use Rattle.fjall_base.specs.declared.error.Error.{Error}
 use Rattle.fjall_base.specs.declared.error.Error.TheVariants.{OutOfMemory}
+use Rattle.fjall_memory.specs.Wild.{filled}
+use Rattle.fjall_wild.specs.Wild.{SurvivesUnforged}
 use Rattle.fjall_core.specs.Holding.{Held}
 use Rattle.fjall_transactions.specs.Transactions.{Kept, none_kept}
 use Rattle.fjall_calls.specs.declared.call.TxCall.{TxCall}
@@ -13,13 +15,13 @@ use Rattle.fjall_calls.specs.Serving.{RunsTx}
 use Rattle.fjall_history.specs.declared.reply.Reply.{Reply}
 use Rattle.fjall_history.specs.declared.reply.Reply.TheVariants.{Done, Flag, Value, Pairs, Number, Opened, Refused}
 use Rattle.fjall_lines.specs.declared.command.Command.{Command}
-use Rattle.fjall_lines.specs.declared.command.Command.TheVariants.{Ask, Crash, Reopen}
+use Rattle.fjall_lines.specs.declared.command.Command.TheVariants.{Ask, Crash, CrashWild, Reopen}
 use Rattle.fjall_lines.specs.declared.command.Request.{Request}
 use Rattle.fjall_lines.specs.declared.command.Request.TheVariants.{Keyspace, Delete, Insert, Remove, RemoveWeak, Clear, Batch, Get, Len, Scan, Snapshot, GetAt, CloseSnapshot, Begin, TxGet, TxInsert, Commit, Gc, Rotate, Flush, Merge, Persist}
 use Rattle.fjall_script.specs.Answers.{reply_text, reply_to, bad_line, ok_line, text_of}
 use Rattle.fjall_script.specs.Outputs.{AppendsFront, IsIo}
 use Rattle.fjall_script.specs.Requests.{AreCalls, all_calls, asked_with, counts_of, is_stop, numbers_before, numbers_in}
-use Rattle.fjall_script.specs.Machine.{BeginsSession, ClosesCore, Crashes, IsNoDisk, RefusedOn, Reopens, IsClosed}
+use Rattle.fjall_script.specs.Machine.{BeginsSession, ClosesCore, Crashes, CrashesWild, IsNoDisk, RefusedOn, Reopens, IsClosed}
 
 -- The answers to lines by the replies to their calls, in turn, so many to each request, where so many numbers were asked for before: ok
 -- for a crash and a reopening, and a line that is no command has an answer of its own.
@@ -30,6 +32,7 @@ answers_to earlier (Some (Ask request) ∷ rest) [] replies = []
 answers_to earlier (Some (Ask request) ∷ rest) (count ∷ counts) replies =
     reply_text (earlier + 1) request (reply_to (take count replies)) ∷ answers_to (asked_with earlier request) rest counts (drop count replies)
 answers_to earlier (Some (Crash keep) ∷ rest) counts replies = ok_line ∷ answers_to earlier rest counts replies
+answers_to earlier (Some (CrashWild fills) ∷ rest) counts replies = ok_line ∷ answers_to earlier rest counts replies
 answers_to earlier (Some Reopen ∷ rest) counts replies = ok_line ∷ answers_to earlier rest counts replies
 
 -- what the reply to a request may be: what the request asks for, or a refusal
@@ -70,6 +73,7 @@ pub record IsReplied (request : Request) (answer : List ℕ) : Type 0 where
 abbrev pub IsSaid : Option Command → List ℕ → Type 0
 IsSaid None answer = answer ≡ bad_line
 IsSaid (Some (Crash keep)) answer = answer ≡ ok_line
+IsSaid (Some (CrashWild fills)) answer = answer ≡ ok_line
 IsSaid (Some Reopen) answer = answer ≡ ok_line
 IsSaid (Some (Ask request)) answer = IsReplied request answer
 
@@ -83,21 +87,25 @@ abbrev pub IsAtStop : List (Option Command) → Type 0
 IsAtStop [] = Unit {0}
 IsAtStop (found ∷ rest) = is_stop found ≡ true
 
--- what a crash leaves of a disk, one of the images that it may leave: so many unsynced bytes of each file; or the same
--- disk at a reopening
+-- what a crash leaves of a disk, one of the images that it may leave: so many unsynced bytes of each file, or what is given behind
+-- the synced ones; or the same disk at a reopening
 abbrev pub RestartLeaves : Option Command → Meaning → Meaning → Type 0
 RestartLeaves (Some (Crash keep)) old new = IsImage (state_in old) (crashed keep (state_in old)) × (state_in new ≡ disk_of (crashed keep (state_in old)))
+RestartLeaves (Some (CrashWild fills)) old new =
+    IsImageBy SurvivesWild (state_in old) (filled fills (crashed 0 (state_in old))) × (state_in new ≡ disk_of (filled fills (crashed 0 (state_in old))))
 RestartLeaves stop old new = new ≡ old
 
 -- the line opens the core again, after a crash or not
 abbrev pub Restarts : RecoveryMode → Bool → Option Command → Held → Held → Type 0
 Restarts mode honest (Some (Crash keep)) old new = Crashes mode honest keep old new
+Restarts mode honest (Some (CrashWild fills)) old new = CrashesWild mode honest fills old new
 Restarts mode honest (Some Reopen) old new = Reopens mode honest old new
 Restarts mode honest found old new = ⊥
 
 -- what such a line opens the core on: what the crash leaves, or the disk of the old core, which was closed, with success or not
 abbrev pub OpensAgain : Bool → Option Command → Held → Meaning → Type 0
 OpensAgain honest (Some (Crash keep)) old disk = IsTrue honest → RestartLeaves (Some (Crash keep)) old.disk disk
+OpensAgain honest (Some (CrashWild fills)) old disk = IsTrue honest → RestartLeaves (Some (CrashWild fills)) old.disk disk
 OpensAgain honest (Some Reopen) old disk = (closing : Result Unit Error) × (closed : Meaning) × ClosesCore honest old closing closed × (IsTrue honest → disk ≡ closed)
 OpensAgain honest found old disk = ⊥
 
@@ -117,6 +125,19 @@ pub data Session (mode : RecoveryMode) (honest : Bool) (commands : List (Option 
   restarted : (old new : Held) (before : Kept) (printed : List (List ℕ)) (stop : Option Command) (rest : List (Option Command))
       → Session mode honest commands true old before printed (stop ∷ rest) → Restarts mode honest stop old new
       → Session mode honest commands false new none_kept (printed ++ ok_line ∷ []) rest
+
+-- What the line leaves forges nothing: the whole batches and the whole records at the front of each file stood there as the crash
+-- came.
+abbrev pub IsUnforgedStop : Option Command → Meaning → Type 0
+IsUnforgedStop (Some (CrashWild fills)) disk = IsImageBy SurvivesUnforged (state_in disk) (filled fills (crashed 0 (state_in disk)))
+IsUnforgedStop stop disk = Unit {0}
+
+-- no wild crash of the session forged anything
+abbrev pub ForgesNothing : {mode : RecoveryMode} {honest : Bool} {commands : List (Option Command)} {ran : Bool} {core : Held} {kept : Kept} {printed : List (List ℕ)} {rest : List (Option Command)}
+    → Session mode honest commands ran core kept printed rest → Type 0
+ForgesNothing (begun core begins) = Unit {0}
+ForgesNothing (run old new before after printed lines rest made replies session alone stop are runs) = ForgesNothing session
+ForgesNothing (restarted old new before printed stop rest session restarts) = ForgesNothing session × IsUnforgedStop stop old.disk
 
 -- How a session fails, with its core as it stands and these commands to come: memory ran out for a list of calls as a whole or
 -- for an answer, the opening of a crash or a reopening was refused, or the closing at the end.

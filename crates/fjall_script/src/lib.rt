@@ -3,6 +3,7 @@
 
 mod answer;
 mod calls;
+mod laws;
 mod output;
 mod place;
 mod program;
@@ -10,5 +11,6 @@ mod session;
 
 pub use fjall_journal::RecoveryMode;
 pub use fjall_lines::Command;
+pub use laws::only_wild_crashes_forge;
 pub use place::{Folder, Memory, Place};
 pub use program::{Status, fail, run, run_folder, run_memory, run_over, usage};

@@ -1,14 +1,15 @@
 //! Where a session keeps its files: in memory, or in a folder.
 
 ghost use Rattle.std.specs.Prelude.{◌≡◌, IsTrue, IfErr, IfOk};
+ghost use Rattle.fjall_memory.specs.Wild.{fills_of};
 ghost use Rattle.fjall_script.specs.Machine.{IsNew, IsNoDisk};
 ghost use Rattle.fjall_script.specs.Sessions.{RestartLeaves};
 
 use fjall_base::{Disk, Result};
 use fjall_folder::FolderDisk;
-use fjall_lines::Command;
+use fjall_lines::{Command, Fills};
 use fjall_memory::MemoryDisk;
-use std::alloc::Global;
+use std::alloc::{AllocError, Global};
 
 /// Gives a session its disk, and gives it again after each crash and reopening.
 pub trait Place {
@@ -29,10 +30,22 @@ pub trait Place {
         ensures err { IfErr result (IsNoDisk Self.Disk.honest) };
 }
 
-/// A disk in memory. A crash leaves so many unsynced bytes of each file.
+/// A disk in memory. A crash leaves so many unsynced bytes of each file, a wild one what it is given behind the synced ones.
 #[derive(Clone, Copy)]
 pub struct Memory {
     pub alloc: Global,
+}
+
+// What a wild crash leaves behind the synced bytes of files, as the disk takes it.
+fn lent(alloc: Global, fills: &Fills) -> std::result::Result<Vec<(&str, &[u8])>, AllocError>
+    ensures { IfOk result (λ lent. fills_of lent.items ≡ fills.now) }
+{
+    let mut lent = Vec::new(alloc);
+    let kept = fills.as_slice();
+    for (path, bytes) in kept {
+        lent.push((path.as_str(), bytes.as_slice()))?;
+    }
+    Ok(lent)
 }
 
 impl Place for Memory {
@@ -49,6 +62,10 @@ impl Place for Memory {
     fn restart(&self, disk: MemoryDisk, stop: &Option<Command>) -> Result<MemoryDisk> {
         match stop {
             Some(Command::Crash(keep)) => disk.crash(*keep as usize),
+            Some(Command::CrashWild(fills)) => {
+                let given = lent(self.alloc, fills)?;
+                disk.crash_wild(given.as_slice())
+            }
             _ => Ok(disk),
         }
     }

@@ -24,7 +24,10 @@ use std::io::Write;
 fn is_stop(found: &Option<Command>) -> bool
     ensures { result ≡ is_stop found.now }
 {
-    matches!(found, Some(Command::Crash(_) | Command::Reopen))
+    matches!(
+        found,
+        Some(Command::Crash(_) | Command::CrashWild(_) | Command::Reopen)
+    )
 }
 
 // Where the first crash or reopening stands.
@@ -72,6 +75,7 @@ fn answers_to(
                     left = later;
                 }
                 Command::Crash(_) => text.push_str("ok")?,
+                Command::CrashWild(_) => text.push_str("ok")?,
                 Command::Reopen => text.push_str("ok")?,
             },
         }
@@ -157,6 +161,7 @@ fn restarted<P: Place>(
 {
     let disk = match stop {
         Some(Command::Crash(_)) => core.into_disk(),
+        Some(Command::CrashWild(_)) => core.into_disk(),
         _ => core.close().0,
     };
     let mut config = Config::new(alloc, "")?;

@@ -2,7 +2,7 @@
 use Rattle.std.proofs.Common.{◌≡◌, ℕ, true, List, length, Option, Some, None, refl, sym, ap, subst, ◌∙◌}
 use Rattle.std.proofs.lemmas.Bool.{true≢false}
 use Rattle.fjall_jobs.specs.declared.flush_made.FlushMade.{FlushMade}
-use Rattle.fjall_jobs.specs.Flushes.{flush_task}
+use Rattle.fjall_jobs.specs.Made.{flush_clears, flushed_task}
 use Rattle.fjall_tree.specs.Jobs.{IsFlushing, is_flush_out}
 use Rattle.fjall_tree.specs.Trees.{Flushing}
 use Rattle.fjall_trees.specs.Forests.{Forest}
@@ -20,10 +20,10 @@ flush_there job None out = absurd (true≢false (sym out))
 flush_there job (Some out) is = (out, refl)
 
 -- Room for what was made is room for the flush that is out, where that was begun with its task.
-pub room_suffices : (m : Remembered) (made : FlushMade) (trees : Trees) (id tables clears readers : ℕ) (Taken : Type 0) → id ≡ keyspace_of made → tables ≡ readers → clears ≡ length made.clears.items
+pub room_suffices : (m : Remembered) (made : FlushMade) (trees : Trees) (id tables clears readers : ℕ) (Taken : Type 0) → id ≡ keyspace_of made → tables ≡ readers → clears ≡ length (flush_clears made)
     → forest_of trees ≡ m.trees → HasRoomAt id trees tables clears
-    → (HasRoomAt (keyspace_of made) trees readers (length (flush_task made.job).clears) → IsFlushing (shape_in (keyspace_of made) (forest_of trees)) (flush_task made.job) → Taken) → IsOfFlush m made → Taken
+    → (HasRoomAt (keyspace_of made) trees readers (length (flushed_task made).clears) → IsFlushing (shape_in (keyspace_of made) (forest_of trees)) (flushed_task made) → Taken) → IsOfFlush m made → Taken
 room_suffices m made trees id tables clears readers Taken at many more same room takes of =
     takes
     (subst (λ (x : ℕ × ℕ × ℕ). HasRoomAt x.0 trees x.1 x.2) (λ i. (at i, many i, (more ∙ ap (λ (l : List ℕ). length l) (made_clears made)) i)) room)
-    (subst (λ (f : Forest). IsFlushing (shape_in (keyspace_of made) f) (flush_task made.job)) (sym same) of)
+    (subst (λ (f : Forest). IsFlushing (shape_in (keyspace_of made) f) (flushed_task made)) (sym same) of)

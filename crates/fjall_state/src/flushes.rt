@@ -10,6 +10,7 @@ ghost use Rattle.fjall_files.specs.Tidy.{StaysTidy};
 ghost use Rattle.fjall_compaction.specs.Flushes.{flush_of as finished_with};
 ghost use Rattle.fjall_compaction.specs.FlushPlans.{HaveFiles, IsFlushPlan, IsFlushPlanRefusal, KeepsTables};
 ghost use Rattle.fjall_jobs.specs.Flushes.{flush_task};
+ghost use Rattle.fjall_jobs.specs.Made.{flush_tables, flushed_task};
 ghost use Rattle.fjall_jobs.specs.Tasks.{Task};
 ghost use Rattle.fjall_journal.specs.Writer.{IsIo};
 ghost use Rattle.fjall_recovery.specs.Known.{last_known};
@@ -113,7 +114,7 @@ struct PlannedFlush {
 /// Plans a flush that covers all changes of its keyspace up to this number, of which this is the last record.
 fn plan(alloc: Global, last: &Record, number: u64, made: &FlushMade) -> Result<PlannedFlush>
     ensures writes { IfOk result (λ p. IsFlushPlan (keyspace_of made.now) (view last.now) (finished_with number made.now) p.writes) }
-    ensures readers { IfOk result (λ p. AreReadersOf (keyspace_of made.now) last.now.next_table_id made.now.tables.items p.readers.items) }
+    ensures readers { IfOk result (λ p. AreReadersOf (keyspace_of made.now) last.now.next_table_id (flush_tables made.now) p.readers.items) }
     ensures cause { IfErr result (IsFlushPlanRefusal (view last.now) (finished_with number made.now)) }
 {
     let writes = plan_flush(alloc, made.keyspace_id(), last, number, made)?;
@@ -129,7 +130,7 @@ fn settle(
     made: &FlushMade,
     planned: PlannedFlush,
 ) -> Result<()>
-    requires out { is_flush_out (flush_task made.now.job).id (shape_in (keyspace_of made.now) (forest_of trees.old)).flush ≡ true }
+    requires out { is_flush_out (flushed_task made.now).id (shape_in (keyspace_of made.now) (forest_of trees.old)).flush ≡ true }
     requires kept { contains_key records.old (keyspace_of made.now) ≡ true }
     ensures trees { (out : Flushing) → (shape_in (keyspace_of made.now) (forest_of trees.old)).flush ≡ Some out
         → OnOk result (forest_of trees.new ≡ altered_at (keyspace_of made.now) (flush_finished planned.readers.items out) (forest_of trees.old)) }
@@ -137,8 +138,8 @@ fn settle(
     ensures same_trees { OnErr result (forest_of trees.new ≡ forest_of trees.old) }
     ensures same_records { OnErr result (records.new ≡ records.old) }
     ensures only { IsOkUnless result Error.OutOfMemory }
-    ensures ready { HasRoomAt (keyspace_of made.now) trees.old (length planned.readers.items) (length (flush_task made.now.job).clears)
-        → IsFlushing (shape_in (keyspace_of made.now) (forest_of trees.old)) (flush_task made.now.job) → IsOk result }
+    ensures ready { HasRoomAt (keyspace_of made.now) trees.old (length planned.readers.items) (length (flushed_task made.now).clears)
+        → IsFlushing (shape_in (keyspace_of made.now) (forest_of trees.old)) (flushed_task made.now) → IsOk result }
 {
     let PlannedFlush { writes, readers } = planned;
     match trees.finish_flush(made, readers) {
@@ -170,8 +171,8 @@ impl EngineState {
         made: &FlushMade,
     ) -> Result<()>
         requires living { is_living (store_of self.old.keyspaces self.old.trees) (keyspace_of made.now) ≡ true }
-        requires out { is_flush_out (flush_task made.now.job).id (shape_in (keyspace_of made.now) self.old.trees).flush ≡ true }
-        ensures ok { IsOfFlush self.old made.now → ForFlush self.old (keyspace_of made.now) (λ k out. OnOk result (IsFlushFinished self.old (keyspace_of made.now) (last_known self.old.records k) out made.now.tables.items self.new)) }
+        requires out { is_flush_out (flushed_task made.now).id (shape_in (keyspace_of made.now) self.old.trees).flush ≡ true }
+        ensures ok { IsOfFlush self.old made.now → ForFlush self.old (keyspace_of made.now) (λ k out. OnOk result (IsFlushFinished self.old (keyspace_of made.now) (last_known self.old.records k) out (flush_tables made.now) self.new)) }
         ensures lawful { IsLawful self.old }
         ensures unchanged { IsOfFlush self.old made.now → OnErr result (self.new ≡ self.old) }
         ensures untouched { IsOfFlush self.old made.now → IfErr result (λ e. (IsIo e → ⊥) → D.meaning disk.new ≡ D.meaning disk.old) }
@@ -181,7 +182,7 @@ impl EngineState {
         ensures poisons { IfErr result (λ e. (IsIo e → ⊥) → (D.meaning disk.new ≡ D.meaning disk.old) ⊎ (self.new.poisoned ≡ true)) }
         ensures keeps { (task : Task) → KnowsTask self.old task → KnowsTask self.new task }
         ensures cause { IsOfFlush self.old made.now → ForFlush self.old (keyspace_of made.now) (λ k out. IfErr result
-            (IsFinishRefusal (last_known self.old.records k) (flush_with (shape_in (keyspace_of made.now) self.old.trees) out made.now.tables.items)
+            (IsFinishRefusal (last_known self.old.records k) (flush_with (shape_in (keyspace_of made.now) self.old.trees) out (flush_tables made.now))
             (D.meaning disk.old).faults (D.meaning disk.new).faults)) }
         // Nothing outside the keyspace's folder changes.
         ensures within { IsTrue D.honest → Within (keyspace_folder (keyspace_of made.now)) (D.meaning disk.old) (D.meaning disk.new) }
@@ -199,9 +200,9 @@ impl EngineState {
             KeepsTables (keyspace_of made.now) (last_known self.old.records k).next_table_id (D.meaning disk.old) (D.meaning disk.new)) }
         // At Ok the table's file has its bytes.
         ensures files { IsTrue D.honest → IsOfFlush self.old made.now → ForFlush self.old (keyspace_of made.now) (λ k out.
-            OnOk result (HaveFiles (D.meaning disk.new) (keyspace_of made.now) (last_known self.old.records k).next_table_id made.now.tables.items)) }
+            OnOk result (HaveFiles (D.meaning disk.new) (keyspace_of made.now) (last_known self.old.records k).next_table_id (flush_tables made.now))) }
         // Its id, and those that were given out before it, have their place.
-        ensures fits { IsOfFlush self.old made.now → ForFlush self.old (keyspace_of made.now) (λ k out. OnOk result ((last_known self.old.records k).next_table_id + length made.now.tables.items < 2 ^ 64)) }
+        ensures fits { IsOfFlush self.old made.now → ForFlush self.old (keyspace_of made.now) (λ k out. OnOk result ((last_known self.old.records k).next_table_id + length (flush_tables made.now) < 2 ^ 64)) }
     {
         let id = made.keyspace_id();
         let Some(last) = self.records.get(id) else {

@@ -1,10 +1,9 @@
 //! Memtables of keyspaces.
 
-ghost use Rattle.std.specs.Prelude.{◌≡◌, IfOk, IsOkUnless, Ok, OnErr, false, length, true};
+ghost use Rattle.std.specs.Prelude.{◌≡◌, IfOk, IsOkUnless, Ok, OnErr, false, true};
 ghost use Rattle.fjall_journal.specs.Writer.{counted};
-ghost use Rattle.fjall_trees.specs.Tables.{shape_in};
 ghost use Rattle.fjall_trees.specs.Maps.{store_of};
-ghost use Rattle.fjall_machine.specs.Machine.{buffer_size, flush_count, rotates, version_count, wants_rotation};
+ghost use Rattle.fjall_machine.specs.Machine.{buffer_size, flush_count, rotates, wants_rotation};
 ghost use Rattle.fjall_machine.specs.Remembered.{IsLawful, rotated};
 
 use crate::engine_state::EngineState;
@@ -27,21 +26,6 @@ impl EngineState {
             self.tickets.gc();
         }
         Ok(is_sealed)
-    }
-
-    /// How many versions a keyspace has, removals and those that no view shows among them; the greatest `u64` where that is too
-    /// small.
-    pub fn approximate_len(&self, id: u64) -> u64
-        ensures { result ≡ counted (version_count (shape_in id self.now.trees)) }
-    {
-        self.trees.approximate_len(id)
-    }
-
-    /// How many sealed memtables a keyspace has.
-    pub fn sealed_memtable_count(&self, id: u64) -> usize
-        ensures { result ≡ length (shape_in id self.now.trees).memory.sealed }
-    {
-        self.trees.sealed_memtable_count(id)
     }
 
     /// The sizes of the memtables of all keyspaces that live, added up; the greatest `u64` where that is too small.

@@ -9,7 +9,8 @@ ghost use Rattle.fjall_files.specs.Names.{keyspace_folder};
 ghost use Rattle.fjall_files.specs.Regions.{Within};
 ghost use Rattle.fjall_files.specs.Tidy.{StaysTidy};
 ghost use Rattle.fjall_compaction.specs.FlushPlans.{HaveFiles};
-ghost use Rattle.fjall_jobs.specs.Merges.{merge_task};
+ghost use Rattle.fjall_jobs.specs.Made.{merge_tables, merged_task};
+ghost use Rattle.fjall_jobs.specs.Merges.{merge_target, merge_task};
 ghost use Rattle.fjall_journal.specs.Writer.{IsIo};
 ghost use Rattle.fjall_recovery.specs.Known.{last_known};
 ghost use Rattle.fjall_tree.specs.Jobs.{IsMerging, is_merge_out, merge_finished};
@@ -95,7 +96,7 @@ impl EngineState {
         ensures begun { OnOk result (self.new ≡ with_trees self.new.trees (merge_out id self.old)) }
         ensures trees { OnOk result (AreSameTrees (merge_out id self.old).trees self.new.trees) }
         ensures named { IfOk result (λ job. ((merge_task job).id ≡ self.old.next_job) × ((merge_task job).keyspace ≡ id)) }
-        ensures target { IfOk result (λ job. job.target ≡ target_size (options_in (store_of self.old.keyspaces self.old.trees) id)) }
+        ensures target { IfOk result (λ job. merge_target job ≡ target_size (options_in (store_of self.old.keyspaces self.old.trees) id)) }
         ensures out { IsTrue D.honest → (entries : ℕ → List (List Entry)) → AreReadOn (D.meaning disk.old) self.old.trees entries
             → IfOk result (λ job. IsMerging (shape_in id self.new.trees) (entries id) (merge_task job)) }
         ensures unchanged { OnErr result (self.new ≡ with_trees self.new.trees self.old) }
@@ -177,7 +178,7 @@ fn plan(
     made: &MergeMade,
 ) -> Result<PlannedMerge>
     ensures writes { IfOk result (λ p. IsMergePlan (keyspace_of made.now) (view last.now) (merge_of input made.now) p.writes) }
-    ensures readers { IfOk result (λ p. AreMergeReaders (keyspace_of made.now) last.now.next_table_id made.now.tables.items p.readers.items) }
+    ensures readers { IfOk result (λ p. AreMergeReaders (keyspace_of made.now) last.now.next_table_id (merge_tables made.now) p.readers.items) }
     ensures room { IfOk result (λ p. vec_len p.readers + staying ≤ vec_capacity p.readers) }
     ensures cause { IfErr result (IsMergePlanRefusal (view last.now) (merge_of input made.now)) }
 {
@@ -204,7 +205,7 @@ fn settle(
 ) -> Vec<String>
     requires room { IfSome (shape_in (keyspace_of made.now) (forest_of trees.old)).merge
         (λ out. vec_len planned.readers + (length (shape_in (keyspace_of made.now) (forest_of trees.old)).tables - out.tables) ≤ vec_capacity planned.readers) }
-    requires out { is_merge_out (merge_task made.now.job).id (shape_in (keyspace_of made.now) (forest_of trees.old)).merge ≡ true }
+    requires out { is_merge_out (merged_task made.now).id (shape_in (keyspace_of made.now) (forest_of trees.old)).merge ≡ true }
     requires kept { contains_key records.old (keyspace_of made.now) ≡ true }
     ensures trees { (out : Merging) → (shape_in (keyspace_of made.now) (forest_of trees.old)).merge ≡ Some out
         → forest_of trees.new ≡ altered_at (keyspace_of made.now) (merge_finished planned.readers.items out) (forest_of trees.old) }
@@ -236,7 +237,7 @@ impl EngineState {
         made: &MergeMade,
     ) -> Result<Vec<String>>
         requires living { is_living (store_of self.old.keyspaces self.old.trees) (keyspace_of made.now) ≡ true }
-        requires out { is_merge_out (merge_task made.now.job).id (shape_in (keyspace_of made.now) self.old.trees).merge ≡ true }
+        requires out { is_merge_out (merged_task made.now).id (shape_in (keyspace_of made.now) self.old.trees).merge ≡ true }
         ensures ok { ForMerge self.old (keyspace_of made.now) (λ k out. OnOk result
             (IsMergeFinished self.old (keyspace_of made.now) (last_known self.old.records k) out (counted_as out made.now) self.new)) }
         ensures taken { ForMerge self.old (keyspace_of made.now) (λ k out. IfOk result
@@ -260,12 +261,12 @@ impl EngineState {
         ensures kinds { IsTrue D.honest → StaysTidy (D.meaning disk.old) (D.meaning disk.new) }
         // Whatever lies on the disk, each table of the keyspace but the new ones stands in sight as it did.
         ensures beside { IsTrue D.honest → ForMerge self.old (keyspace_of made.now) (λ k out.
-            MergeKeepsTables (keyspace_of made.now) (last_known self.old.records k).next_table_id (length made.now.tables.items) (D.meaning disk.old) (D.meaning disk.new)) }
+            MergeKeepsTables (keyspace_of made.now) (last_known self.old.records k).next_table_id (length (merge_tables made.now)) (D.meaning disk.old) (D.meaning disk.new)) }
         // At Ok the tables' files have their bytes.
         ensures files { IsTrue D.honest → ForMerge self.old (keyspace_of made.now) (λ k out.
-            OnOk result (HaveFiles (D.meaning disk.new) (keyspace_of made.now) (last_known self.old.records k).next_table_id made.now.tables.items)) }
+            OnOk result (HaveFiles (D.meaning disk.new) (keyspace_of made.now) (last_known self.old.records k).next_table_id (merge_tables made.now))) }
         // Their ids, and those that were given out before them, have their place.
-        ensures fits { ForMerge self.old (keyspace_of made.now) (λ k out. OnOk result ((last_known self.old.records k).next_table_id + length made.now.tables.items < 2 ^ 64)) }
+        ensures fits { ForMerge self.old (keyspace_of made.now) (λ k out. OnOk result ((last_known self.old.records k).next_table_id + length (merge_tables made.now) < 2 ^ 64)) }
     {
         let id = made.keyspace_id();
         let Some(last) = self.records.get(id) else {

@@ -1,27 +1,24 @@
-//! What keyspaces' tables count for.
+//! The trees of keyspaces, and what their tables count for.
 
-ghost use Rattle.std.specs.Prelude.{◌≡◌, count_by, length};
+ghost use Rattle.std.specs.Prelude.{◌≡◌};
+ghost use Rattle.std.specs.Option.{option_copied, option_map};
 ghost use Rattle.fjall_journal.specs.Writer.{counted};
-ghost use Rattle.fjall_tree.specs.Trees.{is_l0};
+ghost use Rattle.fjall_tree.specs.Shapes.{shape_of};
+ghost use Rattle.fjall_trees.specs.Forests.{IsForest, tree_at};
 ghost use Rattle.fjall_trees.specs.Maps.{store_of};
 ghost use Rattle.fjall_trees.specs.Tables.{shape_in};
 ghost use Rattle.fjall_machine.specs.Machine.{table_space, tables_space};
 
 use crate::engine_state::EngineState;
+use fjall_tree::Tree;
 
 impl EngineState {
-    /// How many tables a keyspace has.
-    pub fn table_count(&self, id: u64) -> usize
-        ensures { result ≡ length (shape_in id self.now.trees).tables }
+    /// The tree of a keyspace, where it has one.
+    pub fn tree(&self, id: u64) -> Option<&Tree>
+        ensures tree { option_map shape_of (option_copied result) ≡ tree_at id self.now.trees }
+        ensures lawful { IsForest self.now.trees }
     {
-        self.trees.table_count(id)
-    }
-
-    /// How many tables of a keyspace stand as flushes made them.
-    pub fn l0_table_count(&self, id: u64) -> usize
-        ensures { result ≡ count_by (λ t. is_l0 t.info.level) (shape_in id self.now.trees).tables }
-    {
-        self.trees.l0_table_count(id)
+        self.trees.tree(id)
     }
 
     /// How many bytes the files of a keyspace's tables have, added up; the greatest `u64` where that is too small.

@@ -6,15 +6,16 @@ ghost use Rattle.fjall_base.specs.Crash.{IsHoused};
 ghost use Rattle.fjall_base.specs.Disk.{standing, state_in};
 ghost use Rattle.fjall_base.specs.declared.error.Error.{Error};
 ghost use Rattle.fjall_base.specs.declared.error.JournalRecoveryError.TheVariants.{TornTail};
-ghost use Rattle.fjall_base.specs.Store.{Store};
+ghost use Rattle.fjall_base.specs.Store.{Command, Store};
 ghost use Rattle.fjall_files.specs.Tidy.{IsTidy, StaysTidy};
 ghost use Rattle.fjall_journal.specs.declared.recovery_mode.RecoveryMode.TheVariants.{RefuseTornTail};
+ghost use Rattle.fjall_recovery.specs.Amid.{StandsAmid};
 ghost use Rattle.fjall_recovery.specs.Folders.{Contents};
 ghost use Rattle.fjall_recovery.specs.Held.{IsOpenFolder};
 ghost use Rattle.fjall_recovery.specs.Refusals.{AreOne, HasRisen, HasTornTail, IsDue, IsOpeningRefusal, IsTornTail};
 ghost use Rattle.fjall_table.specs.Blocks.{Entry};
 ghost use Rattle.fjall_machine.specs.Remembered.{AreBeside};
-ghost use Rattle.fjall_core.specs.Openings.{IsDueTo, KeepsStore, Opens, OpensOn, OpensAs, OpensAmid, StaysAmid, ForHeld, RefusalBlames, RefusesFolder, Sweeps};
+ghost use Rattle.fjall_core.specs.Openings.{IsDueTo, IsLeftWildly, IsRefusedByName, KeepsStore, Opens, OpensOn, OpensAs, OpensAmid, OpensWithin, StaysAmid, ForHeld, RefusalBlames, RefusesFolder, Sweeps};
 ghost use Rattle.fjall_core.specs.Standing.{ClosesDisk, ClosesSafely, HoldsStore, OwesClosing, store_with_tables};
 ghost use Rattle.fjall_core.specs.contracts.engine.Engine.{the_row as engine_row};
 ghost use Rattle.fjall_transactions.specs.Transactions.{none_kept};
@@ -68,6 +69,10 @@ impl<D: Disk> Core<D> {
         ensures amid { IsTrue D.honest → ForHeld (D.meaning disk) (λ base pending. IfOk result (λ core. OpensAmid (D.meaning disk) core.engine base pending)) }
         ensures amid_err { IsTrue D.honest → ForHeld (D.meaning disk) (λ base pending.
             IfErr result (λ refused. StaysAmid (D.meaning disk) (D.meaning refused.value) base pending)) }
+        ensures any_bytes { IsTrue D.honest → (base : Store) (least all : List Command) → IsLeftWildly (state_in (D.meaning disk)) (StandsAmid base least all)
+            → IfOk result (λ core. OpensWithin core.engine base least all) }
+        ensures by_name { IsTrue D.honest
+            → IfErr result (λ refused. IsDue (IsRefusedByName config.journal_recovery_mode (D.meaning disk) (D.meaning refused.value)) refused.error) }
     {
         match Engine::open(alloc, config, disk) {
             Ok(engine) => Ok(Core {

@@ -7,7 +7,8 @@ ghost use Rattle.fjall_table_reader.specs.Readers.{LooksOn, SomeTableIsWrong};
 ghost use Rattle.fjall_views.specs.Jobs.{merged_clears};
 ghost use Rattle.fjall_memtable.specs.Parts.{Ascends, clears_in};
 ghost use Rattle.fjall_jobs.specs.Flushes.{flush_task};
-ghost use Rattle.fjall_jobs.specs.Merges.{merge_task};
+ghost use Rattle.fjall_jobs.specs.Made.{flushed_task, merged_task};
+ghost use Rattle.fjall_jobs.specs.Merges.{merge_target, merge_task};
 ghost use Rattle.fjall_tree.specs.Trees.{IsSameShape, ReadsAll, floor_of};
 ghost use Rattle.std.specs.Option.{option_map};
 ghost use Rattle.fjall_tree.specs.Jobs.{HasRoomForTables, count_out, input_of, IsFlushing, IsMerging, MergesNothing, flush_begun, flush_dropped, flush_end, flush_finished, flush_of, is_flush_out, is_merge_out, merge_begun, merge_dropped, merge_finished, merge_of};
@@ -158,12 +159,12 @@ impl Tree {
     /// of this job's number is out. It is refused for want of memory alone, which `reserve` rules out, and an `Err` leaves
     /// all as it was.
     pub fn finish_flush(&mut self, made: &FlushMade, tables: Vec<TableReader>) -> Result<bool>
-        ensures ok { IfOk result (λ done. done ≡ is_flush_out (flush_task made.now.job).id (shape_of self.old).flush) }
+        ensures ok { IfOk result (λ done. done ≡ is_flush_out (flushed_task made.now).id (shape_of self.old).flush) }
         ensures finished { result ≡ Ok true → IfSome (shape_of self.old).flush (λ out. shape_of self.new ≡ flush_finished tables.items out (shape_of self.old)) }
         ensures stale { result ≡ Ok false → shape_of self.new ≡ shape_of self.old }
         ensures err { OnErr result (shape_of self.new ≡ shape_of self.old) }
         ensures only { IsOkUnless result Error.OutOfMemory }
-        ensures ready { HasRoomForTables self.old (length tables.items) (length (flush_task made.now.job).clears) → IsFlushing (shape_of self.old) (flush_task made.now.job) → IsOk result }
+        ensures ready { HasRoomForTables self.old (length tables.items) (length (flushed_task made.now).clears) → IsFlushing (shape_of self.old) (flushed_task made.now) → IsOk result }
     {
         let Some(out) = &self.flush else {
             return Ok(false);
@@ -212,7 +213,7 @@ impl Tree {
             → IfOk result (λ job. IfSome job (λ job. merge_task job ≡ merge_of id keyspace_id watermark entries (shape_of self.old).clears)) }
         // What the job is told over any disk, but for what the tables hold.
         ensures named { IfOk result (λ job. IfSome job (λ job. merge_task job ≡ merge_of id keyspace_id watermark (merge_task job).runs (shape_of self.old).clears)) }
-        ensures target { IfOk result (λ job. IfSome job (λ job. job.target ≡ target)) }
+        ensures target { IfOk result (λ job. IfSome job (λ job. merge_target job ≡ target)) }
         ensures begun { IfOk result (λ job. IfSome job (λ _. IsSameShape (merge_begun id watermark (shape_of self.old)) (shape_of self.new))) }
         ensures out { IsTrue D.honest → (entries : List (List Entry)) → ReadsAll (D.meaning disk.old) (shape_of self.old) entries
             → IfOk result (λ job. IfSome job (λ job. IsMerging (shape_of self.new) entries (merge_task job))) }
@@ -247,7 +248,7 @@ impl Tree {
     /// came since stays. False, and nothing changes, where no merge of this job's number is out. It is refused for want of
     /// memory alone, which room in `tables` for those that stay rules out, and an `Err` leaves all as it was.
     pub fn finish_merge(&mut self, made: &MergeMade, tables: Vec<TableReader>) -> Result<bool>
-        ensures ok { IfOk result (λ done. done ≡ is_merge_out (merge_task made.now.job).id (shape_of self.old).merge) }
+        ensures ok { IfOk result (λ done. done ≡ is_merge_out (merged_task made.now).id (shape_of self.old).merge) }
         ensures finished { result ≡ Ok true → IfSome (shape_of self.old).merge (λ out. shape_of self.new ≡ merge_finished tables.items out (shape_of self.old)) }
         ensures stale { result ≡ Ok false → shape_of self.new ≡ shape_of self.old }
         ensures err { OnErr result (shape_of self.new ≡ shape_of self.old) }

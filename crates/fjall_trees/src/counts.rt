@@ -1,6 +1,6 @@
 //! What a keyspace's tree counts: nothing where it has none. And how many keyspaces have a merge out.
 
-ghost use Rattle.std.specs.Prelude.{◌≡◌, ◌+◌, ◌-◌, ◌^◌, count_by, is_some, length, min};
+ghost use Rattle.std.specs.Prelude.{◌≡◌, ◌-◌, ◌^◌, count_by, is_some, length, min};
 ghost use Rattle.std.specs.List.{sum_by};
 ghost use Rattle.fjall_memtable.specs.Entries.{size_of};
 ghost use Rattle.fjall_memtable.specs.Parts.{parts_of, versions_in};
@@ -11,17 +11,6 @@ use crate::trees::Trees;
 
 impl Trees {
     ghost use Rattle.fjall_trees.specs.Views.{forest_of};
-
-    /// How many versions a keyspace has, in all tables and in memory, hidden ones and removals among them; the greatest u64
-    /// where that is too small.
-    pub fn approximate_len(&self, id: u64) -> u64
-        ensures { result ≡ min (sum_by (λ t. t.info.entry_count) (shape_in id (forest_of self.now)).tables + length (versions_in (parts_of (shape_in id (forest_of self.now)).memory))) (2 ^ 64 - 1) }
-    {
-        match self.tree(id) {
-            Some(tree) => tree.approximate_len(),
-            None => 0,
-        }
-    }
 
     /// How many tables a keyspace has.
     pub fn table_count(&self, id: u64) -> usize
@@ -39,16 +28,6 @@ impl Trees {
     {
         match self.tree(id) {
             Some(tree) => tree.l0_table_count(),
-            None => 0,
-        }
-    }
-
-    /// How many sealed memtables a keyspace has.
-    pub fn sealed_memtable_count(&self, id: u64) -> usize
-        ensures { result ≡ length (shape_in id (forest_of self.now)).memory.sealed }
-    {
-        match self.tree(id) {
-            Some(tree) => tree.sealed_memtable_count(),
             None => 0,
         }
     }

@@ -6,7 +6,8 @@ ghost use Rattle.fjall_table.specs.Blocks.{Entry};
 ghost use Rattle.fjall_table_reader.specs.Files.{IsRefused};
 ghost use Rattle.fjall_table_reader.specs.Readers.{LooksOn, SomeTableIsWrong};
 ghost use Rattle.fjall_jobs.specs.Flushes.{flush_task};
-ghost use Rattle.fjall_jobs.specs.Merges.{merge_task};
+ghost use Rattle.fjall_jobs.specs.Made.{flushed_task, merged_task};
+ghost use Rattle.fjall_jobs.specs.Merges.{merge_target, merge_task};
 ghost use Rattle.fjall_tree.specs.Jobs.{IsFlushing, IsMerging, MergesNothing, count_out, flush_begun, flush_dropped, flush_end, flush_finished, flush_of, input_of, is_flush_out, is_merge_out, merge_begun, merge_dropped, merge_finished, merge_of};
 ghost use Rattle.fjall_trees.specs.Forests.{altered_at};
 ghost use Rattle.fjall_trees.specs.Kept.{kept_bytes};
@@ -150,14 +151,14 @@ impl Trees {
     /// changes, where no flush of this job's number is out there. It is refused for want of memory alone, which `reserve`
     /// rules out, and an `Err` leaves all as it was.
     pub fn finish_flush(&mut self, made: &FlushMade, tables: Vec<TableReader>) -> Result<bool>
-        ensures ok { IfOk result (λ done. done ≡ is_flush_out (flush_task made.now.job).id (shape_in (flush_task made.now.job).keyspace (forest_of self.old)).flush) }
-        ensures finished { result ≡ Ok true → IfSome (shape_in (flush_task made.now.job).keyspace (forest_of self.old)).flush
-            (λ out. forest_of self.new ≡ altered_at (flush_task made.now.job).keyspace (flush_finished tables.items out) (forest_of self.old)) }
+        ensures ok { IfOk result (λ done. done ≡ is_flush_out (flushed_task made.now).id (shape_in (flushed_task made.now).keyspace (forest_of self.old)).flush) }
+        ensures finished { result ≡ Ok true → IfSome (shape_in (flushed_task made.now).keyspace (forest_of self.old)).flush
+            (λ out. forest_of self.new ≡ altered_at (flushed_task made.now).keyspace (flush_finished tables.items out) (forest_of self.old)) }
         ensures stale { result ≡ Ok false → forest_of self.new ≡ forest_of self.old }
         ensures err { OnErr result (forest_of self.new ≡ forest_of self.old) }
         ensures only { IsOkUnless result Error.OutOfMemory }
-        ensures ready { HasRoomAt (flush_task made.now.job).keyspace self.old (length tables.items) (length (flush_task made.now.job).clears)
-            → IsFlushing (shape_in (flush_task made.now.job).keyspace (forest_of self.old)) (flush_task made.now.job) → IsOk result }
+        ensures ready { HasRoomAt (flushed_task made.now).keyspace self.old (length tables.items) (length (flushed_task made.now).clears)
+            → IsFlushing (shape_in (flushed_task made.now).keyspace (forest_of self.old)) (flushed_task made.now) → IsOk result }
     {
         match place_of(self.trees.as_slice(), made.keyspace_id()) {
             Some(place) => self.trees[place].tree.finish_flush(made, tables),
@@ -185,7 +186,7 @@ impl Trees {
             → IfOk result (λ made. IfSome made (λ made. merge_task made ≡ merge_of job id watermark (entries id) (shape_in id (forest_of self.old)).clears)) }
         // What the job is told over any disk, but for what the tables hold.
         ensures named { IfOk result (λ made. IfSome made (λ made. merge_task made ≡ merge_of job id watermark (merge_task made).runs (shape_in id (forest_of self.old)).clears)) }
-        ensures target { IfOk result (λ made. IfSome made (λ made. made.target ≡ target)) }
+        ensures target { IfOk result (λ made. IfSome made (λ made. merge_target made ≡ target)) }
         ensures begun { IfOk result (λ made. IfSome made (λ _. AreSameTrees (altered_at id (merge_begun job watermark) (forest_of self.old)) (forest_of self.new))) }
         ensures out { IsTrue D.honest → (entries : ℕ → List (List Entry)) → AreReadOn (D.meaning disk.old) (forest_of self.old) entries
             → IfOk result (λ made. IfSome made (λ made. IsMerging (shape_in id (forest_of self.new)) (entries id) (merge_task made))) }
@@ -221,14 +222,14 @@ impl Trees {
     /// there. It is refused for want of memory alone, which room in `tables` for those that stay rules out, and an `Err`
     /// leaves all as it was.
     pub fn finish_merge(&mut self, made: &MergeMade, tables: Vec<TableReader>) -> Result<bool>
-        ensures ok { IfOk result (λ done. done ≡ is_merge_out (merge_task made.now.job).id (shape_in (merge_task made.now.job).keyspace (forest_of self.old)).merge) }
-        ensures finished { result ≡ Ok true → IfSome (shape_in (merge_task made.now.job).keyspace (forest_of self.old)).merge
-            (λ out. forest_of self.new ≡ altered_at (merge_task made.now.job).keyspace (merge_finished tables.items out) (forest_of self.old)) }
+        ensures ok { IfOk result (λ done. done ≡ is_merge_out (merged_task made.now).id (shape_in (merged_task made.now).keyspace (forest_of self.old)).merge) }
+        ensures finished { result ≡ Ok true → IfSome (shape_in (merged_task made.now).keyspace (forest_of self.old)).merge
+            (λ out. forest_of self.new ≡ altered_at (merged_task made.now).keyspace (merge_finished tables.items out) (forest_of self.old)) }
         ensures stale { result ≡ Ok false → forest_of self.new ≡ forest_of self.old }
         ensures err { OnErr result (forest_of self.new ≡ forest_of self.old) }
         ensures only { IsOkUnless result Error.OutOfMemory }
-        ensures ready { IfSome (shape_in (merge_task made.now.job).keyspace (forest_of self.old)).merge
-            (λ out. vec_len tables + (length (shape_in (merge_task made.now.job).keyspace (forest_of self.old)).tables - out.tables) ≤ vec_capacity tables) → IsOk result }
+        ensures ready { IfSome (shape_in (merged_task made.now).keyspace (forest_of self.old)).merge
+            (λ out. vec_len tables + (length (shape_in (merged_task made.now).keyspace (forest_of self.old)).tables - out.tables) ≤ vec_capacity tables) → IsOk result }
     {
         match place_of(self.trees.as_slice(), made.keyspace_id()) {
             Some(place) => self.trees[place].tree.finish_merge(made, tables),

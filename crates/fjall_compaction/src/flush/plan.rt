@@ -83,7 +83,7 @@ fn next_record(
     })
 }
 
-/// Plans what [`plan_tables`] does, where the record after it has a place: it is refused for want of memory alone.
+/// Plans what [`plan_flush`] does of tables and clears, where the record after it has a place: it is refused for want of memory alone.
 pub(crate) fn plan_in_place(
     alloc: Global,
     keyspace_id: u64,
@@ -110,36 +110,6 @@ pub(crate) fn plan_in_place(
     })
 }
 
-/// Plans how a table that was made, or none, and clears reach the keyspace of this id, as a flush's do: `last` is the keyspace's
-/// last record, which reaches the number afterwards. It changes nothing on the disk, and takes all the memory that
-/// [`write_tables`](crate::write_tables) needs.
-///
-/// Refuses as [`plan_flush`] does.
-pub fn plan_tables(
-    alloc: Global,
-    keyspace_id: u64,
-    last: &Record,
-    number: u64,
-    tables: &[MadeTable],
-    clears: &[u64],
-) -> Result<FlushPlan>
-    requires { length tables.now ≤ 1 }
-    ensures ok { IfOk result (IsFlushPlan keyspace_id (view last.now) (record { number = number; tables = tables.now; clears = clears.now })) }
-    ensures used_up { LacksNextId (record_after (record { number = number; tables = tables.now; clears = clears.now }) (view last.now)) → result ≡ Err Error.NumbersUsedUp }
-    ensures cause { IfErr result (IsFlushPlanRefusal (view last.now) (record { number = number; tables = tables.now; clears = clears.now })) }
-{
-    let table_counts = Counts {
-        staying: last.tables.len(),
-        made: tables.len(),
-    };
-    let clear_counts = Counts {
-        staying: last.clears.len(),
-        made: clears.len(),
-    };
-    find_place(last.next_table_id, table_counts, clear_counts)?;
-    plan_in_place(alloc, keyspace_id, last, number, tables, clears)
-}
-
 /// Plans how a flush of the keyspace of this id reaches the disk: `last` is the keyspace's last record, and the flush covers
 /// all changes of the keyspace up to this number. It changes nothing on the disk, and takes all the memory that
 /// [`write_flush`](crate::write_flush) needs.
@@ -157,12 +127,15 @@ pub fn plan_flush(
     ensures used_up { LacksNextId (record_after (flush_of number made.now) (view last.now)) → result ≡ Err Error.NumbersUsedUp }
     ensures cause { IfErr result (IsFlushPlanRefusal (view last.now) (flush_of number made.now)) }
 {
-    plan_tables(
-        alloc,
-        keyspace_id,
-        last,
-        number,
-        made.tables(),
-        made.clears(),
-    )
+    let (tables, clears) = (made.tables(), made.clears());
+    let table_counts = Counts {
+        staying: last.tables.len(),
+        made: tables.len(),
+    };
+    let clear_counts = Counts {
+        staying: last.clears.len(),
+        made: clears.len(),
+    };
+    find_place(last.next_table_id, table_counts, clear_counts)?;
+    plan_in_place(alloc, keyspace_id, last, number, tables, clears)
 }

@@ -1,4 +1,4 @@
-//! What holds of an ingestion that counts.
+//! What holds of an ingestion that counts, by itself and with the flush of memory before it.
 
 ghost use Rattle.std.specs.Prelude.{◌≡◌, ◌⊎◌, ◌<◌, ◌≤◌, ◌^◌, ◌++◌, ◌∷◌, ◌+◌, [], ℕ, All, List, Option, Some, None, false, map, true};
 ghost use Rattle.fjall_base.specs.Disk.{Image, LeavesOnly, Meaning, state_in};
@@ -7,7 +7,7 @@ ghost use Rattle.fjall_contents.specs.Contents.{is_beyond, journal_beyond};
 ghost use Rattle.fjall_files.specs.Names.{keyspace_folder};
 ghost use Rattle.fjall_files.specs.Regions.{Within};
 ghost use Rattle.fjall_compaction.specs.Covering.{MayCount, ShowsBatches};
-ghost use Rattle.fjall_compaction.specs.Flushes.{Flush, Follows, HasAt, home_after, record_after, tree_after};
+ghost use Rattle.fjall_compaction.specs.Flushes.{Flush, Follows, HasAt, home_after, infos_from, record_after, tree_after};
 ghost use Rattle.fjall_manifest.specs.Homes.{Home};
 ghost use Rattle.fjall_jobs.specs.declared.made_table.MadeTable.{MadeTable};
 ghost use Rattle.fjall_journal.specs.Batches.{Shown, Written, shown};
@@ -25,6 +25,17 @@ ghost use Rattle.fjall_writes.specs.Ingestions.{KeyOp};
 ghost use Rattle.fjall_compaction.specs.Commands.{ArePersisted, MayCome, MayIngest, MayIngestSynced};
 ghost use Rattle.fjall_compaction.specs.Ingests.{as_flush, home_with, ingestion, tree_with, versions_made};
 ghost use Rattle.fjall_compaction.specs.IngestionPlans.{AreIngestionTables};
+ghost use Rattle.std.specs.FinMap.{get, insert};
+ghost use Rattle.fjall_table_reader.specs.Readers.{Reader};
+ghost use Rattle.fjall_compaction.specs.FlushFinishing.{AreTreesKnown};
+ghost use Rattle.fjall_jobs.specs.Tasks.{IsFlushed};
+ghost use Rattle.fjall_recovery.specs.Known.{LastFields, last_known};
+ghost use Rattle.fjall_tree.specs.Ingestions.{has_memory, ingested, memory_task};
+ghost use Rattle.fjall_meta.specs.declared.living.LivingKeyspace.{LivingKeyspace};
+ghost use Rattle.fjall_memtable.specs.Parts.{clears_in, parts_of};
+ghost use Rattle.fjall_trees.specs.Forests.{Forest, altered_at};
+ghost use Rattle.fjall_trees.specs.Tables.{entries_with, shape_in};
+ghost use Rattle.fjall_compaction.specs.Whole.{CanIngest, last_flushed, last_ingested, memory_flush, tree_behind, tree_between};
 
 /// The store after an ingestion is the one command applied to the store before it, whatever beginning of the later batches stands
 /// behind the synced ones; so it is too where nothing is pending and memory has nothing to show. The greatest number of the folder and
@@ -112,4 +123,47 @@ pub fn a_crash_leaves_all_or_nothing()
     ensures base { (j : Journaling) (t : Tree) (id number : ℕ) (items : List KeyOp) (tables : List MadeTable) (h : Home) (versions : List Entry) (base : Store)
         → MayIngest j t id number h versions ⊎ MayIngestSynced j t id number h versions → kept base ≡ store_of_contents (contents_with j t [])
         → kept (apply base (ingestion id items)) ≡ store_of_contents (contents_with j (tree_with id number items tables h versions t) []) }
+{}
+
+/// Where an ingestion may be made, whatever was made of its keyspace's memory follows the home's last record, and its own number is
+/// beyond what is persisted then.
+pub fn memory_is_flushed_before_an_ingestion()
+    ensures last { (j : Journaling) (t : Tree) (trees : Forest) (entries : ℕ → List (List Entry)) (records : LastFields) (k : LivingKeyspace) (n : ℕ) → CanIngest j t trees entries records k n
+        → (h : Home) → get t.homes k.id ≡ Some h → last_known records k ≡ h.last }
+    ensures follows { (j : Journaling) (t : Tree) (trees : Forest) (entries : ℕ → List (List Entry)) (records : LastFields) (k : LivingKeyspace) (n : ℕ) → CanIngest j t trees entries records k n
+        → (watermark : ℕ) (flushes : List MadeTable) (flushed : IsFlushed (memory_task k.id watermark (shape_in k.id trees).memory) flushes (clears_in (parts_of (shape_in k.id trees).memory)))
+        → (h : Home) → get t.homes k.id ≡ Some h → has_memory (shape_in k.id trees).memory ≡ true → Follows (memory_flush (shape_in k.id trees) flushes) flushed.lists h.last }
+    ensures beyond { (j : Journaling) (t : Tree) (trees : Forest) (entries : ℕ → List (List Entry)) (records : LastFields) (k : LivingKeyspace) (n : ℕ) → CanIngest j t trees entries records k n
+        → (flushes : List MadeTable) (h : Home) → get t.homes k.id ≡ Some h → is_beyond (last_flushed (shape_in k.id trees) flushes h.last).persisted n ≡ true }
+{}
+
+/// A whole ingestion is one command. A crash while it is written, and nothing waits in the journals, leaves the base without or with that
+/// one command; behind it the base with the command keeps the store of the folder, whose greatest number is the ingestion's; and all
+/// keyspaces are known again, with all that was made in the tables of its keyspace and with the record after it, whatever readers stand
+/// for the tables, where they know of them what that record says.
+pub fn a_whole_ingestion_is_one_command()
+    ensures run { (j : Journaling) (t : Tree) (trees : Forest) (entries : ℕ → List (List Entry)) (records : LastFields) (k : LivingKeyspace) (n : ℕ) → CanIngest j t trees entries records k n
+        → (watermark : ℕ) (items : List KeyOp) (flushes made : List MadeTable) (flushed : IsFlushed (memory_task k.id watermark (shape_in k.id trees).memory) flushes (clears_in (parts_of (shape_in k.id trees).memory)))
+        → AreIngestionTables n items made → (h : Home) → get t.homes k.id ≡ Some h → (base : Store) → kept base ≡ store_of_contents (contents_with j t []) → (old new : Meaning) → LiesInRoot (state_in old) j
+        → Within (keyspace_folder k.id) old new
+        → let tree = shape_in k.id trees in
+        let versions = flat (entries k.id) in
+        let mid = tree_between k.id tree flushes flushed.lists h versions t in
+        let next = tree_behind k.id n items tree flushes made flushed.lists h versions t in
+        LeavesOnly old new (λ image. HasTree image t ⊎ (HasTree image mid ⊎ HasTree image next))
+        → LeavesOnly old new (StandsAmid base [] (ingestion k.id items ∷ [])) }
+    ensures base { (j : Journaling) (t : Tree) (trees : Forest) (entries : ℕ → List (List Entry)) (records : LastFields) (k : LivingKeyspace) (n : ℕ) → CanIngest j t trees entries records k n
+        → (watermark : ℕ) (items : List KeyOp) (flushes made : List MadeTable) (flushed : IsFlushed (memory_task k.id watermark (shape_in k.id trees).memory) flushes (clears_in (parts_of (shape_in k.id trees).memory)))
+        → AreIngestionTables n items made → (h : Home) → get t.homes k.id ≡ Some h → (base : Store) → kept base ≡ store_of_contents (contents_with j t [])
+        → kept (apply base (ingestion k.id items)) ≡ store_of_contents (contents_with j (tree_behind k.id n items (shape_in k.id trees) flushes made flushed.lists h (flat (entries k.id)) t) []) }
+    ensures number { (j : Journaling) (t : Tree) (trees : Forest) (entries : ℕ → List (List Entry)) (records : LastFields) (k : LivingKeyspace) (n : ℕ) → CanIngest j t trees entries records k n
+        → (watermark : ℕ) (items : List KeyOp) (flushes made : List MadeTable) (flushed : IsFlushed (memory_task k.id watermark (shape_in k.id trees).memory) flushes (clears_in (parts_of (shape_in k.id trees).memory)))
+        → AreIngestionTables n items made → (h : Home) → get t.homes k.id ≡ Some h
+        → number_of_contents (contents_with j (tree_behind k.id n items (shape_in k.id trees) flushes made flushed.lists h (flat (entries k.id)) t) j.later) ≡ n + 1 }
+    ensures known { (j : Journaling) (t : Tree) (trees : Forest) (entries : ℕ → List (List Entry)) (records : LastFields) (k : LivingKeyspace) (n : ℕ) → CanIngest j t trees entries records k n
+        → (watermark : ℕ) (items : List KeyOp) (flushes made : List MadeTable) (flushed : IsFlushed (memory_task k.id watermark (shape_in k.id trees).memory) flushes (clears_in (parts_of (shape_in k.id trees).memory)))
+        → (are : AreIngestionTables n items made) → (h : Home) → get t.homes k.id ≡ Some h → (readers : List Reader) → map (λ t. t.info) readers ≡ infos_from h.last.next_table_id (flushes ++ made)
+        → let tree = shape_in k.id trees in
+        AreTreesKnown j (tree_behind k.id n items tree flushes made flushed.lists h (flat (entries k.id)) t) (altered_at k.id (ingested n readers) trees)
+        (entries_with k.id (entries k.id ++ (flushed.lists ++ are.0)) entries) (insert records k.id (last_ingested n tree flushes made h.last)) }
 {}

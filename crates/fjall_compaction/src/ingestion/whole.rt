@@ -2,13 +2,14 @@
 //! record. All of it is planned, with all memory, before the disk is changed.
 
 ghost use Rattle.std.specs.Prelude.{◌≡◌, ◌⊎◌, ◌++◌, ◌<◌, ◌≤◌, ◌^◌, [], ℕ, Bool, List, false, true, if◌then◌else◌, length, min, IfErr, IfOk, IsOkUnless, IsTrue, OnOk};
-ghost use Rattle.fjall_base.specs.Disk.{LeavesOnly, OnlyFaults, state_in};
+ghost use Rattle.fjall_base.specs.Disk.{IsNoFolder, LeavesOnly, OnlyFaults, state_in};
 ghost use Rattle.fjall_files.specs.Calls.{AllServed};
-ghost use Rattle.fjall_files.specs.Names.{keyspace_folder};
+ghost use Rattle.fjall_files.specs.Names.{keyspace_folder, table_name};
 ghost use Rattle.fjall_files.specs.Regions.{Within};
 ghost use Rattle.fjall_files.specs.Tidy.{StaysTidy};
 ghost use Rattle.fjall_compaction.specs.Flushes.{Flush, record_after};
-ghost use Rattle.fjall_compaction.specs.FlushPlans.{AreReadersOf, HaveFiles};
+ghost use Rattle.fjall_compaction.specs.FlushPlans.{AreReadersOf, HaveFiles, KeepsBeside};
+ghost use Rattle.fjall_compaction.specs.IngestionPlans.{ForIngest, ForIngestNext, ForIngestOn};
 ghost use Rattle.fjall_jobs.specs.Sequences.{AreMadeTables};
 ghost use Rattle.fjall_jobs.specs.Tasks.{IsFlushed};
 ghost use Rattle.fjall_tree.specs.Ingestions.{has_memory, memory_task};
@@ -22,10 +23,10 @@ ghost use Rattle.fjall_writes.specs.Ingestions.{AreWritable, KeyOp, KeysAscend};
 ghost use Rattle.fjall_compaction.specs.Planned.{ForIngestion, ForIngestionOn, ForMemory, ForMemoryOn, HasNoTableFolder, IsIngestionPlan, IsIngestionRefusal, IsMemoryPlan, KeepsGiven};
 ghost use Rattle.fjall_compaction.specs.Whole.{memory_flush};
 
-use crate::flush::{FlushPlan, plan_in_place, table_readers, write_tables};
+use crate::flush::{FlushPlan, plan_in_place, write_tables};
 use crate::ingestion::plan::{IngestPlan, plan_ingest};
-use crate::ingestion::writing::write_ingest;
 use crate::place::{Counts, find_place};
+use crate::readers::table_readers;
 use fjall_base::{Disk, Error, Result, UserKey};
 use fjall_jobs::MadeTable;
 use fjall_journal::Op;
@@ -166,6 +167,33 @@ pub fn plan_ingestion(
         room,
         clears,
     })
+}
+
+/// Writes an ingestion as it was planned: its table, which is synced with its name, and then the record, which is appended and
+/// synced: from then on all of it counts. A file that nothing names, under the new table's id, is taken away first. It takes no
+/// memory.
+///
+/// A call that fails may have done all of it.
+pub fn write_ingest<D: Disk>(disk: &mut D, plan: &IngestPlan) -> Result<()>
+    // Nothing outside the keyspace's folder changes.
+    ensures within { IsTrue D.honest → ForIngest plan.now (λ id. Within (keyspace_folder id) (D.meaning disk.old) (D.meaning disk.new)) }
+    // A crash at any moment of the call leaves the tree before or the one after, whole.
+    ensures any_moment { IsTrue D.honest → ForIngestOn (D.meaning disk.old) plan.now (λ records t id h next.
+        LeavesOnly (D.meaning disk.old) (D.meaning disk.new) (λ image. HasTree image t ⊎ HasTree image next)) }
+    // At Ok the one after lies there.
+    ensures ok { IsTrue D.honest → ForIngestOn (D.meaning disk.old) plan.now (λ records t id h next.
+        OnOk result (LiesInTree (state_in (D.meaning disk.new)) records next)) }
+    // Where no folder has the table's name, each call was one that a disk can serve.
+    ensures served { IsTrue D.honest → ForIngestOn (D.meaning disk.old) plan.now (λ records t id h next.
+        IsNoFolder (state_in (D.meaning disk.old) (table_name id h.last.next_table_id)).now → AllServed (D.meaning disk.old) (D.meaning disk.new)) }
+    ensures cause { OnlyFaults (D.meaning disk.old) (D.meaning disk.new) result }
+    ensures kinds { IsTrue D.honest → ForIngest plan.now (λ id. StaysTidy (D.meaning disk.old) (D.meaning disk.new)) }
+    // In sight nothing changes but the keyspace's file of records and the new table's, whatever lies on the disk.
+    ensures beside { IsTrue D.honest → ForIngestNext plan.now (λ id next. KeepsBeside id next (D.meaning disk.old) (D.meaning disk.new)) }
+    // At Ok the table's file has its bytes.
+    ensures files { IsTrue D.honest → ForIngestNext plan.now (λ id next. OnOk result (HaveFiles (D.meaning disk.new) id next plan.now.tables.items)) }
+{
+    write_tables(disk, &plan.writes, &plan.tables)
 }
 
 // Writes the flush of memory as it was planned; nothing where memory holds nothing.

@@ -1,4 +1,4 @@
-use Rattle.std.proofs.Common.{◌∙◌, ap, subst}
+use Rattle.std.proofs.Common.{◌∙◌, ap}
 use Rattle.fjall_base.specs.Disk.{Image, Name, standing, state_in}
 use Rattle.fjall_files.specs.Texts.{text_in}
 use Rattle.fjall_recovery.proofs.Looking.{looked_at, some_look}

@@ -2,9 +2,9 @@ use Rattle.std.proofs.Common.{◌≡◌, ◌+◌, ◌∷◌, ◌++◌, ◌∙◌
 use Rattle.std.specs.Prelude.{string_bytes}
 use Rattle.fjall_script.specs.Answers.{reply_text, reply_to}
 use Rattle.fjall_script.proofs.Counts.{asked_small}
-use Rattle.fjall_script.proofs.Printing.{bad_said, crash_said, plain_step, reopen_said, reply_step}
+use Rattle.fjall_script.proofs.Printing.{bad_said, crash_said, plain_step, reopen_said, reply_step, wild_crash_said}
 use Rattle.fjall_script.proofs.session.answers_to.Goals as goal
-use Rattle.fjall_script.proofs.session.answers_to.Goals.{in-None+in_ok-push_str-in-None, in-Some+in-Ask+in-Some-split_first+in_ok-answer-in-Ask+in_ok-push_str-in-Ask, in-Some+in-Crash+in_ok-push_str-in-Crash, in-Some+in-Reopen+in_ok-push_str-in-Reopen}
+use Rattle.fjall_script.proofs.session.answers_to.Goals.{in-None+in_ok-push_str-in-None, in-Some+in-Ask+in-Some-split_first+in_ok-answer-in-Ask+in_ok-push_str-in-Ask, in-Some+in-Crash+in_ok-push_str-in-Crash, in-Some+in-CrashWild+in_ok-push_str-in-CrashWild, in-Some+in-Reopen+in_ok-push_str-in-Reopen}
 
 pub loop-found-preserved : goal.loop-found-preserved
 loop-found-preserved c =
@@ -18,6 +18,11 @@ loop-found-preserved c =
       | in-Some+in-Crash+in_ok-push_str-in-Crash w ↦
           let same = w.asked-is in record {
             text = plain_step c.loop-found.asked c.match-found.asked c.args.commands.now c.loop-found.found-index c.found-item.result _ c.loop-found.counted.now c.match-found.counted.now c.loop-found.left.now c.match-found.left.now _ _ _ _ (crash_said c.loop-found.asked c.found-item.result c.loop-found.counted.now c.loop-found.left.now _ (w.in-Some.is ∙ ap Some w.in-Crash.is)) c.loop-found-test.true c.found-item.is same (ap (λ l. l.now) w.counted-is) (ap (λ l. l.now) w.left-is) (ap string_bytes w.text-is ∙ w.in_ok-push_str-in-Crash.ensures.bytes) c.in_ok-push_str.ensures.bytes c.loop-found.invariant.text;
+            few = omega (arith, few, same);
+          }
+      | in-Some+in-CrashWild+in_ok-push_str-in-CrashWild w ↦
+          let same = w.asked-is in record {
+            text = plain_step c.loop-found.asked c.match-found.asked c.args.commands.now c.loop-found.found-index c.found-item.result _ c.loop-found.counted.now c.match-found.counted.now c.loop-found.left.now c.match-found.left.now _ _ _ _ (wild_crash_said c.loop-found.asked c.found-item.result c.loop-found.counted.now c.loop-found.left.now _ (w.in-Some.is ∙ ap Some w.in-CrashWild.is)) c.loop-found-test.true c.found-item.is same (ap (λ l. l.now) w.counted-is) (ap (λ l. l.now) w.left-is) (ap string_bytes w.text-is ∙ w.in_ok-push_str-in-CrashWild.ensures.bytes) c.in_ok-push_str.ensures.bytes c.loop-found.invariant.text;
             few = omega (arith, few, same);
           }
       | in-Some+in-Reopen+in_ok-push_str-in-Reopen w ↦

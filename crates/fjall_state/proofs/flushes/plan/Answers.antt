@@ -5,6 +5,7 @@ use Rattle.fjall_compaction.specs.FlushPlans.{AreReadersOf, IsNamed}
 use Rattle.fjall_compaction.proofs.Room.{fits_placed}
 use Rattle.fjall_manifest.specs.Records.{view}
 use Rattle.fjall_jobs.specs.declared.made_table.MadeTable.{MadeTable}
+use Rattle.fjall_jobs.specs.Made.{flush_tables}
 use Rattle.fjall_jobs.specs.Sequences.{AreMadeTables}
 use Rattle.fjall_machine.specs.Finishing.{keyspace_of}
 use Rattle.fjall_machine.proofs.Planning.{memory_ran_out}
@@ -21,7 +22,7 @@ pub returns-clause-readers : goal.returns-clause-readers
 returns-clause-readers c =
     let id = keyspace_of c.args.made.now in
     let next = c.args.last.now.next_table_id in
-    let named = subst (λ (k : ℕ). IsNamed k next c.args.made.now.tables.items c.in_ok-writes.writes.table) c.keyspace_id.ensures c.in_ok-writes.ensures.ok.table in
+    let named = subst (λ (k : ℕ). IsNamed k next (flush_tables c.args.made.now) c.in_ok-writes.writes.table) c.keyspace_id.ensures c.in_ok-writes.ensures.ok.table in
     let e = c.tables.ensures.value in
     subst (λ (l : List MadeTable). AreReadersOf id next l c.in_ok-readers.readers.items) e
     (c.in_ok-readers.ensures.readers id (subst (λ (l : List MadeTable). IsNamed id next l c.in_ok-writes.writes.table) (sym e) named))

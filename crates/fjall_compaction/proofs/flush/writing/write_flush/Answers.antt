@@ -3,6 +3,7 @@ use Rattle.fjall_base.specs.Disk.{IsNoFolder, LeavesOnly, Meaning, state_in}
 use Rattle.fjall_files.specs.Calls.{AllServed}
 use Rattle.fjall_files.specs.Names.{table_name}
 use Rattle.fjall_jobs.specs.declared.made_table.MadeTable.{MadeTable}
+use Rattle.fjall_jobs.specs.Made.{flush_clears}
 use Rattle.fjall_recovery.specs.Halves.{HasTree}
 use Rattle.fjall_recovery.specs.Places.{LiesInTree}
 use Rattle.fjall_compaction.specs.FlushPlans.{ForPlannedOf, ForTablesOn, HaveFiles, KeepsBeside}
@@ -13,29 +14,29 @@ returns-clause-any_moment g c honest records t id number h versions lists lies a
     let m : _ → Meaning = g.D.Disk.meaning in
     subst (λ (l : List MadeTable). ForTablesOn (m c.args.disk.now) c.args.plan.now l
     (λ records t id h next. LeavesOnly (m c.args.disk.now) (m c.write_tables.new.disk) (λ image. HasTree image t ⊎ HasTree image next)))
-    c.tables.ensures.value (c.write_tables.ensures.any_moment honest) records t id number c.args.made.now.clears.items h versions lists lies at is follows
+    c.tables.ensures.value (c.write_tables.ensures.any_moment honest) records t id number (flush_clears c.args.made.now) h versions lists lies at is follows
 
 pub returns-clause-ok : goal.returns-clause-ok
 returns-clause-ok g c honest records t id number h versions lists lies at is follows =
     let m : _ → Meaning = g.D.Disk.meaning in
     subst (λ (l : List MadeTable). ForTablesOn (m c.args.disk.now) c.args.plan.now l (λ records t id h next. OnOk c.write_tables.result (LiesInTree (state_in (m c.write_tables.new.disk)) records next)))
-    c.tables.ensures.value (c.write_tables.ensures.ok honest) records t id number c.args.made.now.clears.items h versions lists lies at is follows
+    c.tables.ensures.value (c.write_tables.ensures.ok honest) records t id number (flush_clears c.args.made.now) h versions lists lies at is follows
 
 pub returns-clause-served : goal.returns-clause-served
 returns-clause-served g c honest records t id number h versions lists lies at is follows =
     let m : _ → Meaning = g.D.Disk.meaning in
     subst (λ (l : List MadeTable). ForTablesOn (m c.args.disk.now) c.args.plan.now l (λ records t id h next.
     IsNoFolder (state_in (m c.args.disk.now) (table_name id h.last.next_table_id)).now → AllServed (m c.args.disk.now) (m c.write_tables.new.disk)))
-    c.tables.ensures.value (c.write_tables.ensures.served honest) records t id number c.args.made.now.clears.items h versions lists lies at is follows
+    c.tables.ensures.value (c.write_tables.ensures.served honest) records t id number (flush_clears c.args.made.now) h versions lists lies at is follows
 
 pub returns-clause-beside : goal.returns-clause-beside
 returns-clause-beside g c honest id number last is =
     let m : _ → Meaning = g.D.Disk.meaning in
     subst (λ (l : List MadeTable). ForPlannedOf c.args.plan.now l (λ id next. KeepsBeside id next (m c.args.disk.now) (m c.write_tables.new.disk)))
-    c.tables.ensures.value (c.write_tables.ensures.beside honest) id number c.args.made.now.clears.items last is
+    c.tables.ensures.value (c.write_tables.ensures.beside honest) id number (flush_clears c.args.made.now) last is
 
 pub returns-clause-files : goal.returns-clause-files
 returns-clause-files g c honest id number last is =
     let m : _ → Meaning = g.D.Disk.meaning in
     subst (λ (l : List MadeTable). ForPlannedOf c.args.plan.now l (λ id next. OnOk c.write_tables.result (HaveFiles (m c.write_tables.new.disk) id next l)))
-    c.tables.ensures.value (c.write_tables.ensures.files honest) id number c.args.made.now.clears.items last is
+    c.tables.ensures.value (c.write_tables.ensures.files honest) id number (flush_clears c.args.made.now) last is

@@ -1,7 +1,7 @@
 use Rattle.std.proofs.Common.{◌≡◌, IfOk, IfSome, Result, Option, refl, sym, ◌∙◌, ap, subst}
 use Rattle.fjall_base.specs.declared.error.Error.{Error}
 use Rattle.fjall_jobs.specs.declared.merge_job.MergeJob.{MergeJob}
-use Rattle.fjall_jobs.specs.Merges.{merge_task}
+use Rattle.fjall_jobs.specs.Merges.{merge_target, merge_task}
 use Rattle.fjall_machine.specs.Machine.{merge_out}
 use Rattle.fjall_machine.specs.Merging.{KnowsMerge}
 use Rattle.fjall_machine.specs.Shapes.{OfMergeBegin}
@@ -123,6 +123,6 @@ returns-clause-knows g c = λ h s stands reads.
     let none = begin_due old old c.args.id refl c.rotation_refusal.result c.rotation_refusal.ensures ∙ c.in_default.is in
     let begins = sym c.begins_merge.ensures ∙ c.if-not-begins_merge.false in
     let left = c.are_job_numbers_used_up.ensures.left c.if-are_job_numbers_used_up.false in
-    subst (λ (r : Result (Option MergeJob) Error). IfOk r (λ job. IfSome job (λ job. KnowsMerge (merge_out s c.args.id) job.target (merge_task job)))) (answered g c)
+    subst (λ (r : Result (Option MergeJob) Error). IfOk r (λ job. IfSome job (λ job. KnowsMerge (merge_out s c.args.id) (merge_target job) (merge_task job)))) (answered g c)
     (begun_known g.D.Disk.honest old new c.args.kind c.args.id none begins left c.begin_merge.result (came g c) h s
     (subst (λ (o : Held). StandsFor o s) (sym c.self.view_is) stands) (subst (λ (o : Held). ReadsOn o s) (sym c.self.view_is) reads))

@@ -1,4 +1,5 @@
 use Rattle.std.proofs.Common.{ℕ, List, sym, subst, ◌∙◌}
+use Rattle.fjall_base.specs.Store.{fold, kept}
 use Rattle.fjall_base.specs.Disk.{Image, Meaning, standing, state_in}
 use Rattle.fjall_base.specs.declared.error.Error.TheVariants.{JournalRecovery}
 use Rattle.fjall_base.specs.declared.error.JournalRecoveryError.TheVariants.{TornTail}
@@ -11,6 +12,7 @@ use Rattle.fjall_core.specs.Standing.{store_with_tables}
 use Rattle.fjall_core.proofs.DeviceFaults.{risen_blames}
 use Rattle.fjall_core.proofs.Opening.{held_of, keeps, opens_as, opens_beside, opens_on}
 use Rattle.fjall_core.proofs.Reopening.{opens_amid}
+use Rattle.fjall_core.proofs.WildCrashes.{left_wildly, refused_by_name}
 use Rattle.fjall_core.proofs.engine.Engine.open.Goals as goal
 
 pub returns-in-Ok-clause-opened : goal.returns-in-Ok-clause-opened
@@ -93,3 +95,17 @@ pub returns-in-Err-clause-torn : goal.returns-in-Err-clause-torn
 returns-in-Err-clause-torn g c honest strict torn =
     let image : Image = standing (state_in (g.D.Disk.meaning c.args.disk)) in
     named_torn c.in-Err.error (c.in-Err.ensures.refuses honest (JournalRecovery TornTail) (refuses_torn c.args.config.journal_recovery_mode image strict torn))
+
+-- ---- wild crashes
+
+pub returns-in-Ok-clause-any_bytes : goal.returns-in-Ok-clause-any_bytes
+returns-in-Ok-clause-any_bytes g c honest base least all left =
+    let found = returns-in-Ok-clause-opened g c honest in
+    let is = left_wildly (state_in (g.D.Disk.meaning c.args.disk)) base least all left found.folder found.is in
+    record { front = is.0; holds = is.1; within = is.2; opens = returns-in-Ok-clause-safe g c honest (kept (fold base is.0)) is.3 }
+
+pub returns-in-Err-clause-by_name : goal.returns-in-Err-clause-by_name
+returns-in-Err-clause-by_name g c honest =
+    let m : _ → Meaning = g.D.Disk.meaning in
+    refused_by_name c.args.config.journal_recovery_mode (m c.args.disk) (m c.open_folder.new.disk) c.in-Err.error (c.in-Err.ensures.due honest)
+    (λ folder opens. c.in-Err.ensures.opens_or_torn honest folder opens)

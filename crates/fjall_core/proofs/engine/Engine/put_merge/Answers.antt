@@ -1,6 +1,6 @@
 -- proofs/engine/Engine/put_merge/Answers.antt
 use Rattle.std.proofs.Common.{◌≡◌, IsTrue, Err, Ok, true, refl, subst, sym}
-use Rattle.fjall_jobs.specs.Merges.{merge_task}
+use Rattle.fjall_jobs.specs.Made.{merged_task}
 use Rattle.fjall_tree.specs.Jobs.{is_merge_out}
 use Rattle.fjall_trees.specs.Tables.{shape_in}
 use Rattle.fjall_machine.specs.Machine.{is_living}
@@ -19,7 +19,7 @@ returns-in-Err g c =
     let old : Held = record { disk = m c.self.inside.disk; journal = c.self.inside.journal; catalog = c.self.inside.catalog; memory = c.self.inside.memory } in
     let mid : Held = record { disk = m c.finish_merge.new.disk; journal = c.self.inside.journal; catalog = c.self.inside.catalog; memory = c.finish_merge.new.self } in
     let lives = subst (λ (h : Held). is_living (store_in h) (keyspace_of made) ≡ true) (sym c.self.view_is) c.requires.living in
-    let out = subst (λ (h : Held). is_merge_out (merge_task made.job).id (shape_in (keyspace_of made) h.memory.trees).merge ≡ true) (sym c.self.view_is) c.requires.out in
+    let out = subst (λ (h : Held). is_merge_out (merged_task made).id (shape_in (keyspace_of made) h.memory.trees).merge ≡ true) (sym c.self.view_is) c.requires.out in
     record {
       puts = subst (λ (h : Held). PutsMerge (IsTrue g.D.Disk.honest) h made (Err error) c.poison_by.new.self) c.self.view_is
           (put_failed (IsTrue g.D.Disk.honest) old mid c.poison_by.new.self made error

@@ -5,7 +5,7 @@ use Rattle.std.proofs.lemmas.Iterator.Consumers.{YieldsList-end, YieldsList-turn
 use Rattle.fjall_history.specs.declared.reply.Reply.{Reply}
 use Rattle.fjall_machine.specs.Places.{resolved, resolved_all}
 use Rattle.fjall_machine.specs.Shapes.{shape_of}
-use Rattle.fjall_jobs.specs.declared.merge_job.MergeJob.{MergeJob}
+use Rattle.fjall_core.specs.declared.jobs.Job.{Job}
 use Rattle.fjall_core.specs.Jobs.{KeepsJobs, KeepsMerges, KnowsMerges}
 use Rattle.fjall_core.specs.Standing.{Owes, OwesAll, ServesWhere}
 use Rattle.fjall_core.proofs.KeptJobs.{none_kept}
@@ -16,20 +16,17 @@ use Rattle.fjall_core.proofs.engine.Engine.run.Goals as goal
 pub loop-call-init : goal.loop-call-init
 loop-call-init g c =
     let core = c.args.self.now in
-    let jobs = c.in_ok-jobs.jobs in
     record {
-      runs = λ _. subst (λ (ms : List MergeJob). RunsKnown ms core [] c.in_ok-replies.replies.items core) (sym c.in_ok-jobs.ensures.merges)
+      runs = λ _. subst (λ (js : List Job). RunsKnown js core [] c.in_ok-replies.replies.items core) (sym c.in_ok-jobs.ensures.items)
           (subst (λ rs. RunsKnown [] core [] rs core) (sym c.in_ok-replies.ensures.items) (runs_none core));
-      crash = λ _ s d stands reads on. subst (λ (ms : List MergeJob). SoFar ms core s d [] c.in_ok-replies.replies.items) (sym c.in_ok-jobs.ensures.merges)
+      crash = λ _ s d stands reads on. subst (λ (js : List Job). SoFar js core s d [] c.in_ok-replies.replies.items) (sym c.in_ok-jobs.ensures.items)
           (subst (λ rs. SoFar [] core s d [] rs) (sym c.in_ok-replies.ensures.items) (none_yet core s d stands reads on));
       owes = subst (λ rs. OwesAll core [] rs core) (sym c.in_ok-replies.ensures.items) refl;
-      keeps = none_kept core.memory jobs c.in_ok-replies.replies.items c.in_ok-jobs.ensures.flushes c.in_ok-replies.ensures.items;
+      keeps = none_kept core.memory c.in_ok-jobs.jobs.items c.in_ok-replies.replies.items c.in_ok-jobs.ensures.items c.in_ok-replies.ensures.items;
       count = search rules;
-      flushes_count = search rules;
-      merges_count = search rules;
+      jobs_count = search rules;
       room = search rules;
-      flushes_room = search rules;
-      merges_room = search rules;
+      jobs_room = search rules;
     }
 
 pub loop-call-preserved : goal.loop-call-preserved
@@ -45,27 +42,25 @@ loop-call-preserved g c =
     let longer : length at.yielded + 1 ≡ length (at.yielded ++ call ∷ []) = sym (length-append at.yielded (call ∷ [])) in
     let counted : length (take (length at.yielded) calls) ≡ length at.replies.items = search rules in
     let told : c.deref.result.now ≡ at.replies.items = search rules in
-    let merges = at.jobs.merges.items in
-    let later = served.new.jobs.merges.items in
-    let serves = λ (honest : IsTrue g.D.Disk.honest). subst (λ (rs : List Reply). ServesWhere (λ s. KnowsMerges s merges) at.self (shape_of (resolved rs call)) served.result served.new.self) told (served.ensures.serves honest) in
-    let keeps = λ (honest : IsTrue g.D.Disk.honest). subst (λ (rs : List Reply). KeepsMerges at.self merges (shape_of (resolved rs call)) served.result later) told (served.ensures.merges honest) in
+    let jobs = at.jobs.items in
+    let later = served.new.jobs.items in
+    let serves = λ (honest : IsTrue g.D.Disk.honest). subst (λ (rs : List Reply). ServesWhere (λ s. KnowsMerges s jobs) at.self (shape_of (resolved rs call)) served.result served.new.self) told (served.ensures.serves honest) in
+    let keeps = λ (honest : IsTrue g.D.Disk.honest). subst (λ (rs : List Reply). KeepsMerges at.self jobs (shape_of (resolved rs call)) served.result later) told (served.ensures.merges honest) in
     record {
       runs = λ honest. subst (λ n. RunsKnown later c.args.self.now (so_far calls n c.push.new.self.items) c.push.new.self.items served.new.self) longer
-          (runs_more calls at.replies.items c.push.new.self.items (length at.yielded) call served.result turn.0 turn.1 counted pushed merges later c.args.self.now at.self served.new.self
+          (runs_more calls at.replies.items c.push.new.self.items (length at.yielded) call served.result turn.0 turn.1 counted pushed jobs later c.args.self.now at.self served.new.self
           (at.invariant.runs honest) (serves honest) (keeps honest));
       crash = λ honest s d stands reads on. subst (λ n. SoFar later served.new.self s d (so_far calls n c.push.new.self.items) c.push.new.self.items) longer
-          (call_more calls at.replies.items c.push.new.self.items (length at.yielded) call served.result turn.0 turn.1 counted pushed merges later at.self served.new.self s d
+          (call_more calls at.replies.items c.push.new.self.items (length at.yielded) call served.result turn.0 turn.1 counted pushed jobs later at.self served.new.self s d
           (at.invariant.crash honest s d stands reads on) (serves honest) (keeps honest));
       owes = subst (λ n. OwesAll c.args.self.now (so_far calls n c.push.new.self.items) c.push.new.self.items served.new.self) longer
           (owed_more calls at.replies.items c.push.new.self.items (length at.yielded) call served.result turn.0 turn.1 counted pushed c.args.self.now at.self served.new.self
           at.invariant.owes (subst (λ (rs : List Reply). Owes at.self (shape_of (resolved rs call)) served.result served.new.self) told served.ensures.owes));
-      keeps = subst (λ (rs : List Reply). KeepsJobs served.new.self.memory served.new.jobs rs) (ap (λ (rs : List Reply). rs ++ served.result ∷ []) told ∙ sym pushed) served.ensures.keeps;
+      keeps = subst (λ (rs : List Reply). KeepsJobs served.new.self.memory later rs) (ap (λ (rs : List Reply). rs ++ served.result ∷ []) told ∙ sym pushed) served.ensures.keeps;
       count = one_more ∙ ap (λ n. n + 1) at.invariant.count ∙ longer;
-      flushes_count = let most = served.ensures.flush_len in let before = at.invariant.flushes_count in omega (arith, most, before, longer);
-      merges_count = let most = served.ensures.merge_len in let before = at.invariant.merges_count in omega (arith, most, before, longer);
+      jobs_count = let most = served.ensures.len in let before = at.invariant.jobs_count in omega (arith, most, before, longer);
       room = search rules;
-      flushes_room = search rules;
-      merges_room = search rules;
+      jobs_room = search rules;
     }
 
 pub serve-reply-requires : goal.serve-reply-requires
@@ -75,9 +70,8 @@ serve-reply-requires g c =
     let turn = YieldsList-turn road at.yielded at.call-iterator at.yielded_by c.next.result c.next.new.self c.in-Some.call c.in-Some.is c.next.ensures.steps in
     let told : c.deref.result.now ≡ at.replies.items = search rules in
     record {
-      flush_room = omega (arith, turn.0, at.invariant.flushes_count, at.invariant.flushes_room);
-      merge_room = omega (arith, turn.0, at.invariant.merges_count, at.invariant.merges_room);
-      keeps = subst (λ (rs : List Reply). KeepsJobs at.self.memory at.jobs rs) (sym told) at.invariant.keeps;
+      room = omega (arith, turn.0, at.invariant.jobs_count, at.invariant.jobs_room);
+      keeps = subst (λ (rs : List Reply). KeepsJobs at.self.memory at.jobs.items rs) (sym told) at.invariant.keeps;
     }
 
 pub unwrap-requires : goal.unwrap-requires
@@ -95,9 +89,9 @@ returns-clause-runs g c = λ honest.
     let road = YieldsList-from_vec {s = c.into_iter-call-iterator.result} calls (search rules) (search rules) in
     let end = YieldsList-end road at.yielded at.call-iterator at.yielded_by c.next.result c.next.new.self c.in-None.is c.next.ensures.steps in
     let all : length calls ≤ length at.yielded = omega (arith, end.1) in
-    let merges = at.jobs.merges.items in
-    runs_end merges c.args.self.now at.self (resolved_all calls at.replies.items) at.replies.items
-    (subst (λ cs. RunsKnown merges c.args.self.now (resolved_all cs at.replies.items) at.replies.items at.self) (take_all (length at.yielded) calls all) (at.invariant.runs honest))
+    let jobs = at.jobs.items in
+    runs_end jobs c.args.self.now at.self (resolved_all calls at.replies.items) at.replies.items
+    (subst (λ cs. RunsKnown jobs c.args.self.now (resolved_all cs at.replies.items) at.replies.items at.self) (take_all (length at.yielded) calls all) (at.invariant.runs honest))
 
 pub returns-clause-crash : goal.returns-clause-crash
 returns-clause-crash g c = λ honest s d stands reads on.
@@ -106,9 +100,9 @@ returns-clause-crash g c = λ honest s d stands reads on.
     let road = YieldsList-from_vec {s = c.into_iter-call-iterator.result} calls (search rules) (search rules) in
     let end = YieldsList-end road at.yielded at.call-iterator at.yielded_by c.next.result c.next.new.self c.in-None.is c.next.ensures.steps in
     let all : length calls ≤ length at.yielded = omega (arith, end.1) in
-    let merges = at.jobs.merges.items in
-    ends merges c.args.self.now at.self s d (resolved_all calls at.replies.items) at.replies.items on
-    (subst (λ cs. SoFar merges at.self s d (resolved_all cs at.replies.items) at.replies.items) (take_all (length at.yielded) calls all) (at.invariant.crash honest s d stands reads on))
+    let jobs = at.jobs.items in
+    ends jobs c.args.self.now at.self s d (resolved_all calls at.replies.items) at.replies.items on
+    (subst (λ cs. SoFar jobs at.self s d (resolved_all cs at.replies.items) at.replies.items) (take_all (length at.yielded) calls all) (at.invariant.crash honest s d stands reads on))
 
 pub returns-clause-owes : goal.returns-clause-owes
 returns-clause-owes g c =

@@ -9,15 +9,13 @@ use Rattle.fjall_core.proofs.engine.Engine.run.Given as goal
 
 abbrev pub invariant-loop-call : goal.invariant-loop-call
 invariant-loop-call g l = record {
-  runs : IsTrue g.D.Disk.honest → RunsKnown l.jobs.merges.items l.fn.self (so_far l.fn.calls.items (length l.yielded) l.replies.items) l.replies.items l.self;
+  runs : IsTrue g.D.Disk.honest → RunsKnown l.jobs.items l.fn.self (so_far l.fn.calls.items (length l.yielded) l.replies.items) l.replies.items l.self;
   crash : IsTrue g.D.Disk.honest → (s : State) (d : Durable) → StandsFor l.fn.self s → ReadsOn l.fn.self s → StandsOn l.fn.self s.parts.entries d
-      → SoFar l.jobs.merges.items l.self s d (so_far l.fn.calls.items (length l.yielded) l.replies.items) l.replies.items;
+      → SoFar l.jobs.items l.self s d (so_far l.fn.calls.items (length l.yielded) l.replies.items) l.replies.items;
   owes : OwesAll l.fn.self (so_far l.fn.calls.items (length l.yielded) l.replies.items) l.replies.items l.self;
-  keeps : KeepsJobs l.self.memory l.jobs l.replies.items;
+  keeps : KeepsJobs l.self.memory l.jobs.items l.replies.items;
   count : vec_len l.replies ≡ length l.yielded;
-  flushes_count : vec_len l.jobs.flushes ≤ length l.yielded;
-  merges_count : vec_len l.jobs.merges ≤ length l.yielded;
+  jobs_count : vec_len l.jobs ≤ length l.yielded;
   room : length l.fn.calls.items ≤ vec_capacity l.replies;
-  flushes_room : length l.fn.calls.items ≤ vec_capacity l.jobs.flushes;
-  merges_room : length l.fn.calls.items ≤ vec_capacity l.jobs.merges;
+  jobs_room : length l.fn.calls.items ≤ vec_capacity l.jobs;
 }

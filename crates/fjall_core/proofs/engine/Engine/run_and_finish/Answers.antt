@@ -1,70 +1,26 @@
-use Rattle.std.proofs.Common.{◌≡◌, refl, sym, subst}
-use Rattle.fjall_base.specs.declared.error.Error.{Error}
-use Rattle.fjall_history.specs.declared.job.JobId.{JobId}
-use Rattle.fjall_history.specs.declared.reply.Reply.TheVariants.{Flag, Refused}
+use Rattle.std.proofs.Common.{sym, subst}
 use Rattle.fjall_jobs.specs.Flushes.{flush_task}
-use Rattle.fjall_jobs.specs.Tasks.{Task}
+use Rattle.fjall_machine.specs.Machine.{State}
 use Rattle.fjall_machine.specs.Shapes.{OfFlushFinish}
-use Rattle.fjall_core.specs.Holding.{Held}
-use Rattle.fjall_core.specs.Standing.{IsDueToFinish, Owes, Serves, job_of}
-use Rattle.fjall_core.proofs.FinishedFlushes.{made_known}
-use Rattle.fjall_core.proofs.ServedCalls.{memory_owes, memory_serves}
+use Rattle.fjall_core.specs.declared.jobs.Job.{Job}
+use Rattle.fjall_core.specs.declared.jobs.Job.TheVariants.{Flush}
+use Rattle.fjall_core.specs.Jobs.{IsFlushKnown, IsMergeKnown, finish_of, kind_of, name_of}
+use Rattle.fjall_core.specs.Standing.{ServesWhere, job_of}
+use Rattle.fjall_core.proofs.KeptMerges.{serves_where}
 use Rattle.fjall_core.proofs.engine.Engine.run_and_finish.Goals as goal
 
-pub returns-in-Err-run-clause-serves : goal.returns-in-Err-run-clause-serves
-returns-in-Err-run-clause-serves g c = λ _.
-    let old = c.args.self.now in
-    let shape = OfFlushFinish (job_of (flush_task c.args.job)) in
-    let due = c.in_default.ensures.due in
-    let named = subst (λ (job : JobId). IsDueToFinish old job) (λ i. record { number = c.id.ensures i; keyspace_id = c.keyspace_id.ensures i }) due.0 in
-    subst (λ (h : Held). Serves old shape (Refused c.in-Err-run.refused.error) h) (sym due.2)
-    (subst (λ (e : Error). Serves old shape (Refused e) old) (sym c.in-Err-run.ensures.error) (memory_serves old shape (named, due.1) refl))
+pub run_flush-requires : goal.run_flush-requires
+run_flush-requires g c = subst (IsFlushKnown c.args.self.now.memory) c.in-Flush.is c.requires
 
-pub returns-in-Err-run-clause-owes : goal.returns-in-Err-run-clause-owes
-returns-in-Err-run-clause-owes g c =
+pub returns-in-Flush-clause-serves : goal.returns-in-Flush-clause-serves
+returns-in-Flush-clause-serves g c = λ h.
     let old = c.args.self.now in
-    let shape = OfFlushFinish (job_of (flush_task c.args.job)) in
-    let due = c.in_default.ensures.due in
-    let named = subst (λ (job : JobId). IsDueToFinish old job) (λ i. record { number = c.id.ensures i; keyspace_id = c.keyspace_id.ensures i }) due.0 in
-    subst (λ (h : Held). Owes old shape (Refused c.in-Err-run.refused.error) h) (sym due.2)
-    (subst (λ (e : Error). Owes old shape (Refused e) old) (sym c.in-Err-run.ensures.error) (memory_owes old shape (named, due.1) refl))
+    let r = c.run_flush in
+    let job = c.in-Flush.job in
+    subst (λ (job : Job). ServesWhere (λ s. IsMergeKnown s job) old (finish_of (kind_of job) (name_of job)) r.result.0 r.new.self) (sym c.in-Flush.is)
+    (serves_where (λ (s : State). IsMergeKnown s (Flush job)) old r.new.self (OfFlushFinish (job_of (flush_task job))) r.result.0 (r.ensures.serves h))
 
-pub returns-in-Ok-flush_finish-clause-serves : goal.returns-in-Ok-flush_finish-clause-serves
-returns-in-Ok-flush_finish-clause-serves g c = λ h.
-    let old = c.args.self.now in
-    let mid = c.settle_early.new.self in
-    let job = flush_task c.args.job in
-    let made = flush_task c.in-Ok-run.made.job in
-    let known = made_known old mid job made c.in_default.ensures.due.2 c.in-Ok-run.ensures.job c.requires in
-    subst (λ (x : Held × Task). Serves x.0 (OfFlushFinish (job_of x.1)) (Flag c.in-Ok-flush_finish.done) c.flush_finish.new.self) (λ i. (c.in_default.ensures.due.2 i, c.in-Ok-run.ensures.job i))
-    (c.in-Ok-flush_finish.ensures.serves h known)
-
-pub returns-in-Ok-flush_finish-clause-owes : goal.returns-in-Ok-flush_finish-clause-owes
-returns-in-Ok-flush_finish-clause-owes g c =
-    let old = c.args.self.now in
-    let mid = c.settle_early.new.self in
-    let job = flush_task c.args.job in
-    let made = flush_task c.in-Ok-run.made.job in
-    let known = made_known old mid job made c.in_default.ensures.due.2 c.in-Ok-run.ensures.job c.requires in
-    subst (λ (x : Held × Task). Owes x.0 (OfFlushFinish (job_of x.1)) (Flag c.in-Ok-flush_finish.done) c.flush_finish.new.self) (λ i. (c.in_default.ensures.due.2 i, c.in-Ok-run.ensures.job i))
-    (c.in-Ok-flush_finish.ensures.owes known)
-
-pub returns-in-Err-flush_finish-clause-serves : goal.returns-in-Err-flush_finish-clause-serves
-returns-in-Err-flush_finish-clause-serves g c = λ h.
-    let old = c.args.self.now in
-    let mid = c.settle_early.new.self in
-    let job = flush_task c.args.job in
-    let made = flush_task c.in-Ok-run.made.job in
-    let known = made_known old mid job made c.in_default.ensures.due.2 c.in-Ok-run.ensures.job c.requires in
-    subst (λ (x : Held × Task). Serves x.0 (OfFlushFinish (job_of x.1)) (Refused c.in-Err-flush_finish.refused.error) c.flush_finish.new.self) (λ i. (c.in_default.ensures.due.2 i, c.in-Ok-run.ensures.job i))
-    (c.in-Err-flush_finish.ensures.serves h known)
-
-pub returns-in-Err-flush_finish-clause-owes : goal.returns-in-Err-flush_finish-clause-owes
-returns-in-Err-flush_finish-clause-owes g c =
-    let old = c.args.self.now in
-    let mid = c.settle_early.new.self in
-    let job = flush_task c.args.job in
-    let made = flush_task c.in-Ok-run.made.job in
-    let known = made_known old mid job made c.in_default.ensures.due.2 c.in-Ok-run.ensures.job c.requires in
-    subst (λ (x : Held × Task). Owes x.0 (OfFlushFinish (job_of x.1)) (Refused c.in-Err-flush_finish.refused.error) c.flush_finish.new.self) (λ i. (c.in_default.ensures.due.2 i, c.in-Ok-run.ensures.job i))
-    (c.in-Err-flush_finish.ensures.owes known)
+pub returns-in-Merge-clause-serves : goal.returns-in-Merge-clause-serves
+returns-in-Merge-clause-serves g c = λ h.
+    let r = c.run_merge in
+    subst (λ (job : Job). ServesWhere (λ s. IsMergeKnown s job) c.args.self.now (finish_of (kind_of job) (name_of job)) r.result.0 r.new.self) (sym c.in-Merge.is) (r.ensures.serves h)

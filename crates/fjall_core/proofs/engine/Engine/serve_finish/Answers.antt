@@ -1,68 +1,69 @@
-use Rattle.std.proofs.Common.{◌≡◌, ◌<◌, ◌^◌, ◌-◌, true, inl, inr, refl, sym, ◌∙◌, ap, subst, ◌++◌, ◌∷◌, [], if◌then◌else◌, Result, Option}
+use Rattle.std.proofs.Common.{inl, inr, refl, sym, ◌∙◌, ap, subst, ◌++◌, ◌∷◌, [], if◌then◌else◌, Result, Option}
 use Rattle.std.specs.Result.{is_ok}
 use Rattle.std.specs.declared.alloc.AllocFailed.{AllocFailed}
 use Rattle.std.proofs.lemmas.Bool.{true≢false}
-use Rattle.fjall_history.specs.declared.job.JobId.{JobId}
-use Rattle.fjall_jobs.specs.declared.flush_job.FlushJob.{FlushJob}
-use Rattle.fjall_jobs.specs.Flushes.{flush_task}
-use Rattle.fjall_machine.specs.Machine.{is_flushing}
-use Rattle.fjall_machine.specs.Remembered.{KnowsTask}
-use Rattle.fjall_machine.specs.Shapes.{OfFlushFinish}
-use Rattle.fjall_core.specs.Holding.{Held}
-use Rattle.fjall_core.specs.Jobs.{IsGivenBack, is_kept}
-use Rattle.fjall_core.specs.Standing.{Owes, Serves}
-use Rattle.fjall_core.proofs.FinishedFlushes.{stale_owes, stale_serves}
-use Rattle.fjall_core.proofs.FoundJobs.{at_place, named_job}
-use Rattle.fjall_core.proofs.KeptJobs.{out_given}
+use Rattle.fjall_machine.specs.Machine.{State}
+use Rattle.fjall_machine.specs.Shapes.{CallShape}
+use Rattle.fjall_core.specs.declared.jobs.Job.{Job}
+use Rattle.fjall_core.specs.Jobs.{IsFlushKnown, IsGivenBack, IsMergeKnown, KnowsMerges, finish_of, is_named, kind_of, name_of}
+use Rattle.fjall_core.specs.Standing.{Owes, ServesWhere}
+use Rattle.fjall_core.proofs.FoundJobs.{at_place, finish_of_named}
+use Rattle.fjall_core.proofs.KeptMerges.{found_known, serves_fewer, unfinished_owes, unfinished_serves}
 use Rattle.fjall_core.proofs.engine.Engine.serve_finish.Goals as goal
 
-pub returns-then-not-is_out-clause-serves : goal.returns-then-not-is_out-clause-serves
-returns-then-not-is_out-clause-serves g c = λ _.
-    stale_serves c.args.self.now c.args.job (ap (λ (h : Held). is_flushing h.memory.trees c.args.job) (sym c.self.view_is) ∙ sym c.if-not-is_out.ensures.out)
+pub returns-then-not-is_job_out-clause-serves : goal.returns-then-not-is_job_out-clause-serves
+returns-then-not-is_job_out-clause-serves g c = λ _.
+    unfinished_serves (λ (s : State). KnowsMerges s c.args.jobs.now.items) c.args.self.now c.args.kind c.args.job (sym c.if-not-is_job_out.ensures)
 
-pub returns-then-not-is_out-clause-owes : goal.returns-then-not-is_out-clause-owes
-returns-then-not-is_out-clause-owes g c =
-    stale_owes c.args.self.now c.args.job (ap (λ (h : Held). is_flushing h.memory.trees c.args.job) (sym c.self.view_is) ∙ sym c.if-not-is_out.ensures.out)
+pub returns-then-not-is_job_out-clause-owes : goal.returns-then-not-is_job_out-clause-owes
+returns-then-not-is_job_out-clause-owes g c = unfinished_owes c.args.self.now c.args.kind c.args.job (sym c.if-not-is_job_out.ensures)
 
 pub unreachable-requires : goal.unreachable-requires
-unreachable-requires g c =
-    let kept = λ (h : Held) (is : h ≡ c.args.self.now). subst (λ (h : Held). c.args.job.number < 2 ^ 64 - 1 → is_flushing h.memory.trees c.args.job ≡ true → is_kept c.args.job c.args.jobs.now.items ≡ true) (sym is) c.requires.kept in
-    let out = sym c.if-not-is_out.ensures.out in
-    true≢false (sym (kept _ c.self.view_is (out_given c.self.inside.memory c.args.job c.if-not-is_out.ensures.lawful out) out) ∙ c.in_default.ensures.finds.0)
+unreachable-requires g c = true≢false (sym (c.requires.kept (sym c.if-not-is_job_out.ensures)) ∙ c.in_default.ensures.finds.0)
 
 pub run_and_finish-reply-requires : goal.run_and_finish-reply-requires
 run_and_finish-reply-requires g c =
-    at_place (λ (kept : FlushJob). KnowsTask c.args.self.now.memory (flush_task kept)) c.args.jobs.now.items c.in-Some.ensures.finds.1 c.in-Some.kept c.requires.known c.in-Some.ensures.finds.2
+    at_place (λ (kept : Job). IsFlushKnown c.args.self.now.memory kept) c.args.jobs.now.items c.in-Some.ensures.finds.1 c.in-Some.kept c.requires.known c.in-Some.ensures.finds.2
 
 pub returns-in-Some-back-clause-serves : goal.returns-in-Some-back-clause-serves
 returns-in-Some-back-clause-serves g c = λ h.
-    subst (λ (job : JobId). Serves c.args.self.now (OfFlushFinish job) c.run_and_finish-reply.result.0 c.run_and_finish-reply.new.self)
-    (named_job c.args.job (flush_task c.in-Some.kept) c.in-Some.ensures.finds.0) (c.run_and_finish-reply.ensures.serves h)
+    let old = c.args.self.now in
+    let jobs = c.args.jobs.now.items in
+    let kept = c.in-Some.kept in
+    let r = c.run_and_finish-reply in
+    subst (λ (shape : CallShape). ServesWhere (λ s. KnowsMerges s jobs) old shape r.result.0 r.new.self) (finish_of_named c.args.kind c.args.job kept c.in-Some.ensures.finds.0)
+    (serves_fewer (λ (s : State). IsMergeKnown s kept) (λ (s : State). KnowsMerges s jobs) old r.new.self (finish_of (kind_of kept) (name_of kept)) r.result.0
+    (λ s. found_known s (is_named c.args.kind c.args.job) jobs c.take_job.new.jobs.items kept c.in-Some.ensures.finds) (r.ensures.serves h))
 
 pub returns-in-Some-back-clause-owes : goal.returns-in-Some-back-clause-owes
 returns-in-Some-back-clause-owes g c =
-    subst (λ (job : JobId). Owes c.args.self.now (OfFlushFinish job) c.run_and_finish-reply.result.0 c.run_and_finish-reply.new.self)
-    (named_job c.args.job (flush_task c.in-Some.kept) c.in-Some.ensures.finds.0) c.run_and_finish-reply.ensures.owes
+    let r = c.run_and_finish-reply in
+    subst (λ (shape : CallShape). Owes c.args.self.now shape r.result.0 r.new.self) (finish_of_named c.args.kind c.args.job c.in-Some.kept c.in-Some.ensures.finds.0) r.ensures.owes
 
 pub returns-in-Some-back-clause-keeps : goal.returns-in-Some-back-clause-keeps
 returns-in-Some-back-clause-keeps g c =
     let others = c.take_job.new.jobs.items in
     let back = c.in-Some-back.refused in
-    let pushed = c.push.ensures.items ∙ ap (λ (r : Result (Unit {0}) (AllocFailed FlushJob)). if is_ok r then others ++ back ∷ [] else others) c.unwrap.ensures in
-    let given = subst (λ (o : Option FlushJob). IsGivenBack c.in-Some.kept c.run_and_finish-reply.result.0 o) c.in-Some-back.is c.run_and_finish-reply.ensures.back in
+    let pushed = c.push.ensures.items ∙ ap (λ (r : Result (Unit {0}) (AllocFailed Job)). if is_ok r then others ++ back ∷ [] else others) c.unwrap.ensures in
+    let given = subst (λ (o : Option Job). IsGivenBack c.in-Some.kept c.run_and_finish-reply.result.0 o) c.in-Some-back.is c.run_and_finish-reply.ensures.back in
     inr (c.in-Some.kept, others, c.in-Some.ensures.finds, inr (back, pushed, given))
 
 pub returns-in_default-back-clause-serves : goal.returns-in_default-back-clause-serves
 returns-in_default-back-clause-serves g c = λ h.
-    subst (λ (job : JobId). Serves c.args.self.now (OfFlushFinish job) c.run_and_finish-reply.result.0 c.run_and_finish-reply.new.self)
-    (named_job c.args.job (flush_task c.in-Some.kept) c.in-Some.ensures.finds.0) (c.run_and_finish-reply.ensures.serves h)
+    let old = c.args.self.now in
+    let jobs = c.args.jobs.now.items in
+    let kept = c.in-Some.kept in
+    let r = c.run_and_finish-reply in
+    subst (λ (shape : CallShape). ServesWhere (λ s. KnowsMerges s jobs) old shape r.result.0 r.new.self) (finish_of_named c.args.kind c.args.job kept c.in-Some.ensures.finds.0)
+    (serves_fewer (λ (s : State). IsMergeKnown s kept) (λ (s : State). KnowsMerges s jobs) old r.new.self (finish_of (kind_of kept) (name_of kept)) r.result.0
+    (λ s. found_known s (is_named c.args.kind c.args.job) jobs c.take_job.new.jobs.items kept c.in-Some.ensures.finds) (r.ensures.serves h))
 
 pub returns-in_default-back-clause-owes : goal.returns-in_default-back-clause-owes
 returns-in_default-back-clause-owes g c =
-    subst (λ (job : JobId). Owes c.args.self.now (OfFlushFinish job) c.run_and_finish-reply.result.0 c.run_and_finish-reply.new.self)
-    (named_job c.args.job (flush_task c.in-Some.kept) c.in-Some.ensures.finds.0) c.run_and_finish-reply.ensures.owes
+    let r = c.run_and_finish-reply in
+    subst (λ (shape : CallShape). Owes c.args.self.now shape r.result.0 r.new.self) (finish_of_named c.args.kind c.args.job c.in-Some.kept c.in-Some.ensures.finds.0) r.ensures.owes
 
 pub returns-in_default-back-clause-keeps : goal.returns-in_default-back-clause-keeps
 returns-in_default-back-clause-keeps g c =
-    let given = subst (λ (o : Option FlushJob). IsGivenBack c.in-Some.kept c.run_and_finish-reply.result.0 o) c.in_default-back.is c.run_and_finish-reply.ensures.back in
+    let given = subst (λ (o : Option Job). IsGivenBack c.in-Some.kept c.run_and_finish-reply.result.0 o) c.in_default-back.is c.run_and_finish-reply.ensures.back in
     inr (c.in-Some.kept, c.take_job.new.jobs.items, c.in-Some.ensures.finds, inl (refl, given))

@@ -3,7 +3,7 @@ use Rattle.std.proofs.lemmas.Bool.{true≢false}
 use Rattle.fjall_base.specs.Disk.{Meaning}
 use Rattle.fjall_base.specs.declared.error.Error.{Error}
 use Rattle.fjall_history.specs.declared.job.JobId.{JobId}
-use Rattle.fjall_jobs.specs.Flushes.{flush_task}
+use Rattle.fjall_jobs.specs.Made.{flushed_task}
 use Rattle.fjall_machine.specs.Machine.{is_flushing}
 use Rattle.fjall_machine.specs.Remembered.{KnowsTask}
 use Rattle.fjall_machine.specs.Shapes.{OfFlushFinish}
@@ -77,7 +77,7 @@ pub returns-in_err-finish-clause-stale : goal.returns-in_err-finish-clause-stale
 returns-in_err-finish-clause-stale g c = λ none.
     let there = due_there c.args.self.now c.settle_early.new.self c.args.made.now c.id.result c.keyspace_id.result c.id.ensures c.keyspace_id.ensures c.in_default.ensures.due in
     let made = c.args.made.now in
-    absurd (true≢false (sym there.1 ∙ ap (λ (h : Held). is_flushing h.memory.trees (job_of (flush_task made.job))) c.in_default.ensures.due.2 ∙ none))
+    absurd (true≢false (sym there.1 ∙ ap (λ (h : Held). is_flushing h.memory.trees (job_of (flushed_task made))) c.in_default.ensures.due.2 ∙ none))
 
 pub returns-in_err-finish-clause-later : goal.returns-in_err-finish-clause-later
 returns-in_err-finish-clause-later g c = subst (λ (old : Held). old.disk.faults ≤ c.finish.new.self.disk.faults) c.in_default.ensures.due.2 c.in_err-finish.ensures.later
@@ -111,7 +111,7 @@ pub returns-clause-stale : goal.returns-clause-stale
 returns-clause-stale g c = λ none.
     let there = due_there c.args.self.now c.settle_early.new.self c.args.made.now c.id.result c.keyspace_id.result c.id.ensures c.keyspace_id.ensures c.in_default.ensures.due in
     let made = c.args.made.now in
-    absurd (true≢false (sym there.1 ∙ ap (λ (h : Held). is_flushing h.memory.trees (job_of (flush_task made.job))) c.in_default.ensures.due.2 ∙ none))
+    absurd (true≢false (sym there.1 ∙ ap (λ (h : Held). is_flushing h.memory.trees (job_of (flushed_task made))) c.in_default.ensures.due.2 ∙ none))
 
 pub returns-clause-later : goal.returns-clause-later
 returns-clause-later g c = subst (λ (old : Held). old.disk.faults ≤ c.finish.new.self.disk.faults) c.in_default.ensures.due.2 c.in_ok-finish.ensures.later

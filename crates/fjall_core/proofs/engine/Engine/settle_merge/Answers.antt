@@ -1,7 +1,7 @@
 use Rattle.std.proofs.Common.{◌≡◌, ◌∙◌, Bool, true, false, IsTrue, Some, Result, rules, ap, subst, sym, Ok, Err}
 use Rattle.std.proofs.lemmas.Bool.{true≢false}
 use Rattle.fjall_base.specs.declared.error.Error.{Error}
-use Rattle.fjall_jobs.specs.Merges.{merge_task}
+use Rattle.fjall_jobs.specs.Made.{merged_target, merged_task}
 use Rattle.fjall_machine.specs.Merging.{KnowsMerge}
 use Rattle.fjall_history.specs.declared.job.JobId.{JobId}
 use Rattle.fjall_machine.specs.Machine.{is_merging}
@@ -17,9 +17,9 @@ pub returns-in-Some-clause-serves : goal.returns-in-Some-clause-serves
 returns-in-Some-clause-serves g c = λ h.
     let made = c.args.made.now in
     let new = c.settle_merge_early.new.self in
-    subst (λ (name : JobId). ServesWhere (KnowsMergeIfDue c.args.self.now made.job.target (merge_task made.job)) c.args.self.now (OfMergeFinish name) (flag_reply c.in-Some.early) new)
+    subst (λ (name : JobId). ServesWhere (KnowsMergeIfDue c.args.self.now (merged_target made) (merged_task made)) c.args.self.now (OfMergeFinish name) (flag_reply c.in-Some.early) new)
     (λ i. record { number = c.id.ensures i; keyspace_id = c.keyspace_id.ensures i })
-    (serves_where (KnowsMergeIfDue c.args.self.now made.job.target (merge_task made.job)) c.args.self.now new (OfMergeFinish (record { number = c.id.result; keyspace_id = c.keyspace_id.result })) (flag_reply c.in-Some.early) (c.in-Some.ensures.serves h))
+    (serves_where (KnowsMergeIfDue c.args.self.now (merged_target made) (merged_task made)) c.args.self.now new (OfMergeFinish (record { number = c.id.result; keyspace_id = c.keyspace_id.result })) (flag_reply c.in-Some.early) (c.in-Some.ensures.serves h))
 
 pub returns-in-Some-clause-stale : goal.returns-in-Some-clause-stale
 returns-in-Some-clause-stale g c = λ none.
@@ -39,7 +39,7 @@ returns-in_err-merge-clause-serves g c = λ h.
     let may = may_go_on c.args.self.now c.settle_merge_early.new.self made c.id.result c.keyspace_id.result c.id.ensures c.keyspace_id.ensures due in
     let is : c.from_residual.result ≡ Err c.in_err-merge.field-0.0 = search rules in
     if_due c.args.self.now c.settle_merge_early.new.self c.merge.new.self made (flag_reply c.from_residual.result) due.2 (may.out, may.living)
-    (subst (λ (r : Result Bool Error). ServesWhere (λ s. KnowsMerge s made.job.target (merge_task made.job)) c.settle_merge_early.new.self (finishing made) (flag_reply r) c.merge.new.self) (sym is)
+    (subst (λ (r : Result Bool Error). ServesWhere (λ s. KnowsMerge s (merged_target made) (merged_task made)) c.settle_merge_early.new.self (finishing made) (flag_reply r) c.merge.new.self) (sym is)
     (finished_serves (IsTrue g.D.Disk.honest) c.settle_merge_early.new.self c.merge.new.self made may (Err c.in_err-merge.field-0.0) c.in_err-merge.ensures.merges h))
 
 pub returns-in_err-merge-clause-owes : goal.returns-in_err-merge-clause-owes
@@ -57,7 +57,7 @@ returns-in_err-merge-clause-stale g c = λ none.
     let made = c.args.made.now in
     let due = c.in_default.ensures.due in
     let may = may_go_on c.args.self.now c.settle_merge_early.new.self made c.id.result c.keyspace_id.result c.id.ensures c.keyspace_id.ensures due in
-    absurd (true≢false (sym may.out ∙ ap (λ (h : Held). is_merging h.memory.trees (job_of (merge_task made.job))) due.2 ∙ none))
+    absurd (true≢false (sym may.out ∙ ap (λ (h : Held). is_merging h.memory.trees (job_of (merged_task made))) due.2 ∙ none))
 
 pub returns-clause-serves : goal.returns-clause-serves
 returns-clause-serves g c = λ h.
@@ -80,4 +80,4 @@ returns-clause-stale g c = λ none.
     let made = c.args.made.now in
     let due = c.in_default.ensures.due in
     let may = may_go_on c.args.self.now c.settle_merge_early.new.self made c.id.result c.keyspace_id.result c.id.ensures c.keyspace_id.ensures due in
-    absurd (true≢false (sym may.out ∙ ap (λ (h : Held). is_merging h.memory.trees (job_of (merge_task made.job))) due.2 ∙ none))
+    absurd (true≢false (sym may.out ∙ ap (λ (h : Held). is_merging h.memory.trees (job_of (merged_task made))) due.2 ∙ none))

@@ -13,7 +13,7 @@ use Rattle.fjall_compaction.proofs.Behind.{nothing_written}
 use Rattle.fjall_recovery.specs.Halves.{HasTree}
 use Rattle.fjall_recovery.specs.Places.{LiesInTree}
 use Rattle.fjall_manifest.specs.Records.{Fields, view}
-use Rattle.fjall_jobs.specs.Flushes.{flush_task}
+use Rattle.fjall_jobs.specs.Made.{flush_tables, flushed_task}
 use Rattle.fjall_tree.specs.Jobs.{flush_finished, is_flush_out}
 use Rattle.fjall_trees.specs.Forests.{Forest, altered_at}
 use Rattle.fjall_trees.specs.Tables.{shape_in}
@@ -134,7 +134,7 @@ returns-in_err-write_flush-clause-beside g c = λ honest of k out at was.
     let may = may_finish old now made last c.keyspace_id-id.result c.flush_end.result number c.self.view_is c.keyspace_id-id.ensures c.in-Some.ensures c.flush_end.ensures c.saturating_sub-number.ensures of in
     let before = g.D.Disk.meaning c.args.disk.now in
     let after = g.D.Disk.meaning c.write_flush.new.disk in
-    let room : last.next_table_id + length made.tables.items < 2 ^ 64 = c.in_ok-planned.ensures.writes.fits.room.next_table_id in
+    let room : last.next_table_id + length (flush_tables made) < 2 ^ 64 = c.in_ok-planned.ensures.writes.fits.room.next_table_id in
     subst (λ (l : Fields). KeepsTables (keyspace_of made) l.next_table_id before after) (last_is now made last number may k at)
     (tables_stay (keyspace_of made) last.next_table_id before after (omega (arith, room)) (c.in_err-write_flush.ensures.beside honest (keyspace_of made) number last c.in_ok-planned.ensures.writes))
 
@@ -142,7 +142,7 @@ pub settle-requires-clause-out : goal.settle-requires-clause-out
 settle-requires-clause-out g c =
     let made = c.args.made.now in
     let trees = c.in_ok-reserve.ensures.trees ∙ ap (λ (m : Remembered). m.trees) c.self.view_is in
-    ap (λ (f : Forest). is_flush_out (flush_task made.job).id (shape_in (keyspace_of made) f).flush) trees ∙ c.requires.out
+    ap (λ (f : Forest). is_flush_out (flushed_task made).id (shape_in (keyspace_of made) f).flush) trees ∙ c.requires.out
 
 -- ---- memory has no room for it, since it isn't of the flush
 
@@ -225,7 +225,7 @@ invariant_of-self-in_default-settle g c =
     let old = memory_in a in
     let now = c.args.self.now in
     let id = keyspace_of c.args.made.now in
-    let there = flush_there (flush_task c.args.made.now.job).id (shape_in id now.trees).flush c.requires.out in
+    let there = flush_there (flushed_task c.args.made.now).id (shape_in id now.trees).flush c.requires.out in
     let out = there.0 in
     let planned = c.in_ok-planned.planned in
     let is = subst IsLawful c.self.view_is c.self.invariant in
@@ -241,7 +241,7 @@ returns-clause-keeps g c = λ task known.
     let old = memory_in c.self.inside in
     let now = c.args.self.now in
     let id = keyspace_of c.args.made.now in
-    let there = flush_there (flush_task c.args.made.now.job).id (shape_in id now.trees).flush c.requires.out in
+    let there = flush_there (flushed_task c.args.made.now).id (shape_in id now.trees).flush c.requires.out in
     let planned = c.in_ok-planned.planned in
     let kept = c.in_ok-reserve.ensures.trees in
     let was = ap (λ (f : Forest). (shape_in id f).flush) (kept ∙ ap (λ (m : Remembered). m.trees) c.self.view_is) ∙ there.1 in
@@ -339,7 +339,7 @@ returns-clause-beside g c = λ honest of k out at was.
     let may = may_finish old now made last c.keyspace_id-id.result c.flush_end.result number c.self.view_is c.keyspace_id-id.ensures c.in-Some.ensures c.flush_end.ensures c.saturating_sub-number.ensures of in
     let before = g.D.Disk.meaning c.args.disk.now in
     let after = g.D.Disk.meaning c.write_flush.new.disk in
-    let room : last.next_table_id + length made.tables.items < 2 ^ 64 = c.in_ok-planned.ensures.writes.fits.room.next_table_id in
+    let room : last.next_table_id + length (flush_tables made) < 2 ^ 64 = c.in_ok-planned.ensures.writes.fits.room.next_table_id in
     subst (λ (l : Fields). KeepsTables (keyspace_of made) l.next_table_id before after) (last_is now made last number may k at)
     (tables_stay (keyspace_of made) last.next_table_id before after (omega (arith, room)) (c.in_ok-write_flush.ensures.beside honest (keyspace_of made) number last c.in_ok-planned.ensures.writes))
 
@@ -352,7 +352,7 @@ returns-clause-fits g c = λ of k out at was.
     let last = view c.in-Some.last.now in
     let number = c.saturating_sub-number.result in
     let may = may_finish old now made last c.keyspace_id-id.result c.flush_end.result number c.self.view_is c.keyspace_id-id.ensures c.in-Some.ensures c.flush_end.ensures c.saturating_sub-number.ensures of in
-    subst (λ (l : Fields). l.next_table_id + length made.tables.items < 2 ^ 64) (last_is now made last number may k at) c.in_ok-planned.ensures.writes.fits.room.next_table_id
+    subst (λ (l : Fields). l.next_table_id + length (flush_tables made) < 2 ^ 64) (last_is now made last number may k at) c.in_ok-planned.ensures.writes.fits.room.next_table_id
 
 pub returns-clause-files : goal.returns-clause-files
 returns-clause-files g c = λ honest of k out at was.
@@ -364,5 +364,5 @@ returns-clause-files g c = λ honest of k out at was.
     let number = c.saturating_sub-number.result in
     let may = may_finish old now made last c.keyspace_id-id.result c.flush_end.result number c.self.view_is c.keyspace_id-id.ensures c.in-Some.ensures c.flush_end.ensures c.saturating_sub-number.ensures of in
     let after = g.D.Disk.meaning c.write_flush.new.disk in
-    subst (λ (l : Fields). HaveFiles after (keyspace_of made) l.next_table_id made.tables.items) (last_is now made last number may k at)
+    subst (λ (l : Fields). HaveFiles after (keyspace_of made) l.next_table_id (flush_tables made)) (last_is now made last number may k at)
     (c.in_ok-write_flush.ensures.files honest (keyspace_of made) number last c.in_ok-planned.ensures.writes)

@@ -5,7 +5,7 @@ use Rattle.fjall_files.specs.Calls.{AllServed}
 use Rattle.fjall_compaction.specs.FlushPlans.{HaveFiles}
 use Rattle.fjall_compaction.proofs.Behind.{nothing_written}
 use Rattle.fjall_jobs.specs.declared.made_table.MadeTable.{MadeTable}
-use Rattle.fjall_jobs.specs.Merges.{merge_task}
+use Rattle.fjall_jobs.specs.Made.{merge_tables, merged_task}
 use Rattle.fjall_recovery.specs.Known.{last_known}
 use Rattle.fjall_compaction.specs.Merges.{merge_of}
 use Rattle.fjall_compaction.specs.MergePlans.{HasNoTableFolder, MergeKeepsTables}
@@ -110,7 +110,7 @@ invariant_of-self g c =
     let record_is = view c.in_ok-planned.planned.writes.record in
     let is = subst IsLawful c.self.view_is c.self.invariant in
     let given = subst (λ (m : Remembered). id < m.keyspaces.next) (sym c.self.view_is) (living_given now.keyspaces is.keyspaces now.trees id c.requires.living) in
-    let there = merge_there (merge_task c.args.made.now.job).id (shape_in id now.trees).merge c.requires.out in
+    let there = merge_there (merged_task c.args.made.now).id (shape_in id now.trees).merge c.requires.out in
     let trees = c.settle.ensures.trees there.0 (ap (λ (m : Remembered). (shape_in id m.trees).merge) c.self.view_is ∙ there.1) in
     alike (with_merge id there.0 readers record_is old) _ (merged_is_lawful id there.0 readers record_is old c.self.invariant given) refl trees refl refl c.settle.ensures.records refl
 
@@ -242,4 +242,4 @@ returns-clause-fits g c = λ k out at was.
     let last = view c.in-Some.last.now in
     let input = c.in-Some-merge_input.input in
     let may = may_merge old now made last c.keyspace_id-id.result input c.self.invariant c.self.view_is c.keyspace_id-id.ensures c.in-Some.ensures c.in-Some-merge_input.ensures.input in
-    subst (λ (l : Fields). l.next_table_id + length made.tables.items < 2 ^ 64) (last_is now made last input may k at) c.in_ok-planned.ensures.writes.fits.room.next_table_id
+    subst (λ (l : Fields). l.next_table_id + length (merge_tables made) < 2 ^ 64) (last_is now made last input may k at) c.in_ok-planned.ensures.writes.fits.room.next_table_id

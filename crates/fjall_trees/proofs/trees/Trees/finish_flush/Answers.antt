@@ -1,7 +1,7 @@
 use Rattle.std.proofs.Common.{◌≡◌, ℕ, false, List, length, set, None, refl, sym, subst, ◌∙◌}
 use Rattle.std.specs.Prelude.{IfSome}
 use Rattle.std.specs.Result.{IfOk}
-use Rattle.fjall_jobs.specs.Flushes.{flush_task}
+use Rattle.fjall_jobs.specs.Made.{flushed_task}
 use Rattle.fjall_tree.specs.Jobs.{IsFlushing, flush_finished, is_flush_out}
 use Rattle.fjall_tree.specs.Shapes.{shape_of}
 use Rattle.fjall_tree.specs.Trees.{Shape}
@@ -29,7 +29,7 @@ returns-in-Some-clause-ok c =
     let k = c.index_mut.result.now in
     let here = found_tree ks c.as_slice.result.now c.in-Some.place c.keyspace_id.result k c.as_slice.ensures.value c.in-Some.ensures c.index_mut.ensures.value in
     let its = here.1 ∙ c.keyspace_id.ensures in
-    subst (λ (s : Shape). IfOk c.finish_flush.result (λ done. done ≡ is_flush_out (flush_task c.args.made.now.job).id s.flush)) (sym (shape_here ks c.in-Some.place (flush_task c.args.made.now.job).keyspace k t.lawful here.0 its)) c.finish_flush.ensures.ok
+    subst (λ (s : Shape). IfOk c.finish_flush.result (λ done. done ≡ is_flush_out (flushed_task c.args.made.now).id s.flush)) (sym (shape_here ks c.in-Some.place (flushed_task c.args.made.now).keyspace k t.lawful here.0 its)) c.finish_flush.ensures.ok
 
 pub returns-in-Some-clause-finished : goal.returns-in-Some-clause-finished
 returns-in-Some-clause-finished c is =
@@ -39,9 +39,9 @@ returns-in-Some-clause-finished c is =
     let here = found_tree ks c.as_slice.result.now c.in-Some.place c.keyspace_id.result k c.as_slice.ensures.value c.in-Some.ensures c.index_mut.ensures.value in
     let its = here.1 ∙ c.keyspace_id.ensures in
     let new : Forest = forest_in (set ks c.in-Some.place (record { id = k.id; tree = c.finish_flush.new.self })) in
-    subst (λ (s : Shape). IfSome s.flush (λ out. new ≡ altered_at (flush_task c.args.made.now.job).keyspace (flush_finished c.args.tables.items out) (forest_in ks)))
-    (sym (shape_here ks c.in-Some.place (flush_task c.args.made.now.job).keyspace k t.lawful here.0 its))
-    (some_so (shape_of k.tree).flush _ _ (λ out made. set_altered ks c.in-Some.place (flush_task c.args.made.now.job).keyspace k c.finish_flush.new.self (flush_finished c.args.tables.items out) t.lawful here.0 its made) (c.finish_flush.ensures.finished is))
+    subst (λ (s : Shape). IfSome s.flush (λ out. new ≡ altered_at (flushed_task c.args.made.now).keyspace (flush_finished c.args.tables.items out) (forest_in ks)))
+    (sym (shape_here ks c.in-Some.place (flushed_task c.args.made.now).keyspace k t.lawful here.0 its))
+    (some_so (shape_of k.tree).flush _ _ (λ out made. set_altered ks c.in-Some.place (flushed_task c.args.made.now).keyspace k c.finish_flush.new.self (flush_finished c.args.tables.items out) t.lawful here.0 its made) (c.finish_flush.ensures.finished is))
 
 pub returns-in-Some-clause-stale : goal.returns-in-Some-clause-stale
 returns-in-Some-clause-stale c is =
@@ -66,11 +66,11 @@ returns-in-Some-clause-ready c room out =
     let k = c.index_mut.result.now in
     let here = found_tree ks c.as_slice.result.now c.in-Some.place c.keyspace_id.result k c.as_slice.ensures.value c.in-Some.ensures c.index_mut.ensures.value in
     let its = here.1 ∙ c.keyspace_id.ensures in
-    c.finish_flush.ensures.ready (room_here ks c.in-Some.place (flush_task c.args.made.now.job).keyspace k (length c.args.tables.items) (length (flush_task c.args.made.now.job).clears) room here.0 its)
-    (subst (λ (s : Shape). IsFlushing s (flush_task c.args.made.now.job)) (shape_here ks c.in-Some.place (flush_task c.args.made.now.job).keyspace k t.lawful here.0 its) out)
+    c.finish_flush.ensures.ready (room_here ks c.in-Some.place (flushed_task c.args.made.now).keyspace k (length c.args.tables.items) (length (flushed_task c.args.made.now).clears) room here.0 its)
+    (subst (λ (s : Shape). IsFlushing s (flushed_task c.args.made.now)) (shape_here ks c.in-Some.place (flushed_task c.args.made.now).keyspace k t.lawful here.0 its) out)
 
 pub returns-in-None-clause-ok : goal.returns-in-None-clause-ok
 returns-in-None-clause-ok c =
     let none = subst (λ (xs : List KeyspaceTree). tree_at c.keyspace_id.result (forest_in xs) ≡ None) c.as_slice.ensures.value c.in-None.ensures in
     let nowhere = subst (λ (n : ℕ). tree_at n (forest_of c.args.self.now) ≡ None) c.keyspace_id.ensures none in
-    subst (λ (s : Shape). false ≡ is_flush_out (flush_task c.args.made.now.job).id s.flush) (sym (shape_none (flush_task c.args.made.now.job).keyspace (forest_of c.args.self.now) nowhere)) refl
+    subst (λ (s : Shape). false ≡ is_flush_out (flushed_task c.args.made.now).id s.flush) (sym (shape_none (flushed_task c.args.made.now).keyspace (forest_of c.args.self.now) nowhere)) refl

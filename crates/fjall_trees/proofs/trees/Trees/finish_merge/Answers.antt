@@ -1,7 +1,7 @@
 use Rattle.std.proofs.Common.{◌≡◌, ℕ, ◌+◌, ◌-◌, ◌≤◌, false, List, length, set, None, refl, sym, subst, ◌∙◌}
 use Rattle.std.specs.Prelude.{IfSome, vec_capacity, vec_len}
 use Rattle.std.specs.Result.{IfOk}
-use Rattle.fjall_jobs.specs.Merges.{merge_task}
+use Rattle.fjall_jobs.specs.Made.{merged_task}
 use Rattle.fjall_tree.specs.Jobs.{merge_finished, is_merge_out}
 use Rattle.fjall_tree.specs.Shapes.{shape_of}
 use Rattle.fjall_tree.specs.Trees.{Shape}
@@ -28,7 +28,7 @@ returns-in-Some-clause-ok c =
     let k = c.index_mut.result.now in
     let here = found_tree ks c.as_slice.result.now c.in-Some.place c.keyspace_id.result k c.as_slice.ensures.value c.in-Some.ensures c.index_mut.ensures.value in
     let its = here.1 ∙ c.keyspace_id.ensures in
-    subst (λ (s : Shape). IfOk c.finish_merge.result (λ done. done ≡ is_merge_out (merge_task c.args.made.now.job).id s.merge)) (sym (shape_here ks c.in-Some.place (merge_task c.args.made.now.job).keyspace k t.lawful here.0 its)) c.finish_merge.ensures.ok
+    subst (λ (s : Shape). IfOk c.finish_merge.result (λ done. done ≡ is_merge_out (merged_task c.args.made.now).id s.merge)) (sym (shape_here ks c.in-Some.place (merged_task c.args.made.now).keyspace k t.lawful here.0 its)) c.finish_merge.ensures.ok
 
 pub returns-in-Some-clause-finished : goal.returns-in-Some-clause-finished
 returns-in-Some-clause-finished c is =
@@ -38,9 +38,9 @@ returns-in-Some-clause-finished c is =
     let here = found_tree ks c.as_slice.result.now c.in-Some.place c.keyspace_id.result k c.as_slice.ensures.value c.in-Some.ensures c.index_mut.ensures.value in
     let its = here.1 ∙ c.keyspace_id.ensures in
     let new : Forest = forest_in (set ks c.in-Some.place (record { id = k.id; tree = c.finish_merge.new.self })) in
-    subst (λ (s : Shape). IfSome s.merge (λ out. new ≡ altered_at (merge_task c.args.made.now.job).keyspace (merge_finished c.args.tables.items out) (forest_in ks)))
-    (sym (shape_here ks c.in-Some.place (merge_task c.args.made.now.job).keyspace k t.lawful here.0 its))
-    (some_so (shape_of k.tree).merge _ _ (λ out made. set_altered ks c.in-Some.place (merge_task c.args.made.now.job).keyspace k c.finish_merge.new.self (merge_finished c.args.tables.items out) t.lawful here.0 its made) (c.finish_merge.ensures.finished is))
+    subst (λ (s : Shape). IfSome s.merge (λ out. new ≡ altered_at (merged_task c.args.made.now).keyspace (merge_finished c.args.tables.items out) (forest_in ks)))
+    (sym (shape_here ks c.in-Some.place (merged_task c.args.made.now).keyspace k t.lawful here.0 its))
+    (some_so (shape_of k.tree).merge _ _ (λ out made. set_altered ks c.in-Some.place (merged_task c.args.made.now).keyspace k c.finish_merge.new.self (merge_finished c.args.tables.items out) t.lawful here.0 its made) (c.finish_merge.ensures.finished is))
 
 pub returns-in-Some-clause-stale : goal.returns-in-Some-clause-stale
 returns-in-Some-clause-stale c is =
@@ -66,10 +66,10 @@ returns-in-Some-clause-ready c room =
     let here = found_tree ks c.as_slice.result.now c.in-Some.place c.keyspace_id.result k c.as_slice.ensures.value c.in-Some.ensures c.index_mut.ensures.value in
     let its = here.1 ∙ c.keyspace_id.ensures in
     c.finish_merge.ensures.ready
-    (subst (λ (s : Shape). IfSome s.merge (λ out. vec_len c.args.tables + (length s.tables - out.tables) ≤ vec_capacity c.args.tables)) (shape_here ks c.in-Some.place (merge_task c.args.made.now.job).keyspace k t.lawful here.0 its) room)
+    (subst (λ (s : Shape). IfSome s.merge (λ out. vec_len c.args.tables + (length s.tables - out.tables) ≤ vec_capacity c.args.tables)) (shape_here ks c.in-Some.place (merged_task c.args.made.now).keyspace k t.lawful here.0 its) room)
 
 pub returns-in-None-clause-ok : goal.returns-in-None-clause-ok
 returns-in-None-clause-ok c =
     let none = subst (λ (xs : List KeyspaceTree). tree_at c.keyspace_id.result (forest_in xs) ≡ None) c.as_slice.ensures.value c.in-None.ensures in
     let nowhere = subst (λ (n : ℕ). tree_at n (forest_of c.args.self.now) ≡ None) c.keyspace_id.ensures none in
-    subst (λ (s : Shape). false ≡ is_merge_out (merge_task c.args.made.now.job).id s.merge) (sym (shape_none (merge_task c.args.made.now.job).keyspace (forest_of c.args.self.now) nowhere)) refl
+    subst (λ (s : Shape). false ≡ is_merge_out (merged_task c.args.made.now).id s.merge) (sym (shape_none (merged_task c.args.made.now).keyspace (forest_of c.args.self.now) nowhere)) refl

@@ -1,0 +1,4 @@
+pub mod CrashedDisks
+pub mod LastSyncs
+mod WildTidying
+pub mod Lives
