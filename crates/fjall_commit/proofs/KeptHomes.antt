@@ -1,10 +1,10 @@
 -- Keyspaces' homes stay in sight while the journal is written, and while another keyspace comes or goes.
-use Rattle.std.proofs.Common.{◌≡◌, ◌≢◌, inl, inr, ℕ, zero, suc, ◌<◌, ◌^◌, true, false, List, [], ◌∷◌, ◌++◌, take, Option, Result, OnOk, OnErr, refl, sym, ◌∙◌, ap, subst, arith}
+use Rattle.std.proofs.Common.{◌≡◌, inl, inr, ℕ, zero, suc, ◌<◌, ◌^◌, true, false, List, [], ◌∷◌, ◌++◌, take, Option, Result, OnOk, OnErr, refl, sym, ◌∙◌, ap, subst, arith}
 use Rattle.std.proofs.lemmas.Bool.{true≢false}
 use Rattle.std.specs.List.{AllByRecursion}
 use Rattle.std.specs.Str.{bytes_eq}
 use Rattle.fjall_base.specs.declared.error.Error.{Error}
-use Rattle.fjall_base.specs.Disk.{Append, Cut, DiskEntry, DiskState, DiskStep, File, Folder, Loosen, Meaning, Missing, Name, Place, Put, Sync, SyncFolder, Took, TookPart, after, all_synced, alter, appended, change, cut_to, loosened, making, state_in}
+use Rattle.fjall_base.specs.Disk.{Append, Cut, DiskEntry, DiskState, DiskStep, File, Folder, Loosen, Meaning, Missing, Name, Place, Put, Sync, SyncFolder, Took, after, all_synced, appended, change, cut_to, loosened, making, state_in}
 use Rattle.fjall_base.proofs.States.{alter-other, differs, put-other}
 use Rattle.fjall_files.specs.Names.{keyspace_folder}
 use Rattle.fjall_files.specs.Regions.{Within, is_under}
@@ -17,7 +17,7 @@ use Rattle.fjall_journal.specs.Rotations.{RotationTook, making_safe, rotating}
 use Rattle.fjall_recovery.specs.Halves.{is_of_keyspaces}
 use Rattle.fjall_recovery.proofs.Named.{under_within}
 use Rattle.fjall_recovery.proofs.Roots.{all_front}
-use Rattle.fjall_commit.specs.Journaling.{KeepsHome, KeepsHomes, KeepsOtherHomes}
+use Rattle.fjall_commit.specs.Journaling.{KeepsHomes, KeepsOtherHomes}
 use Rattle.fjall_commit.proofs.AppendsAndSyncs.{SameBut, mode_but, part_but, whole_part}
 use Rattle.fjall_commit.proofs.BatchAppends.{part_but_one, took_but}
 use Rattle.fjall_commit.proofs.CrashesInEvictions.{TookEviction, gone_apart}

@@ -1,10 +1,9 @@
 //! Changes on their way into the active journal: what a crash leaves is a beginning of their batches, behind all that was synced.
 
-ghost use Rattle.std.specs.Prelude.{◌≡◌, ◌⊎◌, ◌<◌, ◌++◌, [], ◌∷◌, false, length, IsTrue, OnOk, OnErr, IfErr, IsErrOf, IsOk, IsOkUnless, None, Ok, is_none};
+ghost use Rattle.std.specs.Prelude.{◌≡◌, ◌⊎◌, ◌++◌, [], ◌∷◌, false, IsTrue, OnOk, OnErr, IfErr, IsErrOf, IsOk, IsOkUnless, None, Ok, is_none};
 ghost use Rattle.fjall_base.specs.Disk.{HasCause, LeavesOnly, OnlyFaults, Took, TookOrNot, state_in};
 ghost use Rattle.fjall_journal.specs.Batches.{IsWritten};
-ghost use Rattle.fjall_journal.specs.Ops.{items_refusal, items_text, of_items};
-ghost use Rattle.fjall_journal.specs.Changes.{Emptied, change_text, of_change};
+ghost use Rattle.fjall_journal.specs.Changes.{change_text, of_change};
 ghost use Rattle.fjall_journal.specs.Writer.{BatchTook, IsIo, PersistTook, ServesFile, Waits, WroteNone, WroteText, after_command, after_write, batch_steps, persist_steps, syncing_mode, written_out};
 ghost use Rattle.fjall_files.specs.Tidy.{StaysTidy};
 ghost use Rattle.fjall_commit.specs.Journaling.{IsWriting, LeavesRoot, TookIn, after_mode, after_persist, out_in, steps_in, with_batch, ForFollowing, ForWriting, KeepsKeyspaces, is_out};
@@ -90,79 +89,6 @@ fn write_change<D: Disk>(
         Change::Items(items) => journal.write_batch(disk, items, seqno),
         Change::Emptied(keyspace_id) => journal.write_clear(disk, keyspace_id, seqno),
     }
-}
-
-/// Writes these items as one batch behind what waits. Without a mode all waits in the writer's buffer while that has less
-/// than 8,192 bytes; with one all is handed to the disk and, in the two sync modes, the journal is synced: then no crash
-/// loses the batch.
-///
-/// There is an item, and they are ones that a batch may have: none is refused. Want of memory changes nothing. Where the
-/// disk fails, some beginning of the bytes may be in the file, or all of them where the sync failed, and the writer must
-/// not be used again.
-pub fn append_batch<D: Disk>(
-    journal: &mut Writer,
-    disk: &mut D,
-    mode: Option<PersistMode>,
-    items: &[BatchItem],
-    seqno: u64,
-) -> Result<()>
-    requires fits { items_refusal items.now ≡ None }
-    requires some { 0 < length items.now }
-    ensures ok { OnOk result (journal.new ≡ after_command (is_none mode) journal.old (items_text items.now seqno)) }
-    ensures memory { IsErrOf result Error.OutOfMemory → journal.new ≡ journal.old }
-    ensures untouched { IsErrOf result Error.OutOfMemory → D.meaning disk.new ≡ D.meaning disk.old }
-    ensures served { IsTrue D.honest → ForWriting (D.meaning disk.old) journal.old (λ j. (D.meaning disk.new).misuses ≡ (D.meaning disk.old).misuses) }
-    ensures cause { HasCause (D.meaning disk.old) (D.meaning disk.new) result }
-    // Where it waits nothing goes to the disk, and no fault can come.
-    ensures waits { is_out mode journal.old (of_items items.now seqno) ≡ false → D.meaning disk.new ≡ D.meaning disk.old }
-    ensures faultless { is_out mode journal.old (of_items items.now seqno) ≡ false → IsOkUnless result Error.OutOfMemory }
-    ensures took { IsTrue D.honest
-        → OnOk result (Took (D.meaning disk.old) (D.meaning disk.new) (batch_steps mode journal.old (items_text items.now seqno))) }
-    ensures part { IsTrue D.honest
-        → OnErr result (BatchTook mode (D.meaning disk.old) (D.meaning disk.new) journal.old (items_text items.now seqno)) }
-    // A crash at any moment, also at the last one of a call that fails, leaves the batch or not.
-    ensures any_moment { IsTrue D.honest → ForFollowing (D.meaning disk.old) journal.old seqno (λ j.
-        LeavesOnly (D.meaning disk.old) (D.meaning disk.new) (LeavesRoot (state_in (D.meaning disk.old)) j (j.later ++ of_items items.now seqno ∷ []))) }
-    ensures lies { IsTrue D.honest → ForFollowing (D.meaning disk.old) journal.old seqno (λ j.
-        let batch = of_items items.now seqno in
-        OnOk result (IsWriting (state_in (D.meaning disk.new)) journal.new (after_mode mode (with_batch (is_out mode journal.old batch) j batch)))) }
-    ensures elsewhere { IsTrue D.honest → ForWriting (D.meaning disk.old) journal.old (λ j. KeepsKeyspaces (D.meaning disk.old) (D.meaning disk.new)) }
-    ensures kinds { IsTrue D.honest → StaysTidy (D.meaning disk.old) (D.meaning disk.new) }
-{
-    journal.write_batch(disk, items, seqno)?;
-    persist_in(journal, disk, mode)
-}
-
-/// Writes a batch that empties a keyspace behind what waits, as [`append_batch`] writes one of items: it waits and goes
-/// out, is refused, and outlives a crash, as that one does.
-pub fn append_clear<D: Disk>(
-    journal: &mut Writer,
-    disk: &mut D,
-    mode: Option<PersistMode>,
-    keyspace_id: u64,
-    seqno: u64,
-) -> Result<()>
-    ensures ok { OnOk result (journal.new ≡ after_command (is_none mode) journal.old (change_text (Emptied keyspace_id) seqno)) }
-    ensures memory { IsErrOf result Error.OutOfMemory → journal.new ≡ journal.old }
-    ensures untouched { IsErrOf result Error.OutOfMemory → D.meaning disk.new ≡ D.meaning disk.old }
-    ensures served { IsTrue D.honest → ForWriting (D.meaning disk.old) journal.old (λ j. (D.meaning disk.new).misuses ≡ (D.meaning disk.old).misuses) }
-    ensures cause { HasCause (D.meaning disk.old) (D.meaning disk.new) result }
-    ensures waits { is_out mode journal.old (of_change (Emptied keyspace_id) seqno) ≡ false → D.meaning disk.new ≡ D.meaning disk.old }
-    ensures faultless { is_out mode journal.old (of_change (Emptied keyspace_id) seqno) ≡ false → IsOkUnless result Error.OutOfMemory }
-    ensures took { IsTrue D.honest
-        → OnOk result (Took (D.meaning disk.old) (D.meaning disk.new) (batch_steps mode journal.old (change_text (Emptied keyspace_id) seqno))) }
-    ensures part { IsTrue D.honest
-        → OnErr result (BatchTook mode (D.meaning disk.old) (D.meaning disk.new) journal.old (change_text (Emptied keyspace_id) seqno)) }
-    ensures any_moment { IsTrue D.honest → ForFollowing (D.meaning disk.old) journal.old seqno (λ j.
-        LeavesOnly (D.meaning disk.old) (D.meaning disk.new) (LeavesRoot (state_in (D.meaning disk.old)) j (j.later ++ of_change (Emptied keyspace_id) seqno ∷ []))) }
-    ensures lies { IsTrue D.honest → ForFollowing (D.meaning disk.old) journal.old seqno (λ j.
-        let batch = of_change (Emptied keyspace_id) seqno in
-        OnOk result (IsWriting (state_in (D.meaning disk.new)) journal.new (after_mode mode (with_batch (is_out mode journal.old batch) j batch)))) }
-    ensures elsewhere { IsTrue D.honest → ForWriting (D.meaning disk.old) journal.old (λ j. KeepsKeyspaces (D.meaning disk.old) (D.meaning disk.new)) }
-    ensures kinds { IsTrue D.honest → StaysTidy (D.meaning disk.old) (D.meaning disk.new) }
-{
-    journal.write_clear(disk, keyspace_id, seqno)?;
-    persist_in(journal, disk, mode)
 }
 
 // Where there is a mode, hands all that waits to the disk and, in the two sync modes, syncs the journal.

@@ -16,7 +16,7 @@ mod synced_changes;
 pub use creation::{Creation, create_keyspace, prepare_creation};
 pub use deletion::delete_keyspace;
 pub use eviction::evict_journals;
-pub use journaling::{Change, append_batch, append_change, append_clear, sync_journal};
+pub use journaling::{Change, append_change, sync_journal};
 pub use laws::{
     a_persist_keeps_all, a_writer_begins, crashes_leave_some, numbers_go_on, synced_batches_stay,
 };

@@ -1,7 +1,6 @@
 //! The engine's one machine: calls that change keyspaces, read them at any view and sync their journal.
 #![tactic(auto)]
 
-mod clears;
 mod close;
 mod config;
 mod engine;

@@ -1,11 +1,12 @@
 //! Calls that change keys, and the sync of the journal.
 
-ghost use Rattle.std.specs.Prelude.{◌≡◌, ◌<◌, ◌^◌, All, None, IsTrue, length, true};
+ghost use Rattle.std.specs.Prelude.{◌≡◌, ◌<◌, ◌^◌, IsTrue};
 ghost use Rattle.fjall_journal.specs.Changes.{Items};
-ghost use Rattle.fjall_journal.specs.Ops.{items_refusal};
 ghost use Rattle.fjall_journal.specs.declared.op.Op.TheVariants as ops;
-ghost use Rattle.fjall_machine.specs.Machine.{State, is_living};
-ghost use Rattle.fjall_machine.specs.Shapes.{AsKeyspace, ByMode, OfChange, OfPersist, Persistence, of_write};
+ghost use Rattle.fjall_commit.specs.Given.{ChangesSome, FitsBatch, meant};
+ghost use Rattle.fjall_machine.specs.Allowed.{IsOfLiving};
+ghost use Rattle.fjall_machine.specs.Machine.{State};
+ghost use Rattle.fjall_machine.specs.Shapes.{AsKeyspace, ByMode, OfChange, OfPersist, Persistence, of_clear, of_write};
 ghost use Rattle.fjall_core.specs.Crashes.{BlamesDevice};
 ghost use Rattle.fjall_core.specs.Durables.{Durable};
 ghost use Rattle.fjall_core.specs.CallParts.{Writes};
@@ -13,22 +14,22 @@ ghost use Rattle.fjall_core.specs.Standing.{StandsFor, StandsOn, Owes, Serves, h
 
 use crate::engine::Engine;
 use fjall_base::{Disk, Error, Result, UserKey, UserValue};
-use fjall_commit::sync_journal;
+use fjall_commit::{Change, sync_journal};
 use fjall_journal::{BatchItem, Op, PersistMode};
 use std::slice;
 
 impl<D: Disk> Engine<D> {
-    // Writes these items as one command, under the next number. All memory is got before the first byte goes to the disk.
-    fn write(&mut self, items: &[BatchItem], mode: Option<PersistMode>) -> Result<()>
-        requires fits { items_refusal items.now ≡ None }
-        requires some { 0 < length items.now }
-        requires living { All (λ item. is_living (store_in self.old) item.0 ≡ true) items.now }
+    // Makes a change as one command, under the next number. All memory is got before the first byte goes to the disk.
+    fn write(&mut self, change: Change, mode: Option<PersistMode>) -> Result<()>
+        requires fits { FitsBatch (meant change) }
+        requires some { ChangesSome (meant change) }
+        requires living { IsOfLiving (store_in self.old) (meant change) }
         requires room { self.old.memory.next < 2 ^ 63 }
-        ensures writes { Writes (IsTrue D.honest) self.old (Items items.now) mode result self.new }
+        ensures writes { Writes (IsTrue D.honest) self.old (meant change.entry) mode result self.new }
     {
         let written = self
             .memory
-            .write(&mut self.journal, &mut self.disk, items, mode);
+            .change(&mut self.journal, &mut self.disk, change, mode);
         if let Err(error) = written {
             self.poison_by(&error);
             return Err(error);
@@ -48,7 +49,7 @@ impl<D: Disk> Engine<D> {
         if let Some(error) = self.memory.change_refusal(items) {
             return Err(error);
         }
-        self.write(items, mode)
+        self.write(Change::Items(items), mode)
     }
 
     // How a write of one key of this keyspace, or a clear of it, is persisted.
@@ -101,6 +102,23 @@ impl<D: Disk> Engine<D> {
         ensures owes { Owes self.old (of_write (id, key, ops.RemoveWeak)) (reply_of result) self.new }
     {
         self.change_key((id, key, Op::RemoveWeak))
+    }
+
+    /// Takes all keys of a keyspace and their values away, under the next number, as one command: what is written to the
+    /// keyspace behind it stays. A snapshot that was opened before still reads them. It is persisted as
+    /// [`insert`](Engine::insert) is, and a crash may lose it as long.
+    ///
+    /// Refusals, the first that has its cause: `UnknownKeyspace`, `KeyspaceDeleted`, `Poisoned`, `NumbersUsedUp`,
+    /// `OutOfMemory`, and `Io`, after which the core is poisoned. After each of the others nothing has changed.
+    pub fn clear(&mut self, id: u64) -> Result<()>
+        ensures serves { IsTrue D.honest → Serves self.old (of_clear id) (reply_of result) self.new }
+        ensures owes { Owes self.old (of_clear id) (reply_of result) self.new }
+    {
+        if let Some(error) = self.memory.clear_refusal(id) {
+            return Err(error);
+        }
+        let mode = self.mode_of(id);
+        self.write(Change::Emptied(id), mode)
     }
 
     /// Changes keys of any keyspaces by these items, in their order, as one command under one number, all or none of which

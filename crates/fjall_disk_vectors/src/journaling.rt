@@ -1,7 +1,7 @@
 //! The bytes of a journal that batches were written to.
 
 use fjall_base::{Disk, Result, Slice};
-use fjall_commit::{append_batch, append_clear, sync_journal};
+use fjall_commit::{Change, append_change, sync_journal};
 use fjall_journal::{BatchItem, Op, PersistMode, ValueType, Writer, check_items};
 use fjall_memory::MemoryDisk;
 use std::alloc::Global;
@@ -83,7 +83,7 @@ fn write(
     if items.is_empty() {
         return Ok(());
     }
-    append_batch(journal, disk, mode, items, number)
+    append_change(journal, disk, mode, Change::Items(items), number)
 }
 
 /// Takes a step.
@@ -99,7 +99,9 @@ fn take(alloc: Global, disk: &mut MemoryDisk, journal: &mut Writer, step: Step) 
         Write(number, items, mode) => {
             return write(disk, journal, number, &items_of(alloc, items)?, mode);
         }
-        Empty(number, mode) => return append_clear(journal, disk, mode, 3, number),
+        Empty(number, mode) => {
+            return append_change(journal, disk, mode, Change::Emptied(3), number);
+        }
         Persist(mode) => return sync_journal(journal, disk, mode),
         Crash => *disk = mem::replace(disk, MemoryDisk::new(alloc)).crash(0)?,
     }

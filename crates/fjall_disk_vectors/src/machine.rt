@@ -1,6 +1,7 @@
 //! What an engine holds in memory: keyspaces made, written, deleted and read, and tickets.
 
 use fjall_base::{Error, Result, Slice};
+use fjall_commit::Change;
 use fjall_history::{Reply, Ticket, View};
 use fjall_journal::{BatchItem, Op, PersistMode, ValueType, Writer};
 use fjall_machine::Call;
@@ -28,27 +29,27 @@ fn create(alloc: Global, memory: &mut EngineState, name: &[u8]) -> Result<u64> {
 
 /// What becomes of a key.
 #[derive(Clone, Copy)]
-enum Change {
+enum Fate {
     Put(&'static [u8]),
     Remove,
     RemoveWeak,
 }
 
-fn op_of(alloc: Global, change: Change) -> Result<Op> {
-    Ok(match change {
-        Change::Put(value) => Op::Put(Slice::new(alloc, value)?),
-        Change::Remove => Op::Remove,
-        Change::RemoveWeak => Op::RemoveWeak,
+fn op_of(alloc: Global, fate: Fate) -> Result<Op> {
+    Ok(match fate {
+        Fate::Put(value) => Op::Put(Slice::new(alloc, value)?),
+        Fate::Remove => Op::Remove,
+        Fate::RemoveWeak => Op::RemoveWeak,
     })
 }
 
 /// An item of a batch: a keyspace, a key, and what becomes of it.
-type Item = (u64, &'static [u8], Change);
+type Item = (u64, &'static [u8], Fate);
 
 fn items_of(alloc: Global, items: &[Item]) -> Result<Vec<BatchItem>> {
     let mut batch = Vec::new(alloc);
-    for &(id, key, change) in items {
-        let op = op_of(alloc, change)?;
+    for &(id, key, fate) in items {
+        let op = op_of(alloc, fate)?;
         batch.push((id, Slice::new(alloc, key)?, op))?;
     }
     Ok(batch)
@@ -64,7 +65,7 @@ fn push(alloc: Global, memory: &mut EngineState, items: &[BatchItem]) -> Result<
     }
     let mut disk = MemoryDisk::new(alloc);
     let mut journal = Writer::create_new(alloc, &mut disk, "0.jnl")?;
-    memory.write(&mut journal, &mut disk, items, None)
+    memory.change(&mut journal, &mut disk, Change::Items(items), None)
 }
 
 /// Empties a keyspace, where nothing refuses it, with a journal of its own.
@@ -74,7 +75,7 @@ fn clear(alloc: Global, memory: &mut EngineState, id: u64) -> Result<()> {
     }
     let mut disk = MemoryDisk::new(alloc);
     let mut journal = Writer::create_new(alloc, &mut disk, "0.jnl")?;
-    memory.clear(&mut journal, &mut disk, id, None)
+    memory.change(&mut journal, &mut disk, Change::Emptied(id), None)
 }
 
 /// Seals the memtable of a keyspace, where nothing refuses it; answers 1 where it held something, else 0.
@@ -126,7 +127,7 @@ pub fn two(alloc: Global) -> Result<EngineState> {
     let mut memory = empty(alloc);
     create(alloc, &mut memory, b"b")?;
     create(alloc, &mut memory, b"a")?;
-    let items = items_of(alloc, &[(1, b"k", Change::Put(b"v"))])?;
+    let items = items_of(alloc, &[(1, b"k", Fate::Put(b"v"))])?;
     push(alloc, &mut memory, &items)?;
     Ok(memory)
 }
@@ -241,17 +242,17 @@ fn is_read(alloc: Global, memory: &mut EngineState, id: u64, wanted: Bytes<'_>) 
     })
 }
 
-const PUT_V: Step = Step::Write(&[(1, b"k", Change::Put(b"v"))]);
+const PUT_V: Step = Step::Write(&[(1, b"k", Fate::Put(b"v"))]);
 
-const PUT_W: Step = Step::Write(&[(1, b"k", Change::Put(b"w"))]);
+const PUT_W: Step = Step::Write(&[(1, b"k", Fate::Put(b"w"))]);
 
-const AWAY: Step = Step::Write(&[(1, b"k", Change::RemoveWeak)]);
+const AWAY: Step = Step::Write(&[(1, b"k", Fate::RemoveWeak)]);
 
 // The last item of a key counts, and all have one number.
 const BATCH: Step = Step::Write(&[
-    (1, b"k", Change::Put(b"v")),
-    (2, b"k", Change::Put(b"w")),
-    (1, b"k", Change::Remove),
+    (1, b"k", Fate::Put(b"v")),
+    (2, b"k", Fate::Put(b"w")),
+    (1, b"k", Fate::Remove),
 ]);
 
 const UNKNOWN: Bytes<'static> = Err(Error::UnknownKeyspace);
@@ -538,15 +539,15 @@ fn is_seen(
     }
 }
 
-const CHANGES: &[(Change, &[u8], ValueType)] = &[
-    (Change::Put(b"v"), b"v", ValueType::Value),
-    (Change::Remove, b"", ValueType::Tombstone),
-    (Change::RemoveWeak, b"", ValueType::WeakTombstone),
+const FATES: &[(Fate, &[u8], ValueType)] = &[
+    (Fate::Put(b"v"), b"v", ValueType::Value),
+    (Fate::Remove, b"", ValueType::Tombstone),
+    (Fate::RemoveWeak, b"", ValueType::WeakTombstone),
 ];
 
-/// Whether a change has these bytes in a journal, and its type there.
-fn written(alloc: Global, change: Change, bytes: &[u8]) -> Result<(bool, ValueType)> {
-    let op = op_of(alloc, change)?;
+/// Whether what becomes of a key has these bytes in a journal, and its type there.
+fn written(alloc: Global, fate: Fate, bytes: &[u8]) -> Result<(bool, ValueType)> {
+    let op = op_of(alloc, fate)?;
     Ok((op.bytes() == bytes, op.value_type()))
 }
 
@@ -593,9 +594,9 @@ fn tickets_keep_their_views(rt: HostRuntime) {
         );
     }
     let are_printed = are_printed(rt.alloc());
-    for &(change, bytes, value_type) in CHANGES {
+    for &(fate, bytes, value_type) in FATES {
         assert_eq!(rt;
-            (written(rt.alloc(), change, bytes), are_printed),
+            (written(rt.alloc(), fate, bytes), are_printed),
             (Ok((true, value_type)), Ok(true))
         );
     }

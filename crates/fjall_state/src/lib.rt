@@ -1,7 +1,6 @@
 //! What an engine holds in memory, and the changes of it: each is a step of the machine.
 #![tactic(auto)]
 
-mod clears;
 mod engine_state;
 mod evictions;
 mod flushes;

@@ -4,5 +4,5 @@ use Rattle.fjall_machine.specs.Remembered.{facts_of}
 use Rattle.fjall_machine.proofs.Dues.{may_change}
 use Rattle.fjall_disk_vectors.proofs.machine.clear.Goals as goal
 
-pub clear-requires-clause-living : goal.clear-requires-clause-living
-clear-requires-clause-living c = (may_change (facts_of c.args.memory.now 0) (Emptied c.args.id) (sym c.clear_refusal.ensures ∙ c.in_default.is)).living
+pub change-requires-clause-living : goal.change-requires-clause-living
+change-requires-clause-living c = (may_change (facts_of c.args.memory.now 0) (Emptied c.args.id) (sym c.clear_refusal.ensures ∙ c.in_default.is)).living
