@@ -1,5 +1,5 @@
 -- A merge that is to begin: where it leads a core and its disk, and what it serves.
-use Rattle.std.proofs.Common.{◌≡◌, inr, ℕ, ◌+◌, ◌-◌, ◌^◌, ◌<◌, Bool, true, false, List, [], None, Option, Some, Result, Ok, Err, IfErr, IfOk, IfSome, IsTrue, MatchBool, OnErr, OnOk, refl, sym, ◌∙◌, ap, subst}
+use Rattle.std.proofs.Common.{◌≡◌, inr, ℕ, ◌+◌, ◌-◌, ◌^◌, ◌<◌, Bool, true, false, List, [], None, Option, Some, Result, Ok, Err, IfErr, IfOk, IfSome, IsTrue, MatchBool, OnErr, OnOk, refl, sym, ◌∙◌, ap, subst, arith}
 use Rattle.std.proofs.lemmas.Bool.{true≢false}
 use Rattle.fjall_base.specs.Disk.{Took}
 use Rattle.fjall_base.specs.declared.error.Error.{Error}
@@ -23,6 +23,7 @@ use Rattle.fjall_machine.proofs.KnownMerges.{a_begun_merge_is_known}
 use Rattle.fjall_table.specs.Blocks.{Entry}
 use Rattle.fjall_table_reader.specs.Files.{IsRefused}
 use Rattle.fjall_trees.specs.Tables.{AreReadOn, AreSameTrees, shape_in}
+use Rattle.fjall_trees.proofs.Same.{same_trees}
 use Rattle.fjall_core.specs.Holding.{Held}
 use Rattle.fjall_core.specs.Crashes.{is_io}
 use Rattle.fjall_core.specs.Durables.{Durable}
@@ -61,6 +62,17 @@ module _ (core : Held) (kind : MergeKind) (id : ℕ) (none : held_due core (OfMe
   no_job_serves begins used =
       refusal_serves core (OfMergeBegin kind id) NumbersUsedUp refl
       (λ s stands. owes_step core core (OfMergeBegin kind id) (Refused NumbersUsedUp) s (λ reads. reads) (no_job_owes begins used) stands)
+
+  -- memory is used up before a block is looked at
+  pub no_memory_owes : begins_merge_in core kind id ≡ true → core.memory.next_job < 2 ^ 64 - 1 → Owes core (OfMergeBegin kind id) (Refused OutOfMemory) core
+  no_memory_owes begins left =
+      subst (λ first. OwesRefusal first core (OfMergeBegin kind id) OutOfMemory core) (sym none)
+      ((begins, left), (begins, record { memory_is = refl; trees = same_trees core.memory.trees; catalog = refl; journal = refl; faults = omega arith }))
+
+  pub no_memory_serves : begins_merge_in core kind id ≡ true → core.memory.next_job < 2 ^ 64 - 1 → Serves core (OfMergeBegin kind id) (Refused OutOfMemory) core
+  no_memory_serves begins left =
+      refusal_serves core (OfMergeBegin kind id) OutOfMemory refl
+      (λ s stands. owes_step core core (OfMergeBegin kind id) (Refused OutOfMemory) s (λ reads. reads) (no_memory_owes begins left) stands)
 
 -- ---- one that begins
 

@@ -801,6 +801,11 @@ abbrev pub finish_reply : Result Bool (Refusal FlushMade) → Reply
 finish_reply (Ok done) = Flag done
 finish_reply (Err refused) = Refused refused.error
 
+-- the reply to a flush or a merge that is to begin, where memory is used up: none begins, or it is refused
+abbrev pub no_job_reply : Result Unit Error → Reply
+no_job_reply (Ok _) = Began None
+no_job_reply (Err error) = Refused error
+
 -- the reply to a merge that is to begin
 abbrev pub merge_job_reply : Result (Option MergeJob) Error → Reply
 merge_job_reply (Ok None) = Began None

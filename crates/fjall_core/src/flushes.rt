@@ -10,7 +10,7 @@ ghost use Rattle.fjall_machine.specs.Remembered.{KnowsTask};
 ghost use Rattle.fjall_machine.specs.Shapes.{OfCount, OfFlushBegin, OfFlushFinish, OfMaintenance, ToFlush};
 ghost use Rattle.fjall_state.specs.Flushes.{IsOfFlush};
 ghost use Rattle.fjall_core.specs.CallParts.{Begins, Evicts, Finishes, Puts, SyncsAll};
-ghost use Rattle.fjall_core.specs.Standing.{IsDueToFinish, KnowsIfDue, Owes, Serves, finish_reply, flag_reply, held_due, ids_reply, is_long, job_of, job_reply, reply_of, store_in};
+ghost use Rattle.fjall_core.specs.Standing.{IsDueToFinish, KnowsIfDue, Owes, Serves, finish_reply, flag_reply, held_due, ids_reply, is_long, job_of, job_reply, no_job_reply, reply_of, store_in};
 
 use crate::engine::Engine;
 use fjall_base::{Disk, Error, Refused, Result};
@@ -81,6 +81,25 @@ impl<D: Disk> Engine<D> {
             Ok(job) => Ok(Some(job)),
             Err(error) => Err(error),
         }
+    }
+
+    /// What [`flush_begin`](Engine::flush_begin) comes to where memory is used up: none begins, or it is refused. Nothing changes.
+    /// Who needs memory of its own for a flush that begins asks so, where it finds none.
+    pub fn flush_begin_without_memory(&self, id: u64) -> Result<()>
+        ensures serves { IsTrue D.honest → Serves self.now (OfFlushBegin id) (no_job_reply result) self.now }
+        ensures owes { Owes self.now (OfFlushBegin id) (no_job_reply result) self.now }
+    {
+        if let Some(error) = self.memory.rotation_refusal(id) {
+            return Err(error);
+        }
+        if !self.memory.begins_flush(id) {
+            return Ok(());
+        }
+        let is_long = self.journal.pos() > LONG_JOURNAL;
+        if self.memory.are_jobs_used_up(is_long) {
+            return Err(Error::NumbersUsedUp);
+        }
+        Err(Error::OutOfMemory)
     }
 
     // Removes sealed journals that nobody wants any more, after a flush or an ingestion, or by itself.

@@ -10,7 +10,7 @@ ghost use Rattle.fjall_machine.specs.Merging.{KnowsMerge, keyspace_of};
 ghost use Rattle.fjall_machine.specs.Shapes.{OfMergeBegin, OfMergeFinish};
 ghost use Rattle.fjall_trees.specs.Tables.{shape_in};
 ghost use Rattle.fjall_core.specs.CallParts.{Merges, PutsMerge, TakesAway};
-ghost use Rattle.fjall_core.specs.Standing.{IsDueToMerge, KnowsMergeIfDue, Owes, ReadsOn, Serves, ServesWhere, StandsFor, flag_reply, job_of, merge_job_reply, merge_reply, store_in};
+ghost use Rattle.fjall_core.specs.Standing.{IsDueToMerge, KnowsMergeIfDue, Owes, ReadsOn, Serves, ServesWhere, StandsFor, flag_reply, job_of, merge_job_reply, merge_reply, no_job_reply, store_in};
 
 use crate::engine::Engine;
 use fjall_base::{Disk, Error, Refused, Result};
@@ -70,6 +70,24 @@ impl<D: Disk> Engine<D> {
             → IfOk result (λ job. IfSome job (λ job. KnowsMerge (merge_out s id) (merge_target job) (merge_task job))) }
     {
         self.begin_merge(MergeKind::Major, id)
+    }
+
+    /// What [`merge_begin`](Engine::merge_begin) or [`major_begin`](Engine::major_begin) comes to where memory is used up: none begins, or
+    /// it is refused. Nothing changes, and the disk isn't looked at.
+    pub fn merge_begin_without_memory(&self, kind: MergeKind, id: u64) -> Result<()>
+        ensures serves { IsTrue D.honest → Serves self.now (OfMergeBegin kind id) (no_job_reply result) self.now }
+        ensures owes { Owes self.now (OfMergeBegin kind id) (no_job_reply result) self.now }
+    {
+        if let Some(error) = self.memory.rotation_refusal(id) {
+            return Err(error);
+        }
+        if !self.memory.begins_merge(kind, id) {
+            return Ok(());
+        }
+        if self.memory.are_job_numbers_used_up() {
+            return Err(Error::NumbersUsedUp);
+        }
+        Err(Error::OutOfMemory)
     }
 
     // Finishes a merge that is out of a keyspace that lives: on the disk, and then in memory. The tables that it took stand still.

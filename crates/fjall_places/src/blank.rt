@@ -5,6 +5,7 @@ ghost use Rattle.std.specs.Prelude.{◌≡◌};
 use crate::begun::Begun;
 use crate::end::{Choose, End, Key, Law};
 use crate::made::{Labeling, Made};
+use crate::out::Out;
 use crossbeam_queue::{Pass, RuledArrayQueue};
 use std::alloc::{AllocError, Global};
 use std::marker::{Brand, Model};
@@ -69,12 +70,12 @@ impl<M: Made> Blank<M> {
         (kept, given)
     }
 
-    /// Makes it the place of a job that begins. The first end stays where the job is to be finished; the second goes out with the job.
-    pub fn begin(self, job: M::Job) -> (End<M>, Begun<M>)
+    /// Makes it the place of a job that begins. The first stays where the job is to be finished; the second goes out.
+    pub fn begin(self, job: M::Job) -> (Out<M>, Begun<M>)
         ensures kept { result.0 ≡ M.label job }
         ensures begun { result.1 ≡ M.label job }
     {
         let (kept, end) = self.ends::<Brand>(&job);
-        (kept, Begun { job, end })
+        (Out::new(kept), Begun { job, end })
     }
 }

@@ -6,9 +6,11 @@ mod blank;
 mod end;
 mod finding;
 mod made;
+mod out;
 
 pub use begun::{Begun, Ran};
 pub use blank::Blank;
 pub use end::End;
 pub use finding::find_made;
 pub use made::{Labeling, Made};
+pub use out::Out;
