@@ -1,0 +1,27 @@
+//! Handles that are given up when they are dropped.
+
+use crate::database::Database;
+use crate::naming::Naming;
+use fjall_base::Disk;
+use fjall_core::Ticket;
+use fjall_shared::Raiser;
+use fjall_transactions::Transaction;
+use std::alloc::Global;
+use std::sync::Arc;
+
+/// A snapshot of a database. Its drop takes no lock: it raises a flag, and the next who collects closes its ticket.
+#[derive(Drop)]
+pub struct Snapshot<D: Disk + Drop, J: Naming> {
+    pub(crate) database: Arc<Database<D, J>, Global>,
+    pub ticket: Ticket,
+    pub(crate) raiser: Raiser,
+}
+
+/// An optimistic transaction of a database. Its own writes take no lock, and neither does its drop, which raises a flag, so that the next who
+/// collects ends it.
+#[derive(Drop)]
+pub struct WriteTransaction<D: Disk + Drop, J: Naming> {
+    pub(crate) database: Arc<Database<D, J>, Global>,
+    pub transaction: Transaction,
+    pub(crate) raiser: Raiser,
+}

@@ -1,0 +1,36 @@
+use Rattle.std.proofs.Common.{◌≡◌, ◌∙◌, ap, refl, subst, Vec, Global}
+use Rattle.fjall_journal.specs.Ops.{BatchItem}
+use Rattle.fjall_journal.specs.Changes.{Items, command_of}
+use Rattle.fjall_history.specs.Histories.{plain}
+use Rattle.fjall_machine.specs.Shapes.{ByMode, OfChange}
+use Rattle.fjall_core.specs.Holding.{Held}
+use Rattle.fjall_core.specs.Standing.{Owes, Serves, reply_of}
+use Rattle.fjall_shared.specs.Locked.{Locked}
+use Rattle.fjall_shared.proofs.Settled.{call_done, call_settles, grown_so, says_items, told_more}
+use Rattle.fjall_shared.proofs.shared.Shared.commit_batch.Goals as goal
+
+pub tell-requires-clause-more : goal.tell-requires-clause-more
+tell-requires-clause-more g c =
+    told_more c.self.inside.core.engine c.commit_batch-result.new.self (OfChange (Items c.args.items.items) (ByMode c.args.mode)) (reply_of c.commit_batch-result.result) c.visible_seqno-before.result c.visible_seqno-after.result
+    (c.visible_seqno-before.ensures.held ∙ ap (λ (h : Held). h.memory.next) c.deref.ensures) (c.visible_seqno-after.ensures.held ∙ ap (λ (h : Held). h.memory.next) c.deref-2.ensures)
+    (subst (λ (h : Held). Owes h (OfChange (Items c.args.items.items) (ByMode c.args.mode)) (reply_of c.commit_batch-result.result) c.commit_batch-result.new.self) c.deref_mut.ensures.value c.commit_batch-result.ensures.owes)
+
+pub invariant_of-self : goal.invariant_of-self
+invariant_of-self g c =
+    let old : Locked = record { core = c.self.inside.core.engine; kept = c.self.inside.core.transactions; seat = c.self.inside.seat; flushes = c.self.inside.flushes.items; merges = c.self.inside.merges.items } in
+    let told = grown_so _ (plain (command_of (Items c.args.items.items))) c.self.inside.core.engine.memory.next c.commit_batch-result.new.self.memory.next c.visible_seqno-before.result c.visible_seqno-after.result c.self.inside.seat.list c.tell.new.seat.list (ap (λ (v : Vec BatchItem Global). plain (command_of (Items v.items))) c.of-said.ensures)
+    (c.visible_seqno-before.ensures.held ∙ ap (λ (h : Held). h.memory.next) c.deref.ensures) (c.visible_seqno-after.ensures.held ∙ ap (λ (h : Held). h.memory.next) c.deref-2.ensures) c.tell.ensures.told in (
+      c.tell.ensures.table ∙ c.self.invariant.0,
+      call_settles g.D.Disk.honest old c.commit_batch-result.new.self c.tell.new.seat (OfChange (Items c.args.items.items) (ByMode c.args.mode)) (reply_of c.commit_batch-result.result) (command_of (Items c.args.items.items)) c.self.invariant.1 (says_items c.args.items.items (ByMode c.args.mode)) told
+          (subst (λ (h : Held). Owes h (OfChange (Items c.args.items.items) (ByMode c.args.mode)) (reply_of c.commit_batch-result.result) c.commit_batch-result.new.self) c.deref_mut.ensures.value c.commit_batch-result.ensures.owes)
+          (λ is. subst (λ (h : Held). Serves h (OfChange (Items c.args.items.items) (ByMode c.args.mode)) (reply_of c.commit_batch-result.result) c.commit_batch-result.new.self) c.deref_mut.ensures.value (c.commit_batch-result.ensures.serves is)),
+    )
+
+pub returns : goal.returns
+returns g c =
+    let old : Locked = record { core = c.self.inside.core.engine; kept = c.self.inside.core.transactions; seat = c.self.inside.seat; flushes = c.self.inside.flushes.items; merges = c.self.inside.merges.items } in
+    let told = grown_so _ (plain (command_of (Items c.args.items.items))) c.self.inside.core.engine.memory.next c.commit_batch-result.new.self.memory.next c.visible_seqno-before.result c.visible_seqno-after.result c.self.inside.seat.list c.tell.new.seat.list (ap (λ (v : Vec BatchItem Global). plain (command_of (Items v.items))) c.of-said.ensures)
+    (c.visible_seqno-before.ensures.held ∙ ap (λ (h : Held). h.memory.next) c.deref.ensures) (c.visible_seqno-after.ensures.held ∙ ap (λ (h : Held). h.memory.next) c.deref-2.ensures) c.tell.ensures.told in
+    call_done g.D.Disk.honest old c.commit_batch-result.new.self c.tell.new.seat (OfChange (Items c.args.items.items) (ByMode c.args.mode)) (reply_of c.commit_batch-result.result) (command_of (Items c.args.items.items)) c.self.invariant.1 (says_items c.args.items.items (ByMode c.args.mode)) told
+    (subst (λ (h : Held). Owes h (OfChange (Items c.args.items.items) (ByMode c.args.mode)) (reply_of c.commit_batch-result.result) c.commit_batch-result.new.self) c.deref_mut.ensures.value c.commit_batch-result.ensures.owes)
+    (λ is. subst (λ (h : Held). Serves h (OfChange (Items c.args.items.items) (ByMode c.args.mode)) (reply_of c.commit_batch-result.result) c.commit_batch-result.new.self) c.deref_mut.ensures.value (c.commit_batch-result.ensures.serves is)) _ c.self.view_is c.tell.ensures.table

@@ -1,0 +1,68 @@
+use Rattle.std.proofs.Common.{◌≡◌, ◌∙◌, ◌∷◌, ◌++◌, [], List, Err, None, Ok, Option, Some, ap, refl, subst, sym}
+use Rattle.std.specs.Prelude.{IfSome}
+use Rattle.fjall_history.specs.declared.reply.Reply.{Reply}
+use Rattle.fjall_history.specs.declared.reply.Reply.TheVariants.{Began, Refused}
+use Rattle.fjall_jobs.specs.declared.flush_job.FlushJob.{FlushJob}
+use Rattle.fjall_jobs.specs.Flushes.{flush_task}
+use Rattle.fjall_machine.specs.Remembered.{KnowsTask}
+use Rattle.fjall_machine.specs.Shapes.{OfFlushBegin}
+use Rattle.fjall_core.specs.Holding.{Held}
+use Rattle.fjall_core.specs.Standing.{Owes, Serves, job_reply, job_of, no_job_reply}
+use Rattle.fjall_places.specs.Labels.{Label, flush_label}
+use Rattle.fjall_shared.specs.Does.{MakesCall}
+use Rattle.fjall_shared.specs.Locked.{IsSettled, Locked}
+use Rattle.fjall_shared.proofs.Jobs.{flush_makes, flush_settles}
+use Rattle.fjall_shared.proofs.shared.Shared.flush_begin.Goals as goal
+
+pub returns-in-Ok-clause-makes : goal.returns-in-Ok-clause-makes
+returns-in-Ok-clause-makes g c =
+    let old : Locked = record { core = c.self.inside.core.engine; kept = c.self.inside.core.transactions; seat = c.self.inside.seat; flushes = c.self.inside.flushes.items; merges = c.self.inside.merges.items } in
+    subst (λ (l : Locked). MakesCall g.D.Disk.honest l (OfFlushBegin c.args.id) (Began None) (record old { core = old.core; flushes = c.blank_place.new.jobs.items })) c.self.view_is
+    (subst (λ (jobs : List Label). MakesCall g.D.Disk.honest old (OfFlushBegin c.args.id) (Began None) (record old { core = old.core; flushes = jobs })) (sym c.blank_place.ensures.same) (flush_makes g.D.Disk.honest old old.core c.args.id (Ok None) c.self.invariant.1 (subst (λ (x : Held × Reply). Owes x.0 (OfFlushBegin c.args.id) x.1 x.0) (λ i. (c.deref.ensures i, (ap no_job_reply c.in-Ok.is) i)) c.flush_begin_without_memory.ensures.owes) (λ is. subst (λ (x : Held × Reply). Serves x.0 (OfFlushBegin c.args.id) x.1 x.0) (λ i. (c.deref.ensures i, (ap no_job_reply c.in-Ok.is) i)) (c.flush_begin_without_memory.ensures.serves is)) tt old refl))
+
+pub returns-in-Err-clause-makes : goal.returns-in-Err-clause-makes
+returns-in-Err-clause-makes g c =
+    let old : Locked = record { core = c.self.inside.core.engine; kept = c.self.inside.core.transactions; seat = c.self.inside.seat; flushes = c.self.inside.flushes.items; merges = c.self.inside.merges.items } in
+    subst (λ (l : Locked). MakesCall g.D.Disk.honest l (OfFlushBegin c.args.id) (Refused c.in-Err.error) (record old { core = old.core; flushes = c.blank_place.new.jobs.items })) c.self.view_is
+    (subst (λ (jobs : List Label). MakesCall g.D.Disk.honest old (OfFlushBegin c.args.id) (Refused c.in-Err.error) (record old { core = old.core; flushes = jobs })) (sym c.blank_place.ensures.same) (flush_makes g.D.Disk.honest old old.core c.args.id (Err c.in-Err.error) c.self.invariant.1 (subst (λ (x : Held × Reply). Owes x.0 (OfFlushBegin c.args.id) x.1 x.0) (λ i. (c.deref.ensures i, (ap no_job_reply c.in-Err.is) i)) c.flush_begin_without_memory.ensures.owes) (λ is. subst (λ (x : Held × Reply). Serves x.0 (OfFlushBegin c.args.id) x.1 x.0) (λ i. (c.deref.ensures i, (ap no_job_reply c.in-Err.is) i)) (c.flush_begin_without_memory.ensures.serves is)) tt old refl))
+
+pub invariant_of-self-in-Ok-None : goal.invariant_of-self-in-Ok-None
+invariant_of-self-in-Ok-None g c =
+    let old : Locked = record { core = c.self.inside.core.engine; kept = c.self.inside.core.transactions; seat = c.self.inside.seat; flushes = c.self.inside.flushes.items; merges = c.self.inside.merges.items } in (
+      c.self.invariant.0,
+      subst (λ (jobs : List Label). IsSettled g.D.Disk.honest (record old { core = c.flush_begin.new.self; flushes = jobs })) (sym c.blank_place.ensures.same) (flush_settles g.D.Disk.honest old c.flush_begin.new.self c.args.id (Ok None) c.self.invariant.1 (subst (λ (x : Held × Reply). Owes x.0 (OfFlushBegin c.args.id) x.1 c.flush_begin.new.self) (λ i. (c.deref_mut.ensures.value i, (ap job_reply (c.in-Ok-None.is ∙ ap Ok c.in-Ok-None.field-0-is)) i)) c.flush_begin.ensures.owes) (λ is. subst (λ (x : Held × Reply). Serves x.0 (OfFlushBegin c.args.id) x.1 c.flush_begin.new.self) (λ i. (c.deref_mut.ensures.value i, (ap job_reply (c.in-Ok-None.is ∙ ap Ok c.in-Ok-None.field-0-is)) i)) (c.flush_begin.ensures.serves is)) tt),
+    )
+
+pub returns-in-Ok-None-clause-makes : goal.returns-in-Ok-None-clause-makes
+returns-in-Ok-None-clause-makes g c =
+    let old : Locked = record { core = c.self.inside.core.engine; kept = c.self.inside.core.transactions; seat = c.self.inside.seat; flushes = c.self.inside.flushes.items; merges = c.self.inside.merges.items } in
+    subst (λ (l : Locked). MakesCall g.D.Disk.honest l (OfFlushBegin c.args.id) (Began None) (record old { core = c.flush_begin.new.self; flushes = c.blank_place.new.jobs.items })) c.self.view_is
+    (subst (λ (jobs : List Label). MakesCall g.D.Disk.honest old (OfFlushBegin c.args.id) (Began None) (record old { core = c.flush_begin.new.self; flushes = jobs })) (sym c.blank_place.ensures.same) (flush_makes g.D.Disk.honest old c.flush_begin.new.self c.args.id (Ok None) c.self.invariant.1 (subst (λ (x : Held × Reply). Owes x.0 (OfFlushBegin c.args.id) x.1 c.flush_begin.new.self) (λ i. (c.deref_mut.ensures.value i, (ap job_reply (c.in-Ok-None.is ∙ ap Ok c.in-Ok-None.field-0-is)) i)) c.flush_begin.ensures.owes) (λ is. subst (λ (x : Held × Reply). Serves x.0 (OfFlushBegin c.args.id) x.1 c.flush_begin.new.self) (λ i. (c.deref_mut.ensures.value i, (ap job_reply (c.in-Ok-None.is ∙ ap Ok c.in-Ok-None.field-0-is)) i)) (c.flush_begin.ensures.serves is)) tt old refl))
+
+pub invariant_of-self-in-Err-flush_begin : goal.invariant_of-self-in-Err-flush_begin
+invariant_of-self-in-Err-flush_begin g c =
+    let old : Locked = record { core = c.self.inside.core.engine; kept = c.self.inside.core.transactions; seat = c.self.inside.seat; flushes = c.self.inside.flushes.items; merges = c.self.inside.merges.items } in (
+      c.self.invariant.0,
+      subst (λ (jobs : List Label). IsSettled g.D.Disk.honest (record old { core = c.flush_begin.new.self; flushes = jobs })) (sym c.blank_place.ensures.same) (flush_settles g.D.Disk.honest old c.flush_begin.new.self c.args.id (Err c.in-Err-flush_begin.error) c.self.invariant.1 (subst (λ (x : Held × Reply). Owes x.0 (OfFlushBegin c.args.id) x.1 c.flush_begin.new.self) (λ i. (c.deref_mut.ensures.value i, (ap job_reply c.in-Err-flush_begin.is) i)) c.flush_begin.ensures.owes) (λ is. subst (λ (x : Held × Reply). Serves x.0 (OfFlushBegin c.args.id) x.1 c.flush_begin.new.self) (λ i. (c.deref_mut.ensures.value i, (ap job_reply c.in-Err-flush_begin.is) i)) (c.flush_begin.ensures.serves is)) tt),
+    )
+
+pub returns-in-Err-flush_begin-clause-makes : goal.returns-in-Err-flush_begin-clause-makes
+returns-in-Err-flush_begin-clause-makes g c =
+    let old : Locked = record { core = c.self.inside.core.engine; kept = c.self.inside.core.transactions; seat = c.self.inside.seat; flushes = c.self.inside.flushes.items; merges = c.self.inside.merges.items } in
+    subst (λ (l : Locked). MakesCall g.D.Disk.honest l (OfFlushBegin c.args.id) (Refused c.in-Err-flush_begin.error) (record old { core = c.flush_begin.new.self; flushes = c.blank_place.new.jobs.items })) c.self.view_is
+    (subst (λ (jobs : List Label). MakesCall g.D.Disk.honest old (OfFlushBegin c.args.id) (Refused c.in-Err-flush_begin.error) (record old { core = c.flush_begin.new.self; flushes = jobs })) (sym c.blank_place.ensures.same) (flush_makes g.D.Disk.honest old c.flush_begin.new.self c.args.id (Err c.in-Err-flush_begin.error) c.self.invariant.1 (subst (λ (x : Held × Reply). Owes x.0 (OfFlushBegin c.args.id) x.1 c.flush_begin.new.self) (λ i. (c.deref_mut.ensures.value i, (ap job_reply c.in-Err-flush_begin.is) i)) c.flush_begin.ensures.owes) (λ is. subst (λ (x : Held × Reply). Serves x.0 (OfFlushBegin c.args.id) x.1 c.flush_begin.new.self) (λ i. (c.deref_mut.ensures.value i, (ap job_reply c.in-Err-flush_begin.is) i)) (c.flush_begin.ensures.serves is)) tt old refl))
+
+pub invariant_of-self-2 : goal.invariant_of-self-2
+invariant_of-self-2 g c =
+    let old : Locked = record { core = c.self.inside.core.engine; kept = c.self.inside.core.transactions; seat = c.self.inside.seat; flushes = c.self.inside.flushes.items; merges = c.self.inside.merges.items } in (
+      c.self.invariant.0,
+      subst (λ (jobs : List Label). IsSettled g.D.Disk.honest (record old { core = c.flush_begin.new.self; flushes = jobs })) (sym (c.push_reserved.ensures.items ∙ (λ i. c.blank_place.ensures.same i ++ c.begin-out.ensures.kept i ∷ []))) (flush_settles g.D.Disk.honest old c.flush_begin.new.self c.args.id (Ok (Some (flush_label c.in-Ok-Some.job))) c.self.invariant.1 (subst (λ (x : Held × Reply). Owes x.0 (OfFlushBegin c.args.id) x.1 c.flush_begin.new.self) (λ i. (c.deref_mut.ensures.value i, (ap job_reply (c.in-Ok-Some.is ∙ ap Ok c.in-Ok-Some.field-0-is)) i)) c.flush_begin.ensures.owes) (λ is. subst (λ (x : Held × Reply). Serves x.0 (OfFlushBegin c.args.id) x.1 c.flush_begin.new.self) (λ i. (c.deref_mut.ensures.value i, (ap job_reply (c.in-Ok-Some.is ∙ ap Ok c.in-Ok-Some.field-0-is)) i)) (c.flush_begin.ensures.serves is)) (subst (λ (o : Option FlushJob). IfSome o (λ job. KnowsTask c.flush_begin.new.self.memory (flush_task job))) c.in-Ok-Some.field-0-is c.in-Ok-Some.ensures.knows)),
+    )
+
+pub returns-clause-makes : goal.returns-clause-makes
+returns-clause-makes g c =
+    let old : Locked = record { core = c.self.inside.core.engine; kept = c.self.inside.core.transactions; seat = c.self.inside.seat; flushes = c.self.inside.flushes.items; merges = c.self.inside.merges.items } in
+    subst (λ (l : Locked). MakesCall g.D.Disk.honest l (OfFlushBegin c.args.id) (Began (Some (job_of c.begin-out.result.1.task))) (record old { core = c.flush_begin.new.self; flushes = c.push_reserved.new.self.items })) c.self.view_is
+    (subst (λ (jobs : List Label). MakesCall g.D.Disk.honest old (OfFlushBegin c.args.id) (Began (Some (job_of c.begin-out.result.1.task))) (record old { core = c.flush_begin.new.self; flushes = jobs })) (sym (c.push_reserved.ensures.items ∙ (λ i. c.blank_place.ensures.same i ++ c.begin-out.ensures.kept i ∷ [])))
+    (subst (λ (l : Label). MakesCall g.D.Disk.honest old (OfFlushBegin c.args.id) (Began (Some (job_of l.task))) (record old { core = c.flush_begin.new.self; flushes = old.flushes ++ (flush_label c.in-Ok-Some.job) ∷ [] })) (sym c.begin-out.ensures.begun)
+    (flush_makes g.D.Disk.honest old c.flush_begin.new.self c.args.id (Ok (Some (flush_label c.in-Ok-Some.job))) c.self.invariant.1 (subst (λ (x : Held × Reply). Owes x.0 (OfFlushBegin c.args.id) x.1 c.flush_begin.new.self) (λ i. (c.deref_mut.ensures.value i, (ap job_reply (c.in-Ok-Some.is ∙ ap Ok c.in-Ok-Some.field-0-is)) i)) c.flush_begin.ensures.owes) (λ is. subst (λ (x : Held × Reply). Serves x.0 (OfFlushBegin c.args.id) x.1 c.flush_begin.new.self) (λ i. (c.deref_mut.ensures.value i, (ap job_reply (c.in-Ok-Some.is ∙ ap Ok c.in-Ok-Some.field-0-is)) i)) (c.flush_begin.ensures.serves is)) (subst (λ (o : Option FlushJob). IfSome o (λ job. KnowsTask c.flush_begin.new.self.memory (flush_task job))) c.in-Ok-Some.field-0-is c.in-Ok-Some.ensures.knows) old refl)))

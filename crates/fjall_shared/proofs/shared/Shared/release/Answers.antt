@@ -1,0 +1,23 @@
+use Rattle.std.proofs.Common.{refl, subst}
+use Rattle.fjall_machine.specs.Shapes.{OfHandle, OneLess}
+use Rattle.fjall_core.specs.Holding.{Held}
+use Rattle.fjall_core.specs.Standing.{Owes, Serves, reply_of}
+use Rattle.fjall_shared.specs.Locked.{Locked}
+use Rattle.fjall_shared.proofs.Settled.{quiet_done, quiet_settles}
+use Rattle.fjall_shared.proofs.shared.Shared.release.Goals as goal
+
+pub invariant_of-self : goal.invariant_of-self
+invariant_of-self g c =
+    let old : Locked = record { core = c.self.inside.core.engine; kept = c.self.inside.core.transactions; seat = c.self.inside.seat; flushes = c.self.inside.flushes.items; merges = c.self.inside.merges.items } in (
+      c.self.invariant.0,
+      quiet_settles g.D.Disk.honest old c.release.new.self (OfHandle OneLess c.args.id) (reply_of c.release.result) refl c.self.invariant.1
+          (subst (λ (h : Held). Owes h (OfHandle OneLess c.args.id) (reply_of c.release.result) c.release.new.self) c.deref_mut.ensures.value c.release.ensures.owes)
+          (λ is. subst (λ (h : Held). Serves h (OfHandle OneLess c.args.id) (reply_of c.release.result) c.release.new.self) c.deref_mut.ensures.value (c.release.ensures.serves is)),
+    )
+
+pub returns : goal.returns
+returns g c =
+    let old : Locked = record { core = c.self.inside.core.engine; kept = c.self.inside.core.transactions; seat = c.self.inside.seat; flushes = c.self.inside.flushes.items; merges = c.self.inside.merges.items } in
+    quiet_done g.D.Disk.honest old c.release.new.self (OfHandle OneLess c.args.id) (reply_of c.release.result) refl c.self.invariant.1
+    (subst (λ (h : Held). Owes h (OfHandle OneLess c.args.id) (reply_of c.release.result) c.release.new.self) c.deref_mut.ensures.value c.release.ensures.owes)
+    (λ is. subst (λ (h : Held). Serves h (OfHandle OneLess c.args.id) (reply_of c.release.result) c.release.new.self) c.deref_mut.ensures.value (c.release.ensures.serves is)) _ c.self.view_is

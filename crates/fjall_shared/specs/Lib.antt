@@ -1,0 +1,5 @@
+pub mod Takings
+pub mod Locked
+pub mod Does
+pub mod Openings
+pub mod Within
