@@ -1,9 +1,9 @@
 -- A locked state begins as its engine was opened.
-use Rattle.std.proofs.Common.{◌≡◌, ◌⊎◌, inl, inr, ℕ, ◌+◌, Bool, true, false, List, [], Ok, Result, refl, sym, ◌∙◌, ap, subst, arith, IsTrue}
-use Rattle.std.specs.Prelude.{All, IfOk}
+use Rattle.std.proofs.Common.{◌≡◌, inl, inr, Bool, true, false, List, [], Ok, Result, refl, sym, subst, arith, IsTrue}
+use Rattle.std.specs.Prelude.{IfOk}
 use Rattle.fjall_base.specs.Disk.{Meaning, state_in}
 use Rattle.fjall_base.specs.Store.{Command, Store, fold, kept}
-use Rattle.fjall_recovery.specs.Amid.{HoldsAmid, IsBeginning, StandsAmid}
+use Rattle.fjall_recovery.specs.Amid.{IsBeginning, StandsAmid}
 use Rattle.fjall_history.specs.Histories.{History, number}
 use Rattle.fjall_machine.specs.Machine.{State}
 use Rattle.fjall_core.specs.Holding.{Held}
@@ -11,10 +11,10 @@ use Rattle.fjall_core.specs.Openings.{ForHeld, IsLeftWildly, OpensAmid, OpensAs,
 use Rattle.fjall_transactions.specs.Standing.{Told}
 use Rattle.fjall_transactions.specs.Transactions.{none_kept}
 use Rattle.fjall_transactions.proofs.Standing.{opening_stands, same_number}
-use Rattle.fjall_word.specs.Seats.{Place, unwritten}
+use Rattle.fjall_word.specs.Seats.{unwritten}
 use Rattle.atomic_table.specs.Seated.{TableId}
 use Rattle.fjall_shared.specs.Locked.{IsSettled, Locked}
-use Rattle.fjall_shared.specs.Openings.{HoldsUsually, IsLeftByEngine, IsOpenedFrom}
+use Rattle.fjall_shared.specs.Openings.{IsLeftByEngine, IsOpenedFrom}
 use Rattle.fjall_history.proofs.Moving.{sound_opening}
 
 -- what is so of what was made

@@ -1,5 +1,5 @@
 -- A commit under the lock.
-use Rattle.std.proofs.Common.{◌≡◌, ◌≢◌, ◌⊎◌, inl, inr, ℕ, ◌+◌, ◌==◌, Bool, true, false, MatchBool, List, [], ◌∷◌, ◌++◌, Err, Some, refl, sym, ◌∙◌, ap, subst, arith, IsTrue}
+use Rattle.std.proofs.Common.{◌≡◌, ◌⊎◌, inl, inr, ℕ, ◌+◌, ◌==◌, Bool, true, false, MatchBool, List, [], ◌∷◌, ◌++◌, Err, Some, refl, sym, ◌∙◌, ap, subst, arith, IsTrue}
 use Rattle.std.specs.Prelude.{All, map}
 use Rattle.std.specs.FinMap.{empty, entries, get, len-empty, len-entries}
 use Rattle.std.proofs.lemmas.Bool.Decides.{nat_tests}
@@ -13,7 +13,6 @@ use Rattle.fjall_tx.specs.Owns.{Own, item_of, items_of, key_order}
 use Rattle.fjall_journal.specs.Changes.{Items}
 use Rattle.fjall_journal.specs.Ops.{BatchItem}
 use Rattle.fjall_journal.specs.declared.op.Op.{Op}
-use Rattle.fjall_history.specs.declared.reply.Reply.{Reply}
 use Rattle.fjall_history.specs.declared.reply.Reply.TheVariants.{Done, Refused}
 use Rattle.fjall_history.specs.Histories.{Accepted, History, grown, number}
 use Rattle.fjall_machine.specs.Machine.{State, StepOf}
@@ -26,14 +25,14 @@ use Rattle.fjall_transactions.specs.Standing.{CommitGoesOn, CommitLeadsOn, Commi
 use Rattle.fjall_transactions.specs.Transactions.{Kept, Tx}
 use Rattle.fjall_transactions.proofs.Standing.{same_number}
 use Rattle.fjall_word.specs.Seats.{Place}
-use Rattle.fjall_shared.specs.Takings.{Adds, Always, Counts, CountsOn, Grows, Lists, May, Never, Taking, taking}
+use Rattle.fjall_shared.specs.Takings.{Adds, Always, Counts, Grows, May, Never, Taking, taking}
 use Rattle.fjall_shared.specs.Locked.{IsSettled, IsTied, Locked, list_of}
 use Rattle.fjall_places.specs.Labels.{Label}
 use Rattle.fjall_shared.specs.Does.{CommitLists, DoesCommit, entry_of}
 use Rattle.fjall_shared.proofs.Numbers.{owed_next}
 use Rattle.fjall_shared.proofs.Histories.{step_history}
 use Rattle.fjall_shared.proofs.KnownJobs.{KnowsFlushOf, commit_merges, flushes_stay}
-use Rattle.fjall_shared.proofs.Settled.{next_or_same, told_number_of}
+use Rattle.fjall_shared.proofs.Settled.{told_number_of}
 
 -- ---- what a commit makes of the history, as it is told
 

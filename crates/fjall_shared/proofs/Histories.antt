@@ -1,5 +1,5 @@
 -- What steps of the machine make of the list of accepted commands.
-use Rattle.std.proofs.Common.{◌≡◌, ◌⊎◌, inl, inr, ℕ, ◌+◌, Bool, true, false, if◌then◌else◌, List, [], ◌∷◌, ◌++◌, Option, Some, None, map, drop, length, refl, sym, ◌∙◌, ap}
+use Rattle.std.proofs.Common.{◌≡◌, inl, inr, ℕ, ◌+◌, Bool, true, false, if◌then◌else◌, List, [], ◌∷◌, ◌++◌, Option, Some, None, map, drop, length, refl, ◌∙◌, ap}
 use Rattle.std.proofs.Math.Seq.{drop-append_seam, drop-length}
 use Rattle.std.proofs.lemmas.List.{append-nil}
 use Rattle.fjall_base.specs.Pairs.{Bytes}
@@ -8,7 +8,7 @@ use Rattle.fjall_base.specs.declared.error.Error.{Error}
 use Rattle.fjall_base.specs.declared.error.Error.TheVariants.{Io, NumbersUsedUp, OutOfMemory, Poisoned, Storage, TooManyItems, ValueTooLong}
 use Rattle.fjall_compaction.specs.Ingests.{ingestion}
 use Rattle.fjall_writes.specs.Ingestions.{KeyOp}
-use Rattle.fjall_journal.specs.Changes.{Emptied, Items, command_of}
+use Rattle.fjall_journal.specs.Changes.{Emptied, Items}
 use Rattle.fjall_contents.specs.Replays.{option_pairs}
 use Rattle.fjall_history.specs.declared.job.JobId.{JobId}
 use Rattle.fjall_history.specs.declared.reply.Reply.{Reply}

@@ -1,6 +1,6 @@
 -- What is known of the jobs that are out stays known.
-use Rattle.std.proofs.Common.{◌≡◌, ℕ, ◌<◌, ◌+◌, List, [], ◌∷◌, ◌++◌, length, get_or, Option, None, Some, refl, sym, ◌∙◌, ap, subst, arith}
-use Rattle.std.specs.Prelude.{All, IfSome, remove, slice_get}
+use Rattle.std.proofs.Common.{ℕ, List, get_or, Option, None, Some, sym, subst}
+use Rattle.std.specs.Prelude.{All, IfSome}
 use Rattle.fjall_base.specs.declared.error.Error.{Error}
 use Rattle.fjall_history.specs.declared.reply.Reply.{Reply}
 use Rattle.fjall_history.specs.declared.reply.Reply.TheVariants.{Done, Refused}

@@ -1,5 +1,5 @@
 -- What calls make of the next number, whatever the disk is.
-use Rattle.std.proofs.Common.{◌≡◌, ◌⊎◌, inl, inr, ℕ, ◌+◌, Bool, true, false, if◌then◌else◌, List, [], ◌∷◌, Option, Some, None, refl, sym, ◌∙◌, ap}
+use Rattle.std.proofs.Common.{◌≡◌, inl, inr, ℕ, ◌+◌, Bool, true, false, if◌then◌else◌, List, [], ◌∷◌, Option, Some, None, refl, ◌∙◌, ap}
 use Rattle.fjall_base.specs.declared.error.Error.{Error}
 use Rattle.fjall_base.specs.declared.error.Error.TheVariants.{Io, NumbersUsedUp, OutOfMemory, Poisoned, Storage, TooManyItems, ValueTooLong}
 use Rattle.fjall_table_reader.specs.Readers.{Reader}
@@ -12,9 +12,9 @@ use Rattle.fjall_writes.specs.Ingestions.{KeyOp}
 use Rattle.fjall_machine.specs.Machine.{begins_flush, is_flushing, is_living, is_merging, rotates}
 use Rattle.fjall_machine.specs.Remembered.{Remembered}
 use Rattle.fjall_machine.specs.Remembered as memory
-use Rattle.fjall_machine.specs.Shapes.{Clone, Close, Collect, OfChange, OfCount, OfCreation, OfDeletion, OfFlushBegin, OfFlushFinish, OfHandle, OfIngestion, OfJournalRotation, OfMaintenance, OfMergeBegin, OfMergeFinish, OfPersist, OfRead, OfRotation, OfTickets, OneLess, OneMore, Open, Persistence, CallShape}
+use Rattle.fjall_machine.specs.Shapes.{OfChange, OfCount, OfCreation, OfDeletion, OfFlushBegin, OfFlushFinish, OfHandle, OfIngestion, OfJournalRotation, OfMaintenance, OfMergeBegin, OfMergeFinish, OfPersist, OfRead, OfRotation, OfTickets, OneLess, OneMore, Persistence, CallShape}
 use Rattle.fjall_core.specs.Holding.{Held}
-use Rattle.fjall_core.specs.Standing.{EvictsInMemory, FindsDisorder, FlushedInMemory, Gives, IngestedInMemory, IngestionPoisons, Looks, LooksAt, MergedInMemory, Owes, OwesBegin, OwesChange, OwesFailure, OwesFinish, OwesIngestion, OwesMerge, OwesMergeBegin}
+use Rattle.fjall_core.specs.Standing.{EvictsInMemory, FindsDisorder, Gives, IngestionPoisons, Looks, LooksAt, Owes, OwesBegin, OwesChange, OwesFailure, OwesFinish, OwesIngestion, OwesMerge, OwesMergeBegin}
 use Rattle.fjall_core.specs.Standing.{OwesRefusal, RanOut, WorkPoisons, at_fault, begins_merge_in, evicted_in_memory, held_due, is_long, journal_synced, store_in, tables_of, takes_effect}
 use Rattle.fjall_shared.specs.Takings.{Counts, CountsOn, taking}
 

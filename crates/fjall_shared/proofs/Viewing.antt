@@ -1,21 +1,17 @@
 -- What a view of the engine shows, as the list tells it.
-use Rattle.std.proofs.Common.{◌≡◌, ℕ, ◌-◌, List, take, Option, None, Some, Result, Ok, Err, Bool, IsTrue, Vec, Global, refl, sym, ◌∙◌, ap, subst}
-use Rattle.std.specs.Prelude.{IfOk, map, unwrap_or}
-use Rattle.std.specs.FinMap.{get}
+use Rattle.std.proofs.Common.{◌≡◌, ℕ, ◌-◌, List, take, Option, None, Bool, IsTrue, Vec, Global, sym, ◌∙◌, ap}
 use Rattle.std.proofs.lemmas.List.{take-map}
 use Rattle.fjall_base.specs.Pairs.{Bytes, KeyRange, lookup, page, pairs_between}
 use Rattle.fjall_base.specs.Store.{Command, Store, fold, map_at}
-use Rattle.fjall_base.specs.declared.error.Error.{Error}
-use Rattle.fjall_history.specs.Histories.{Accepted, History, command_of, commands_of, view}
+use Rattle.fjall_history.specs.Histories.{History, command_of, commands_of, view}
 use Rattle.fjall_history.specs.Queries.{Get, Page}
 use Rattle.fjall_history.specs.declared.reply.Reply.{Reply}
 use Rattle.fjall_history.specs.declared.reply.Reply.TheVariants.{Pairs, Value}
 use Rattle.fjall_history.specs.declared.ticket.Ticket.{Ticket}
 use Rattle.fjall_history.specs.declared.ticket.View.TheVariants.{At}
 use Rattle.fjall_history.specs.Tickets.{Tickets}
-use Rattle.fjall_machine.specs.Machine.{State, StepOf, instant_of, maps_in}
+use Rattle.fjall_machine.specs.Machine.{instant_of, maps_in}
 use Rattle.fjall_machine.specs.Shapes.{OfRead}
-use Rattle.fjall_core.specs.Standing.{pairs_reply, value_reply}
 use Rattle.fjall_transactions.specs.Standing.{Told, history_of}
 use Rattle.fjall_shared.specs.Does.{Does}
 use Rattle.fjall_shared.specs.Locked.{IsTied, Locked, list_of}

@@ -9,14 +9,13 @@ use Rattle.fjall_history.specs.Histories.{Accepted, History, grown}
 use Rattle.fjall_history.specs.declared.job.JobId.{JobId}
 use Rattle.fjall_history.specs.declared.reply.Reply.{Reply}
 use Rattle.fjall_history.specs.declared.reply.Reply.TheVariants.{Began, Refused}
-use Rattle.fjall_history.specs.declared.ticket.Ticket.{Ticket}
 use Rattle.fjall_machine.specs.Machine.{StepOf}
 use Rattle.fjall_machine.specs.Shapes.{CallShape, Close, OfHandle, OfTickets, OneLess}
 use Rattle.fjall_core.specs.Standing.{LeadsOn, Owes, flag_reply, job_of}
 use Rattle.fjall_places.specs.Labels.{Label}
 use Rattle.fjall_transactions.specs.Commits.{Ends}
 use Rattle.fjall_transactions.specs.Standing.{CommitLeadsOn, CommitStep, Told, accepted_of}
-use Rattle.fjall_transactions.specs.Transactions.{Kept, Tx}
+use Rattle.fjall_transactions.specs.Transactions.{Tx}
 use Rattle.fjall_shared.specs.Locked.{IsSettled, IsTied, Locked, list_of}
 use Rattle.fjall_shared.specs.Takings.{Lists, taking}
 

@@ -1,5 +1,5 @@
 -- What lies under the lock.
-use Rattle.std.specs.Prelude.{◌≡◌, ℕ, Bool, IsTrue, IfSome, All, List}
+use Rattle.std.specs.Prelude.{◌≡◌, Bool, IsTrue, IfSome, All, List}
 use Rattle.fjall_history.specs.Histories.{History, number}
 use Rattle.fjall_machine.specs.Machine.{State}
 use Rattle.fjall_machine.specs.Merging.{KnowsMerge}

@@ -1,6 +1,5 @@
 //! Changes of keys.
 
-ghost use Rattle.std.specs.Prelude.{◌≡◌};
 ghost use Rattle.fjall_journal.specs.Changes.{Items};
 ghost use Rattle.fjall_journal.specs.declared.op.Op.TheVariants as ops;
 ghost use Rattle.fjall_machine.specs.Shapes.{ByMode, OfChange, OfIngestion, of_clear, of_write};

@@ -1,6 +1,5 @@
 //! Keyspaces and their handles.
 
-ghost use Rattle.std.specs.Prelude.{◌≡◌};
 ghost use Rattle.fjall_machine.specs.Shapes.{Names, OfCount, OfCreation, OfDeletion, OfHandle, OneLess, OneMore};
 ghost use Rattle.fjall_core.specs.Standing.{names_reply, number_reply, reply_of};
 ghost use Rattle.fjall_shared.specs.Does.{Does};

@@ -1,6 +1,5 @@
 //! Snapshots.
 
-ghost use Rattle.std.specs.Prelude.{◌≡◌};
 ghost use Rattle.fjall_history.specs.declared.reply.Reply.TheVariants.{Number};
 ghost use Rattle.fjall_machine.specs.Shapes.{Clone, Close, Collect, OfTickets, Open};
 ghost use Rattle.fjall_core.specs.Standing.{reply_of, ticket_reply};

@@ -1,6 +1,5 @@
 //! The journal, memtables, and what is evicted.
 
-ghost use Rattle.std.specs.Prelude.{◌≡◌};
 ghost use Rattle.fjall_machine.specs.Shapes.{OfCount, OfJournalRotation, OfMaintenance, OfPersist, OfRotation, ToFlush};
 ghost use Rattle.fjall_core.specs.Standing.{flag_reply, ids_reply, reply_of};
 ghost use Rattle.fjall_shared.specs.Does.{Does};

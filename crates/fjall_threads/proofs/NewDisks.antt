@@ -1,6 +1,6 @@
 -- What a new disk holds.
 use Rattle.std.proofs.Common.{◌≡◌, inl, false, [], None, refl, subst, sym}
-use Rattle.fjall_base.specs.Disk.{Image, IsImage, Meaning, Missing, disk_of, state_in}
+use Rattle.fjall_base.specs.Disk.{Image, IsImage, Meaning, Missing, disk_of}
 use Rattle.fjall_meta.specs.Keyspaces.{no_keyspaces}
 use Rattle.fjall_contents.specs.Replays.{bare}
 use Rattle.fjall_repair.proofs.Standing.{missing_stands, unfinished_of}

@@ -1,4 +1,4 @@
-use Rattle.std.proofs.Common.{◌≡◌, IsTrue, refl, subst, sym}
+use Rattle.std.proofs.Common.{refl, subst, sym}
 use Rattle.fjall_machine.specs.Shapes.{OfTickets, Open}
 use Rattle.fjall_transactions.specs.Commits.{begun_reply}
 use Rattle.fjall_transactions.specs.Transactions.{Kept}

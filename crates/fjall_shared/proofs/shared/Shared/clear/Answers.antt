@@ -1,4 +1,4 @@
-use Rattle.std.proofs.Common.{◌≡◌, ◌∙◌, ap, refl, subst, ℕ}
+use Rattle.std.proofs.Common.{◌∙◌, ap, refl, subst, ℕ}
 use Rattle.fjall_journal.specs.Changes.{Emptied, command_of}
 use Rattle.fjall_history.specs.Histories.{plain}
 use Rattle.fjall_machine.specs.Shapes.{of_clear}

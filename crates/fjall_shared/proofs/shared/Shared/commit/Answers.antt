@@ -1,8 +1,7 @@
-use Rattle.std.proofs.Common.{◌≡◌, ◌∙◌, sym, ap, subst, ℕ, Option, Some, unwrap_or}
+use Rattle.std.proofs.Common.{◌∙◌, sym, ap, subst, ℕ, Option, unwrap_or}
 use Rattle.std.specs.FinMap.{get}
 use Rattle.fjall_tx.specs.Owns.{items_of}
 use Rattle.fjall_history.specs.declared.ticket.Ticket.{Ticket}
-use Rattle.fjall_machine.specs.Machine.{State}
 use Rattle.fjall_core.specs.Holding.{Held}
 use Rattle.fjall_core.specs.Standing.{StandsFor}
 use Rattle.fjall_transactions.specs.Transactions.{Tx}

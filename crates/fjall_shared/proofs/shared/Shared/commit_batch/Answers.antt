@@ -1,4 +1,4 @@
-use Rattle.std.proofs.Common.{◌≡◌, ◌∙◌, ap, refl, subst, Vec, Global}
+use Rattle.std.proofs.Common.{◌∙◌, ap, subst, Vec, Global}
 use Rattle.fjall_journal.specs.Ops.{BatchItem}
 use Rattle.fjall_journal.specs.Changes.{Items, command_of}
 use Rattle.fjall_history.specs.Histories.{plain}

@@ -1,4 +1,4 @@
-use Rattle.std.proofs.Common.{◌≡◌, ◌∙◌, ap, refl, subst, ℕ}
+use Rattle.std.proofs.Common.{◌∙◌, ap, refl, subst, ℕ}
 use Rattle.fjall_base.specs.Store.{Delete}
 use Rattle.fjall_history.specs.Histories.{plain}
 use Rattle.fjall_machine.specs.Shapes.{OfDeletion}

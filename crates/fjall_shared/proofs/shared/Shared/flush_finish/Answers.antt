@@ -1,4 +1,4 @@
-use Rattle.std.proofs.Common.{◌≡◌, ◌∙◌, ℕ, ◌<◌, List, set, get_or, take, drop, length, ◌++◌, Ok, Err, Some, IsTrue, ap, refl, subst, sym, arith}
+use Rattle.std.proofs.Common.{◌≡◌, ◌∙◌, List, set, get_or, take, drop, length, ◌++◌, Ok, Err, Some, IsTrue, ap, refl, subst, sym, arith}
 use Rattle.std.specs.Prelude.{remove, slice_get}
 use Rattle.std.proofs.lemmas.Option.{slice_get_within}
 use Rattle.fjall_machine.specs.Shapes.{OfFlushFinish}

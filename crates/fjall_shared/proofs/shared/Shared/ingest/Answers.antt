@@ -1,4 +1,4 @@
-use Rattle.std.proofs.Common.{◌≡◌, ◌∙◌, ap, refl, subst, ℕ, Vec, Global}
+use Rattle.std.proofs.Common.{◌∙◌, ap, subst, ℕ, Vec, Global}
 use Rattle.fjall_writes.specs.Ingestions.{KeyOp}
 use Rattle.fjall_compaction.specs.Ingests.{ingestion}
 use Rattle.fjall_history.specs.Histories.{plain}

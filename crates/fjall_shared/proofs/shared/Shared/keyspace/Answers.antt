@@ -1,4 +1,4 @@
-use Rattle.std.proofs.Common.{◌≡◌, ◌∙◌, ap, refl, subst, ℕ, List, Bor}
+use Rattle.std.proofs.Common.{◌∙◌, ap, refl, subst, ℕ, List, Bor}
 use Rattle.fjall_base.specs.Store.{Create}
 use Rattle.fjall_contents.specs.Replays.{option_pairs}
 use Rattle.fjall_history.specs.Histories.{plain}

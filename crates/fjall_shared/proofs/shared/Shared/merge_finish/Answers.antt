@@ -1,4 +1,4 @@
-use Rattle.std.proofs.Common.{◌≡◌, ◌∙◌, ℕ, ◌<◌, List, set, get_or, take, drop, length, ◌++◌, Ok, Err, Some, IsTrue, ap, refl, subst, sym, arith}
+use Rattle.std.proofs.Common.{◌≡◌, ◌∙◌, List, set, get_or, take, drop, length, ◌++◌, Ok, Err, Some, IsTrue, ap, refl, subst, sym, arith}
 use Rattle.std.specs.Prelude.{remove, slice_get}
 use Rattle.std.proofs.lemmas.Option.{slice_get_within}
 use Rattle.fjall_history.specs.declared.reply.Reply.{Reply}
@@ -6,7 +6,7 @@ use Rattle.fjall_jobs.specs.Made.{merged_job}
 use Rattle.fjall_jobs.specs.Merges.{merge_target}
 use Rattle.fjall_machine.specs.Shapes.{OfMergeFinish}
 use Rattle.fjall_core.specs.Holding.{Held}
-use Rattle.fjall_core.specs.Standing.{KnowsMergeIfDue, Owes, ServesWhere, merge_reply, flag_reply, job_of}
+use Rattle.fjall_core.specs.Standing.{KnowsMergeIfDue, Owes, ServesWhere, merge_reply, job_of}
 use Rattle.fjall_places.specs.Labels.{Label, merge_made_of}
 use Rattle.fjall_shared.specs.Locked.{IsSettled, Locked}
 use Rattle.fjall_shared.specs.Does.{FinishesJob, with_merges}

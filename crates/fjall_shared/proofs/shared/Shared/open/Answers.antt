@@ -1,10 +1,10 @@
-use Rattle.std.proofs.Common.{◌≡◌, ◌∙◌, List, [], ap, subst, sym}
+use Rattle.std.proofs.Common.{◌∙◌, List, ap, subst, sym}
 use Rattle.fjall_base.specs.Disk.{Meaning}
 use Rattle.fjall_core.specs.Openings.{KeepsStore, OpensAmid, OpensWithin}
 use Rattle.fjall_places.specs.Labels.{Label}
 use Rattle.fjall_transactions.specs.Transactions.{Kept}
 use Rattle.fjall_word.specs.Seats.{Place}
-use Rattle.fjall_shared.specs.Locked.{IsSettled, Locked}
+use Rattle.fjall_shared.specs.Locked.{IsSettled}
 use Rattle.fjall_shared.specs.Openings.{IsOpenedFrom}
 use Rattle.fjall_shared.proofs.Beginning.{First, begins, in_ok}
 use Rattle.fjall_shared.proofs.shared.Shared.open.Goals as goal

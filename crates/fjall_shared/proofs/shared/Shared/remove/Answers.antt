@@ -1,4 +1,4 @@
-use Rattle.std.proofs.Common.{◌≡◌, ◌∙◌, ap, refl, subst, ℕ, ◌∷◌, []}
+use Rattle.std.proofs.Common.{◌∙◌, ap, refl, subst, ℕ, ◌∷◌, []}
 use Rattle.fjall_base.specs.Pairs.{Bytes}
 use Rattle.fjall_journal.specs.Changes.{Items, command_of}
 use Rattle.fjall_journal.specs.declared.op.Op.TheVariants as ops
