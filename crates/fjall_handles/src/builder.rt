@@ -185,9 +185,6 @@ impl<O> DatabaseBuilder<O> {
         O: From<Database<FolderDisk>>,
     {
         let disk = FolderDisk::open(rt.host(), self.alloc, self.config.path.as_str())?;
-        match self.open_on(rt, disk) {
-            Ok(opened) => Ok(opened),
-            Err(refused) => Err(refused.error),
-        }
+        Ok(self.open_on(rt, disk)?)
     }
 }

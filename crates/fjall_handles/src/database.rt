@@ -129,15 +129,18 @@ impl<D: Disk + Drop> Database<D> {
         Ok(Keyspace::new(own_name, Arc::new(alloc, owner)?))
     }
 
-    /// Deletes a keyspace. Other handles of it read what it held last; its folder is removed once the last of them is gone.
+    /// Deletes a keyspace. Other handles of it read what it held last; its folder is removed with the last of them, at once where there is no
+    /// other.
     pub fn delete_keyspace<R: Wait>(&self, rt: &R, keyspace: Keyspace<D>) -> Result<()> {
         let id = keyspace.id();
         let mut guard = self.inner.lock.lock(rt);
         let Some(shared) = &mut *guard else {
             return Err(Error::Poisoned);
         };
+        let deleted = shared.delete_keyspace(id);
+        drop(keyspace);
         shared.collect();
-        shared.delete_keyspace(id)
+        deleted
     }
 }
 
@@ -270,12 +273,13 @@ impl<D: Disk + Drop> Database<D> {
         Ok(shared.visible_seqno())
     }
 
-    /// How many snapshots and transactions are open.
+    /// How many snapshots and transactions are open. Those whose handles are gone are closed first.
     pub fn open_snapshots<R: Wait>(&self, rt: &R) -> Result<u64> {
         let mut guard = self.inner.lock.lock(rt);
         let Some(shared) = &mut *guard else {
             return Err(Error::Poisoned);
         };
+        shared.collect_tickets();
         Ok(shared.open_snapshots())
     }
 }

@@ -43,10 +43,7 @@ fn open_boxed<D: Disk>(
 ) -> result::Result<Box<Shared<D>>, Refused<D>>
     requires { IsTrue D.honest → IsLeftByEngine (D.meaning disk) }
 {
-    let (shared, seen) = match Shared::open(alloc, config, disk) {
-        Ok(opened) => opened,
-        Err(refused) => return Err(refused),
-    };
+    let (shared, seen) = Shared::open(alloc, config, disk)?;
     drop(seen);
     match Box::new(alloc, shared) {
         Ok(shared) => Ok(shared),

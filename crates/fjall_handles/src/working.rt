@@ -70,6 +70,7 @@ impl<D: Disk + Drop> Inner<D> {
         let Some(shared) = &mut *guard else {
             return Err(Error::Poisoned);
         };
+        shared.collect_tickets();
         shared.flush_begin(id)
     }
 
@@ -78,6 +79,7 @@ impl<D: Disk + Drop> Inner<D> {
         let Some(shared) = &mut *guard else {
             return Err(Error::Poisoned);
         };
+        shared.collect_tickets();
         shared.merge_begin(id)
     }
 
@@ -86,6 +88,7 @@ impl<D: Disk + Drop> Inner<D> {
         let Some(shared) = &mut *guard else {
             return Err(Error::Poisoned);
         };
+        shared.collect_tickets();
         shared.major_begin(id)
     }
 
