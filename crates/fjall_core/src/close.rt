@@ -1,8 +1,6 @@
 //! A core that gives its disk back.
 
-ghost use Rattle.std.specs.Prelude.{◌≡◌, IsTrue};
-ghost use Rattle.fjall_base.specs.Crash.{IsHoused};
-ghost use Rattle.fjall_base.specs.Disk.{state_in};
+ghost use Rattle.std.specs.Prelude.{IsTrue};
 ghost use Rattle.fjall_core.specs.Standing.{OwesClosing, ClosesDisk, ClosesSafely};
 
 use crate::engine::Engine;
@@ -10,24 +8,6 @@ use fjall_base::{Disk, Result};
 use fjall_journal::PersistMode;
 
 impl<D: Disk> Engine<D> {
-    /// The disk as it stands, without a call of it. What waits in the journal's buffer is lost.
-    pub fn into_disk(self) -> D
-        ensures disk { D.meaning result ≡ self.disk }
-        // The folder of each name that stands on it stands too.
-        ensures housed { IsTrue D.honest → IsHoused (state_in self.disk) }
-    {
-        let Engine {
-            alloc: _,
-            disk,
-            journal,
-            catalog: _,
-            memory,
-        } = self;
-        drop(journal);
-        drop(memory);
-        disk
-    }
-
     /// Writes the journal out and syncs it, and gives the disk back. A poisoned core writes nothing.
     ///
     /// Refusals: `Poisoned` and `Io`.

@@ -1,6 +1,8 @@
 //! The core: one machine over a disk.
 
-ghost use Rattle.std.specs.Prelude.{◌≡◌, if◌then◌else◌};
+ghost use Rattle.std.specs.Prelude.{◌≡◌, if◌then◌else◌, IsTrue};
+ghost use Rattle.fjall_base.specs.Crash.{IsHoused};
+ghost use Rattle.fjall_base.specs.Disk.{state_in};
 ghost use Rattle.fjall_machine.specs.Remembered.{poisoned};
 ghost use Rattle.fjall_core.specs.Crashes.{is_io};
 
@@ -12,13 +14,25 @@ use std::alloc::Global;
 use std::marker::Model;
 
 /// An engine over a disk. Each call is one step of a machine: it answers, and leaves the core in the state after it.
-#[derive(Drop)]
 pub struct Engine<D: Disk> {
     pub(crate) alloc: Global,
     pub(crate) disk: D,
     pub(crate) journal: Writer,
     pub(crate) catalog: Catalog,
     pub(crate) memory: EngineState,
+}
+
+// Written out, so that no crate above proves the drop of what it owns anew.
+impl<D: Disk + Drop> Drop for Engine<D> {
+    fn drop(self) {
+        let Engine {
+            alloc: _,
+            disk: _,
+            journal: _,
+            catalog: _,
+            memory: _,
+        } = self;
+    }
 }
 
 impl<D: Disk> Model for Engine<D> {
@@ -42,6 +56,24 @@ pub(crate) fn is_fault(error: &Error) -> bool
 }
 
 impl<D: Disk> Engine<D> {
+    /// The disk as it stands, without a call of it. What waits in the journal's buffer is lost.
+    pub fn into_disk(self) -> D
+        ensures disk { D.meaning result ≡ self.disk }
+        // The folder of each name that stands on it stands too.
+        ensures housed { IsTrue D.honest → IsHoused (state_in self.disk) }
+    {
+        let Engine {
+            alloc: _,
+            disk,
+            journal,
+            catalog: _,
+            memory,
+        } = self;
+        drop(journal);
+        drop(memory);
+        disk
+    }
+
     /// After a fault of the disk the core is poisoned.
     pub(crate) fn poison_by(&mut self, error: &Error)
         ensures { self.new ≡ (if is_io error.now then record self.old { memory = poisoned self.old.memory } else self.old) }

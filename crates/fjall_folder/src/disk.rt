@@ -30,12 +30,22 @@ use std::alloc::Global;
 /// at the file's length. The folder's path is found once: a later change of the working directory doesn't matter.
 ///
 /// Want of memory is a fault in a call that changes something, as its trait wants it.
-#[derive(Drop)]
 pub struct FolderDisk {
     folder: Folder,
     faults: Faults,
     // dropped last, so that no file is open any more when another owner gets the folder
     lock: LockedFileGuard,
+}
+
+// Written out, so that no crate above proves the drop of what it owns anew.
+impl Drop for FolderDisk {
+    fn drop(self) {
+        let FolderDisk {
+            folder: _,
+            faults: _,
+            lock: _,
+        } = self;
+    }
 }
 
 impl FolderDisk {

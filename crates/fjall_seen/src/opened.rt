@@ -20,11 +20,21 @@ use std::sync::{Arc, Mutex, Wait};
 ///
 /// It has no name yet: pick one by calling a function of your own that is generic over [`Naming`] with `Brand`, and call
 /// [`named`](Opened::named) there.
-#[derive(Drop)]
 pub struct Opened<D: Disk> {
     shared: Shared<D>,
     seat: SeenSeat,
     word: Arc<Word, Global>,
+}
+
+// Written out, so that no crate above proves the drop of what it owns anew.
+impl<D: Disk + Drop> Drop for Opened<D> {
+    fn drop(self) {
+        let Opened {
+            shared: _,
+            seat: _,
+            word: _,
+        } = self;
+    }
 }
 
 impl<D: Disk> Model for Opened<D> {

@@ -28,10 +28,19 @@ use std::sync::{Arc, Wait};
 /// gives back as one that begins with what it held.
 ///
 /// A call that takes the lock answers `Poisoned` once the database is closed.
-#[derive(Drop)]
 pub struct Seen<D: Disk + Drop, J: Naming> {
     pub(crate) database: Arc<Database<D, J>, Global>,
     pub(crate) seat: SeenSeat,
+}
+
+// Written out, so that no crate above proves the drop of what it owns anew.
+impl<D: Disk + Drop, J: Naming> Drop for Seen<D, J> {
+    fn drop(self) {
+        let Seen {
+            database: _,
+            seat: _,
+        } = self;
+    }
 }
 
 impl<D: Disk + Drop, J: Naming> Model for Seen<D, J> {

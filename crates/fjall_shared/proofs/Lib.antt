@@ -7,3 +7,4 @@ pub mod Committing
 pub mod Viewing
 mod Jobs
 mod Beginning
+pub mod NewDisks

@@ -22,7 +22,6 @@ use std::sync::Arc;
 /// the engine's next one, and over a disk that returns what it holds the store is the fold of the list.
 ///
 /// It acts as its engine for what only looks: counts and the visible number.
-#[derive(Drop)]
 pub struct Shared<D: Disk> {
     pub(crate) alloc: Global,
     pub(crate) core: Core<D>,
@@ -32,6 +31,22 @@ pub struct Shared<D: Disk> {
     pub(crate) merges: Vec<Out<MergeMade>>,
     pub(crate) tickets: Vec<(Ticket, Flag)>,
     pub(crate) handles: Vec<(u64, Flag)>,
+}
+
+// Written out, so that no crate above proves the drop of what it owns anew.
+impl<D: Disk + Drop> Drop for Shared<D> {
+    fn drop(self) {
+        let Shared {
+            alloc: _,
+            core: _,
+            seat: _,
+            word: _,
+            flushes: _,
+            merges: _,
+            tickets: _,
+            handles: _,
+        } = self;
+    }
 }
 
 impl<D: Disk> Model for Shared<D> {

@@ -1,5 +1,5 @@
 use Rattle.fjall_memory.specs.MemoryDisk.{meaning_in}
-use Rattle.fjall_threads.proofs.NewDisks.{new_is_left}
+use Rattle.fjall_shared.proofs.NewDisks.{new_is_left}
 use Rattle.fjall_threads.proofs.fresh.open.Goals as goal
 
 pub open-requires : goal.open-requires
