@@ -8,24 +8,16 @@
 mod tx_database;
 mod tx_keyspace;
 
-pub use fjall_base::{
-    CompressionType, Disk, Error, FormatVersion, JournalRecoveryError, KeyBounds, KvPair, Refused,
-    Result, Slice, StorageError, UserKey, UserValue,
-};
-pub use fjall_core::{Config, PersistMode, RecoveryMode};
-pub use fjall_folder::FolderDisk;
 pub use fjall_handles::{
-    Database, DatabaseBuilder, Host, Ingestion, Iter, Keyspace, Optimistic, OwnedWriteBatch,
-    Reader, Single, Snapshot, TransactionReader, WriteTransaction,
+    BlockSizePolicy, BloomConstructionPolicy, CompressionPolicy, CompressionType, Config, Conflict,
+    Database, DatabaseBuilder, DecodeConfig, Disk, EncodeConfig, Error, FilterPolicy,
+    FilterPolicyEntry, FolderDisk, FormatVersion, Gate, Guard, HashRatioPolicy, Host, Identified,
+    Ingestion, Iter, JournalRecoveryError, KeyBounds, Keyspace, KeyspaceCreateOptions, KvPair,
+    Leveled, Levelled, Made, OpenGate, Optimistic, OwnedWriteBatch, PartitioningPolicy,
+    PersistMode, PinningPolicy, ReadIter, Readable, Reader, RecoveryMode, Refused,
+    RestartIntervalPolicy, Result, Single, Slice, Snapshot, StorageError, TransactionReader,
+    UserKey, UserValue, WriteTransaction, prefix_to_range, prefixed_range,
 };
-pub use fjall_options::{
-    BlockSizePolicy, BloomConstructionPolicy, CompressionPolicy, DecodeConfig, EncodeConfig,
-    FilterPolicy, FilterPolicyEntry, HashRatioPolicy, KeyspaceCreateOptions, Leveled, Levelled,
-    PartitioningPolicy, PinningPolicy, RestartIntervalPolicy,
-};
-pub use fjall_reading::{Guard, Identified, ReadIter, Readable, prefix_to_range, prefixed_range};
-pub use fjall_transactions::{Conflict, Made};
-pub use fjall_workers::{Gate, OpenGate};
 pub use tx_database::{OptimisticTxDatabase, SingleWriterTxDatabase, TxDatabase};
 pub use tx_keyspace::{OptimisticTxKeyspace, SingleWriterTxKeyspace, TxKeyspace};
 

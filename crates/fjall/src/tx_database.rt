@@ -1,13 +1,10 @@
 //! Databases whose keyspaces are changed by transactions.
 
 use crate::tx_keyspace::TxKeyspace;
-use fjall_base::{Disk, Result};
-use fjall_core::PersistMode;
-use fjall_folder::FolderDisk;
 use fjall_handles::{
-    Database, DatabaseBuilder, Kind, Optimistic, Single, Snapshot, WriteTransaction,
+    Database, DatabaseBuilder, Disk, FolderDisk, KeyspaceCreateOptions, Kind, Optimistic,
+    PersistMode, Result, Single, Snapshot, WriteTransaction,
 };
-use fjall_options::KeyspaceCreateOptions;
 use std::alloc::{AllocError, Global};
 use std::marker::PhantomData;
 use std::result;
@@ -15,10 +12,16 @@ use std::sync::Wait;
 use std::thread::Threads;
 
 /// A database whose keyspaces are changed by transactions of one kind. Threads share it by clones of its handle.
-#[derive(Drop)]
 pub struct TxDatabase<D: Disk + Drop, K: Kind> {
     inner: Database<D>,
     kind: PhantomData<K>,
+}
+
+// Written out, so that no crate above proves the drop of what it owns anew.
+impl<D: Disk + Drop, K: Kind> Drop for TxDatabase<D, K> {
+    fn drop(self) {
+        let TxDatabase { inner: _, kind: _ } = self;
+    }
 }
 
 /// Many transactions are open at a time, and one conflicts where another one that committed meanwhile wrote what it had read.
@@ -58,7 +61,8 @@ impl<D: Disk + Drop, K: Kind> TxDatabase<D, K> {
 
     /// Closes the database, as [`Database::close`] does.
     pub fn close<R: Threads + Wait>(self, rt: &R) -> (Option<D>, Result<()>) {
-        self.inner.close(rt)
+        let TxDatabase { inner, kind: _ } = self;
+        inner.close(rt)
     }
 
     /// A snapshot, at which it is read.

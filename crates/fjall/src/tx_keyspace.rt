@@ -1,21 +1,30 @@
 //! Keyspaces that are changed by transactions.
 
-use fjall_base::{Disk, Result, UserValue};
-use fjall_folder::FolderDisk;
-use fjall_handles::{Database, Keyspace, Kind, Optimistic, Single};
-use fjall_reading::{Guard, Identified, Readable};
-use fjall_transactions::Made;
+use fjall_handles::{
+    Database, Disk, FolderDisk, Guard, Identified, Keyspace, Kind, Made, Optimistic, Readable,
+    Result, Single, UserValue,
+};
 use std::alloc::AllocError;
 use std::marker::PhantomData;
 use std::result;
 use std::sync::Wait;
 
 /// A handle of a keyspace, each of whose changes is one transaction. Threads share it by clones.
-#[derive(Drop)]
 pub struct TxKeyspace<D: Disk + Drop, K: Kind> {
     database: Database<D>,
     inner: Keyspace<D>,
     kind: PhantomData<K>,
+}
+
+// Written out, so that no crate above proves the drop of what it owns anew.
+impl<D: Disk + Drop, K: Kind> Drop for TxKeyspace<D, K> {
+    fn drop(self) {
+        let TxKeyspace {
+            database: _,
+            inner: _,
+            kind: _,
+        } = self;
+    }
 }
 
 /// Of an optimistic database: a change that conflicts is made anew until it doesn't.

@@ -12,10 +12,19 @@ use std::sync::{Arc, Wait};
 
 /// A batch of writes to keyspaces of a database, which [`commit`](OwnedWriteBatch::commit) makes all at once, or none. Looks at it are those
 /// of [`Writes`].
-#[derive(Drop)]
 pub struct OwnedWriteBatch<D: Disk + Drop = FolderDisk> {
     inner: Arc<Inner<D>, Global>,
     writes: Writes<()>,
+}
+
+// Written out, so that no crate above proves the drop of what it owns anew.
+impl<D: Disk + Drop> Drop for OwnedWriteBatch<D> {
+    fn drop(self) {
+        let OwnedWriteBatch {
+            inner: _,
+            writes: _,
+        } = self;
+    }
 }
 
 impl<D: Disk + Drop> OwnedWriteBatch<D> {

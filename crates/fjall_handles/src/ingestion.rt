@@ -10,10 +10,19 @@ use std::ops::Deref;
 use std::sync::Wait;
 
 /// A bulk write to a keyspace, key by key, upwards. Looks at it are those of [`Items`].
-#[derive(Drop)]
 pub struct Ingestion<'a, D: Disk + Drop = FolderDisk> {
     keyspace: &'a Keyspace<D>,
     items: Items<()>,
+}
+
+// Written out, so that no crate above proves the drop of what it owns anew.
+impl<D: Disk + Drop> Drop for Ingestion<'_, D> {
+    fn drop(self) {
+        let Ingestion {
+            keyspace: _,
+            items: _,
+        } = self;
+    }
 }
 
 impl<'a, D: Disk + Drop> Ingestion<'a, D> {

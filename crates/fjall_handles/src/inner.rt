@@ -24,7 +24,6 @@ pub(crate) struct Settings {
 
 /// What all handles of a database share: its engine behind a lock, which holds nothing once the database is closed, and its workers. No
 /// thread waits for anything else while it has the lock.
-#[derive(Drop)]
 pub(crate) struct Inner<D: Disk + Drop> {
     pub alloc: Global,
     pub lock: Mutex<Option<Box<Shared<D>>>>,
@@ -35,6 +34,21 @@ pub(crate) struct Inner<D: Disk + Drop> {
     pub halted: AtomicBool,
     // The last merge was refused, as where a block of a table is wrong: merges aren't waited for.
     pub unmerged: AtomicBool,
+}
+
+// Written out, so that no crate above proves the drop of what it owns anew.
+impl<D: Disk + Drop> Drop for Inner<D> {
+    fn drop(self) {
+        let Inner {
+            alloc: _,
+            lock: _,
+            pool: _,
+            moves: _,
+            settings: _,
+            halted: _,
+            unmerged: _,
+        } = self;
+    }
 }
 
 impl<D: Disk + Drop> Inner<D> {

@@ -11,7 +11,6 @@ use std::sync::Wait;
 /// meanwhile doesn't show, and has two pages of 128 pairs in memory at most.
 ///
 /// Where its snapshot, or memory for its bounds, was refused that is its one item. Behind a fault it ends.
-#[derive(Drop)]
 pub struct Iter<'a, R: Wait, D: Disk + Drop = FolderDisk> {
     rt: &'a R,
     snapshot: Option<Snapshot<D>>,
@@ -19,6 +18,19 @@ pub struct Iter<'a, R: Wait, D: Disk + Drop = FolderDisk> {
     cursor: Cursor,
     // How many items it gives at most, more than any keyspace has.
     left: u64,
+}
+
+// Written out, so that no crate above proves the drop of what it owns anew.
+impl<R: Wait, D: Disk + Drop> Drop for Iter<'_, R, D> {
+    fn drop(self) {
+        let Iter {
+            rt: _,
+            snapshot: _,
+            refused: _,
+            cursor: _,
+            left: _,
+        } = self;
+    }
 }
 
 impl<'a, R: Wait, D: Disk + Drop> Iter<'a, R, D> {

@@ -21,13 +21,25 @@ use std::result;
 use std::sync::{Arc, Wait};
 
 // What the clones of a handle share. With the last of them it is dropped, and raises its flag: the next who collects releases the keyspace.
-#[derive(Drop)]
 pub(crate) struct Owner<D: Disk + Drop> {
     pub inner: Arc<Inner<D>, Global>,
     pub id: u64,
     pub name: String,
     pub path: String,
     pub raiser: Raiser,
+}
+
+// Written out, so that no crate above proves the drop of what it owns anew.
+impl<D: Disk + Drop> Drop for Owner<D> {
+    fn drop(self) {
+        let Owner {
+            inner: _,
+            id: _,
+            name: _,
+            path: _,
+            raiser: _,
+        } = self;
+    }
 }
 
 /// A handle of a keyspace, which threads share by its clones. It reaches the keyspace that it was made for alone, also where that is deleted and
@@ -37,12 +49,18 @@ pub(crate) struct Owner<D: Disk + Drop> {
 /// `NumbersUsedUp`, `OutOfMemory`, `Io` after which the database is poisoned.
 ///
 /// Handles are equal, and have one hash, where their names are equal.
-#[derive(Drop)]
 #[derive_where(PartialEq, Eq, Hash, Debug)]
 pub struct Keyspace<D: Disk + Drop = FolderDisk> {
     name: Slice,
     #[derive_where(skip)]
     owner: Arc<Owner<D>, Global>,
+}
+
+// Written out, so that no crate above proves the drop of what it owns anew.
+impl<D: Disk + Drop> Drop for Keyspace<D> {
+    fn drop(self) {
+        let Keyspace { name: _, owner: _ } = self;
+    }
 }
 
 impl<D: Disk + Drop> Identified for Keyspace<D> {

@@ -18,9 +18,24 @@ mod transaction;
 mod tx_reader;
 mod working;
 
+// What users of handles name of the crates below, so that who stands on these lists no other.
 pub use batch::OwnedWriteBatch;
 pub use builder::{DatabaseBuilder, Host};
 pub use database::Database;
+pub use fjall_base::{
+    CompressionType, Disk, Error, FormatVersion, JournalRecoveryError, KeyBounds, KvPair, Refused,
+    Result, Slice, StorageError, UserKey, UserValue,
+};
+pub use fjall_core::{Config, PersistMode, RecoveryMode};
+pub use fjall_folder::FolderDisk;
+pub use fjall_options::{
+    BlockSizePolicy, BloomConstructionPolicy, CompressionPolicy, DecodeConfig, EncodeConfig,
+    FilterPolicy, FilterPolicyEntry, HashRatioPolicy, KeyspaceCreateOptions, Leveled, Levelled,
+    PartitioningPolicy, PinningPolicy, RestartIntervalPolicy,
+};
+pub use fjall_reading::{Guard, Identified, ReadIter, Readable, prefix_to_range, prefixed_range};
+pub use fjall_transactions::{Conflict, Made};
+pub use fjall_workers::{Gate, OpenGate};
 pub use ingestion::Ingestion;
 pub use iter::Iter;
 pub use keyspace::Keyspace;

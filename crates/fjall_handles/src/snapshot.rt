@@ -12,11 +12,21 @@ use std::sync::{Arc, Wait};
 /// A snapshot of a database: it shows what was accepted before it was opened, and nothing that came later.
 ///
 /// Its drop takes no lock: it raises a flag, and the next who opens a snapshot or a transaction closes it.
-#[derive(Drop)]
 pub struct Snapshot<D: Disk + Drop = FolderDisk> {
     inner: Arc<Inner<D>, Global>,
     ticket: Ticket,
     raiser: Raiser,
+}
+
+// Written out, so that no crate above proves the drop of what it owns anew.
+impl<D: Disk + Drop> Drop for Snapshot<D> {
+    fn drop(self) {
+        let Snapshot {
+            inner: _,
+            ticket: _,
+            raiser: _,
+        } = self;
+    }
 }
 
 // Has a ticket closed once the flag is raised, or closes it at once where memory is used up.
