@@ -1,30 +1,65 @@
-//! `session_store FOLDER` keeps sessions over the engine, in that folder: by token in a keyspace, and by the time of their end in a
-//! second one. Transactions of the single writer change both together.
+//! `session_store FOLDER` keeps sessions of users in that folder; transactions of the single writer change both of its keyspaces together.
 #![tactic(auto)]
 
-mod keys;
-mod stamp;
 mod store;
-mod story;
 
-use anyhow::{Result, bail};
-use fjall_folder::FolderDisk;
-use std::env;
-use std::rt::Env;
+use anyhow::{Context, Result};
+use fjall::{KeyspaceCreateOptions, PersistMode, SingleWriterTxDatabase};
+use std::alloc::Global;
+use std::sync::Wait;
+use std::{env, str};
+use store::{Store, read_stamped};
 
-// The folder that the arguments name.
-fn folder<R: Env + AllocGlobal>(rt: &R) -> Result<String> {
-    let words: Vec<String> = env::args(rt)?.skip(1).collect(rt.alloc())?;
-    match words.as_slice() {
-        [folder] => Ok(folder.clone()?),
-        _ => bail!("usage: session_store FOLDER"),
+// The store that a database has.
+fn store_of<R: Wait>(rt: &R, alloc: Global, db: SingleWriterTxDatabase) -> Result<Store> {
+    Ok(Store {
+        alloc,
+        sessions: db.keyspace(rt, "sessions", KeyspaceCreateOptions::default(alloc)?)?,
+        ends: db.keyspace(rt, "ends", KeyspaceCreateOptions::default(alloc)?)?,
+        db,
+    })
+}
+
+// A user logs in.
+fn log_in<R: Wait + Print>(rt: &R, store: &Store, token: &str, user: &str, now: u64) -> Result<()> {
+    let end = store.log_in(rt, token, user, now)?;
+    println!(rt; "at {now} {user} logs in under {token}: {end:?}")?;
+    Ok(())
+}
+
+// Removes the sessions that have ended, and prints those that are left.
+fn expire<R: Wait + Print>(rt: &R, store: &Store, now: u64) -> Result<()> {
+    let count = store.expire(rt, now)?;
+    println!(rt; "at {now} sessions that have ended are removed: {count}")?;
+    for pair in store.sessions.inner().iter(rt) {
+        let (token, session) = pair.into_inner()?;
+        let (end, user) = read_stamped(session.as_slice())?;
+        let (token, user) = (str::from_utf8(token.as_slice())?, str::from_utf8(user)?);
+        println!(rt; "  {token}: {user} until {end}")?;
     }
+    Ok(())
 }
 
 fn main(rt: HostRuntime) -> Result<()> {
-    let alloc = rt.alloc();
-    let folder = folder(&rt)?;
-    let disk = FolderDisk::open(&rt, alloc, folder.as_str())?;
-    let disk = story::in_the_morning(&rt, alloc, disk)?;
-    story::in_the_evening(&rt, alloc, disk)
+    let (alloc, folder) = (rt.alloc(), env::args(&rt)?.nth(1));
+    let folder = folder.context("usage: session_store FOLDER")?;
+    let db = SingleWriterTxDatabase::builder(alloc, folder.as_str())?.open(&rt)?;
+    let morning = store_of(&rt, alloc, db)?;
+    log_in(&rt, &morning, "amber", "Ada", 0)?;
+    log_in(&rt, &morning, "beryl", "Ben", 10)?;
+    log_in(&rt, &morning, "beryl", "Cleo", 15)?;
+    log_in(&rt, &morning, "coral", "Cleo", 15)?;
+    log_in(&rt, &morning, "amber", "Ada", 20)?;
+    expire(&rt, &morning, 40)?;
+    morning.db.persist(&rt, PersistMode::SyncAll)?;
+    let (disk, closed) = morning.db.close(&rt);
+    drop(disk);
+    closed?;
+    println!(rt; "\nThe store is closed, and opened again")?;
+    let db = SingleWriterTxDatabase::builder(alloc, folder.as_str())?.open(&rt)?;
+    let evening = store_of(&rt, alloc, db)?;
+    expire(&rt, &evening, 49)?;
+    expire(&rt, &evening, 50)?;
+    let (_disk, closed) = evening.db.close(&rt);
+    Ok(closed?)
 }

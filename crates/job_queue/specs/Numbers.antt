@@ -1,7 +1,0 @@
--- How the number of a job is kept as a key.
-use Rattle.std.specs.Prelude.{◌==◌, ℕ, List, length, Option, Some, None, if◌then◌else◌}
-use Rattle.std.specs.Int.{w64, from_be_bytes}
-
--- the number that eight bytes are, the highest first, or none where they aren't eight
-abbrev pub number_in : List ℕ → Option ℕ
-number_in bytes = if length bytes == 8 then Some (from_be_bytes w64 bytes) else None
