@@ -1,7 +1,8 @@
 // The workloads of fjall-bench over other engines: keys of 16 bytes, values of 100. LevelDB has all of them, SQLite and LMDB
 // the fills and the synced writes. `other-engines FOLDER N` runs all; `other-engines FOLDER N fill` LevelDB's fill at random alone;
 // `other-engines FOLDER N long ENGINE` the long run over `leveldb`, `rocksdb` or `sqlite`: a fill at random, a merge of all tables,
-// reads, a scan, a reopening, and at last the size of the folder.
+// reads, a scan, a reopening, and at last the size of the folder; `other-engines FOLDER N threads ENGINE T` a fill at random by T
+// threads that share `leveldb` or `rocksdb`, and reads of all pairs by as many.
 // Prints a line a workload on standard error: engine, workload, count, wall seconds, processor seconds, operations a second,
 // processor seconds of the calling thread alone, parted by tabs.
 #include <leveldb/db.h>
@@ -23,6 +24,7 @@
 #include <numeric>
 #include <random>
 #include <string>
+#include <thread>
 #include <vector>
 
 using Numbers = std::vector<uint64_t>;
@@ -398,6 +400,28 @@ static void run_long(LongEngine& engine, const char* name, const std::string& fo
     std::printf("%s: folder of %ju bytes, %.2f times its pairs\n", name, folder_bytes(place), static_cast<double>(folder_bytes(place)) / (116.0 * count));
 }
 
+// Does something with each number, of which each thread takes the ones at its place in each row of as many as there are threads.
+static void share_out(const char* name, const char* workload, const Numbers& numbers, size_t threads, const std::function<void(uint64_t)>& work) {
+    measure(name, workload, numbers.size(), [&] {
+        std::vector<std::thread> all;
+        for (size_t place = 0; place < threads; place++) {
+            all.emplace_back([&, place] {
+                for (size_t at = place; at < numbers.size(); at += threads) work(numbers[at]);
+            });
+        }
+        for (std::thread& one : all) one.join();
+    });
+}
+
+// A fill at random and reads at random, each by so many threads.
+static void run_threads(LongEngine& engine, const char* name, const std::string& folder, size_t count, size_t threads) {
+    engine.open(folder + "/" + name + "_threads");
+    std::string by = ", " + std::to_string(threads) + (threads == 1 ? " thread" : " threads");
+    share_out(name, ("fill at random" + by).c_str(), at_random(count, 1), threads, [&](uint64_t number) { engine.put(number, false); });
+    share_out(name, ("read" + by).c_str(), at_random(count, 2), threads, [&](uint64_t number) { check(engine.has(number), "read by threads"); });
+    engine.close();
+}
+
 // The engine of a name.
 static std::unique_ptr<LongEngine> engine_of(const std::string& name) {
     if (name == "leveldb") return std::make_unique<LevelDb>();
@@ -409,11 +433,18 @@ static std::unique_ptr<LongEngine> engine_of(const std::string& name) {
 int main(int argc, char** argv) {
     bool is_fill = argc == 4 && std::strcmp(argv[3], "fill") == 0;
     bool is_long = argc == 5 && std::strcmp(argv[3], "long") == 0;
-    check(argc == 3 || is_fill || is_long, "usage: other-engines FOLDER N [fill | long ENGINE]");
+    bool is_threads = argc == 6 && std::strcmp(argv[3], "threads") == 0 && std::strcmp(argv[4], "sqlite") != 0;
+    check(argc == 3 || is_fill || is_long || is_threads, "usage: other-engines FOLDER N [fill | long ENGINE | threads ENGINE T]");
     std::string folder = argv[1];
     size_t count = std::strtoull(argv[2], nullptr, 10);
     check(count > 0, "N is no count");
     std::filesystem::create_directories(folder);
+    if (is_threads) {
+        size_t threads = std::strtoull(argv[5], nullptr, 10);
+        check(threads > 0, "T is no count");
+        run_threads(*engine_of(argv[4]), argv[4], folder, count, threads);
+        return 0;
+    }
     if (is_long) {
         run_long(*engine_of(argv[4]), argv[4], folder, count);
         return 0;
