@@ -1,7 +1,6 @@
 //! Four threads raise one counter by optimistic transactions, which are tried again where they conflict.
 
-use crate::fresh::{close, open};
-use crate::machine::Machine;
+use crate::fresh::{Machine, close, open};
 use fjall::{
     KeyspaceCreateOptions, OptimisticTxDatabase, OptimisticTxKeyspace, OptimisticWriteTx, Readable,
     Result,

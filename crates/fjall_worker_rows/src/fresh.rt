@@ -1,9 +1,16 @@
 //! Databases in memory, on which nothing stands yet.
 
-use crate::machine::Machine;
 use fjall::{Database, DatabaseBuilder, Gate, Keyspace, KeyspaceCreateOptions, OpenGate, Result};
 use fjall_memory::MemoryDisk;
+use log::Log;
 use std::alloc::Global;
+use std::sync::Wait;
+use std::thread::Threads;
+
+/// A runtime with threads, which prints. Over one that threads share a database with workers is opened.
+pub trait Machine: Threads + Wait + Log + Print + Copy + Drop {}
+
+impl<R: Threads + Wait + Log + Print + Copy + Drop> Machine for R {}
 
 /// A database in memory, whose writes are no transactions.
 pub type Plain = Database<MemoryDisk>;

@@ -1,7 +1,6 @@
 //! Four threads share a database by clones of its handle, and insert a hundred keys each.
 
-use crate::fresh::{Plain, close, keyspace, open};
-use crate::machine::Machine;
+use crate::fresh::{Machine, Plain, close, keyspace, open};
 use fjall::Result;
 use std::alloc::Global;
 use std::thread;

@@ -1,7 +1,6 @@
 //! Four threads write into memtables that are full after a few writes, while workers flush and merge.
 
-use crate::fresh::{Items, Plain, close, open};
-use crate::machine::Machine;
+use crate::fresh::{Items, Machine, Plain, close, open};
 use fjall::{KeyspaceCreateOptions, Result};
 use std::alloc::Global;
 use std::thread;
