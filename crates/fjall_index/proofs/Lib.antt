@@ -1,0 +1,10 @@
+mod Going
+mod Beginning
+mod Committing
+mod Showing
+mod Putting
+mod Ending
+mod Keeping
+mod Tallying
+mod Creating
+mod OpeningStates

@@ -1,0 +1,22 @@
+use Rattle.std.proofs.Common.{rules, Err, refl}
+use Rattle.fjall_core.specs.Standing.{reply_of}
+use Rattle.fjall_index.proofs.Ending.{done_so, ends_commit, ends_rollback, refused_so}
+use Rattle.fjall_index.proofs.changing.end.Goals as goal
+
+pub returns-in_err-rollback : goal.returns-in_err-rollback
+returns-in_err-rollback g c = record {
+  keeps = λ h. ends_rollback c.args.core.now.engine c.rollback.new.self.engine c.args.core.now.transactions c.rollback.new.self.transactions c.args.transaction _ (reply_of c.rollback.result) c.args.done _ (c.rollback.ensures.steps h) c.from_residual.ensures.0;
+  refused = refused_so c.args.done _ c.from_residual.ensures.0;
+}
+
+pub returns-in-Err : goal.returns-in-Err
+returns-in-Err g c = record {
+  keeps = λ h. ends_rollback c.args.core.now.engine c.rollback.new.self.engine c.args.core.now.transactions c.rollback.new.self.transactions c.args.transaction _ (reply_of c.rollback.result) c.args.done (Err c.in-Err.error) (c.rollback.ensures.steps h) refl;
+  refused = refused_so c.args.done (Err c.in-Err.error) refl;
+}
+
+pub returns : goal.returns
+returns g c = record {
+  keeps = λ h. ends_commit c.args.core.now.engine c.commit.new.self.engine c.args.core.now.transactions c.commit.new.self.transactions c.args.transaction c.commit.result c.args.done c.answer_of.result (c.commit.ensures.steps h) c.answer_of.ensures (search rules);
+  refused = done_so c.args.done c.answer_of.result (search rules);
+}

@@ -1,0 +1,16 @@
+//! A secondary index over a main keyspace, kept in an index keyspace as both change, over an engine with its transactions.
+#![tactic(auto)]
+
+mod changing;
+mod indexed;
+mod indexed_tx;
+mod laws;
+mod reading;
+
+pub use fjall_index_entries::{
+    Extract, IndexError, Result, Slot, change_items, entry_of, field_of_value, find_pairs,
+    index_key, put_items, range_of,
+};
+pub use indexed::Indexed;
+pub use indexed_tx::IndexedTx;
+pub use laws::{an_open_transaction_stays, views_show_the_index};

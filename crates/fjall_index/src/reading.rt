@@ -1,0 +1,201 @@
+//! What is read: the value of a key, pairs by their field, and whether an index keyspace has the index of a main keyspace.
+
+ghost use Rattle.std.specs.Prelude.{IfOk, IsTrue, ℕ, ◌↔◌, ◌≡◌, ◌≤◌};
+ghost use Rattle.std.specs.Result.{result_err};
+ghost use Rattle.fjall_base.specs.Pairs.{Pairs, lookup};
+ghost use Rattle.fjall_base.specs.Store.{map_at};
+ghost use Rattle.fjall_history.specs.declared.ticket.View.TheVariants.{Present};
+ghost use Rattle.fjall_machine.specs.Machine.{maps_in};
+ghost use Rattle.fjall_core.specs.Standing.{ReadsOn};
+ghost use Rattle.fjall_transactions.specs.Leaving.{LeavesStanding};
+ghost use Rattle.fjall_transactions.specs.Shown.{Shows};
+ghost use Rattle.fjall_transactions.specs.Standing.{StandFor, Told};
+ghost use Rattle.fjall_index_entries.specs.Finding.{ReadsEither};
+ghost use Rattle.fjall_index_entries.specs.Index.{FieldOf, found_in, index_of};
+ghost use Rattle.fjall_index_entries.specs.Keeping.{IsIndexed};
+ghost use Rattle.fjall_index.specs.Checking.{one_if, told_of};
+ghost use Rattle.fjall_index.specs.Standing.{KeepsIndexed, nothing};
+
+use crate::indexed::Indexed;
+use fjall_base::{Disk, Error, KvPair, Result, UserValue};
+use fjall_core::{Engine, View};
+use fjall_index_entries::{Extract, entry_of, find_pairs};
+use fjall_reading::{Cursor, Readable};
+use fjall_transactions::{Core, Reader};
+use std::alloc::Global;
+use std::ops::Bound;
+
+// The value that a reader shows of a key. The engine stays lent, and what stood over it stands.
+fn value_by<D: Disk>(reader: &mut Reader<'_, D>, id: u64, key: &[u8]) -> Result<Option<UserValue>>
+    ensures found { (map : Pairs) → Shows D.honest reader.old.core.now reader.old.view id map → IfOk result (λ found. found ≡ lookup map key.now) }
+    ensures stand { LeavesStanding D.honest reader.old.core.now reader.new.core.now }
+    ensures lent { reader.new.core.ghost_name ≡ reader.old.core.ghost_name }
+{
+    reader.get(&id, key)
+}
+
+/// The value that a key of a keyspace has in a view. What stood over the engine stands.
+pub(crate) fn value_in<D: Disk>(
+    alloc: Global,
+    engine: &mut Engine<D>,
+    view: View,
+    id: u64,
+    key: &[u8],
+) -> Result<Option<UserValue>>
+    ensures found { (map : Pairs) → Shows D.honest engine.old view id map → IfOk result (λ found. found ≡ lookup map key.now) }
+    ensures stand { LeavesStanding D.honest engine.old engine.new }
+{
+    let mut reader = Reader::new(alloc, engine, view);
+    let found = value_by(&mut reader, id, key);
+    reader.into_core();
+    found
+}
+
+// The pairs that a core's reader shows with this field. The core stays lent, and what stood over it stands.
+fn find_by<D: Disk>(
+    reader: &mut Reader<'_, D>,
+    main: u64,
+    index: u64,
+    field: &[u8],
+) -> fjall_index_entries::Result<Vec<KvPair>>
+    ensures found { (of : FieldOf) (map : Pairs) → Shows D.honest reader.old.core.now reader.old.view main map → Shows D.honest reader.old.core.now reader.old.view index (index_of of map)
+        → IfOk result (λ found. found.items ≡ found_in of field.now map) }
+    ensures stand { LeavesStanding D.honest reader.old.core.now reader.new.core.now }
+    ensures lent { reader.new.core.ghost_name ≡ reader.old.core.ghost_name }
+{
+    Ok(find_pairs(reader, &main, &index, field)?)
+}
+
+// The pairs that an engine shows in a view with this field. What stood over the engine stands.
+fn find_in<D: Disk>(
+    alloc: Global,
+    engine: &mut Engine<D>,
+    view: View,
+    main: u64,
+    index: u64,
+    field: &[u8],
+) -> fjall_index_entries::Result<Vec<KvPair>>
+    ensures found { (of : FieldOf) (map : Pairs) → Shows D.honest engine.old view main map → Shows D.honest engine.old view index (index_of of map)
+        → IfOk result (λ found. found.items ≡ found_in of field.now map) }
+    ensures stand { LeavesStanding D.honest engine.old engine.new }
+{
+    let mut reader = Reader::new(alloc, engine, view);
+    let found = find_by(&mut reader, main, index, field);
+    reader.into_core();
+    found
+}
+
+impl<E: Extract> Indexed<E> {
+    /// The pairs of a view that have this field, in the order of their keys.
+    ///
+    /// It is refused as reads of the two keyspaces are, and nothing changes. It has all that it finds in memory.
+    pub fn find<D: Disk>(
+        &self,
+        core: &mut Core<D>,
+        view: View,
+        field: &[u8],
+    ) -> fjall_index_entries::Result<Vec<KvPair>>
+        ensures found { IsTrue D.honest → (t : Told) → StandFor core.old.engine core.old.transactions t → ReadsOn core.old.engine t.state
+            → IsIndexed (E.field_of self.now.extract) self.now.main self.now.index (maps_in t.state view)
+            → IfOk result (λ found. found.items ≡ found_in (E.field_of self.now.extract) field.now (map_at (maps_in t.state view) self.now.main)) }
+        ensures keeps { IsTrue D.honest → KeepsIndexed (E.field_of self.now.extract) self.now.main self.now.index nothing
+            core.old.engine core.old.transactions core.new.engine core.new.transactions }
+    {
+        find_in(self.alloc, core, view, self.main, self.index, field)
+    }
+}
+
+// Whether a pair has a field, where its entry stands in the index keyspace with an empty value if it has; else none.
+fn told_by<R: Readable, E: Extract>(
+    reader: &mut R,
+    extract: &E,
+    index: u64,
+    pair: &KvPair,
+) -> Result<Option<bool>>
+    ensures ok { (found : Pairs) → R.shows reader.old index found → IfOk result (λ told. told ≡ told_of (E.field_of extract.now) found pair.now) }
+    ensures same { (i : ℕ) (map : Pairs) → R.shows reader.old i map → R.shows reader.new i map }
+    ensures reads { R.reads reader.old index (result_err result) reader.new }
+{
+    let alloc = reader.alloc();
+    let (key, value) = (pair.0.as_slice(), pair.1.as_slice());
+    let Some(field) = extract.field(alloc, key, value)? else {
+        return Ok(Some(false));
+    };
+    let entry = entry_of(alloc, &field, key)?;
+    match reader.get(&index, entry.as_slice())? {
+        Some(found) if found.is_empty() => Ok(Some(true)),
+        _ => Ok(None),
+    }
+}
+
+// One of those, or none.
+fn one_if(has: bool) -> usize
+    ensures is { result ≡ one_if has }
+    ensures most { result ≤ 1 }
+{
+    if has {
+        return 1;
+    }
+    0
+}
+
+/// Whether the index keyspace's map is the index of the main one's. It reads both whole, page by page, and holds one page.
+pub(crate) fn is_index<R: Readable, E: Extract>(
+    reader: &mut R,
+    extract: &E,
+    main: u64,
+    index: u64,
+) -> Result<bool>
+    ensures ok { (map found : Pairs) → R.shows reader.old main map → R.shows reader.old index found
+        → IfOk result (λ yes. IsTrue yes ↔ (found ≡ index_of (E.field_of extract.now) map)) }
+    ensures reads { ReadsEither R.reads reader.old main index (result_err result) reader.new }
+{
+    let alloc = reader.alloc();
+    let mut pairs = Cursor::new(alloc, main, (Bound::Unbounded, Bound::Unbounded));
+    let mut count = 0;
+    for _ in 0..usize::MAX {
+        let Some(pair) = pairs.next(reader) else {
+            return Ok(reader.len(&index)? == count);
+        };
+        let pair = pair?;
+        let Some(has) = told_by(reader, extract, index, &pair)? else {
+            return Ok(false);
+        };
+        count += one_if(has);
+    }
+    // So many fit into no keyspace.
+    Err(Error::OutOfMemory)
+}
+
+// Whether a core's reader shows the index of the main keyspace's map. The core stays lent, and what stood over it stands.
+fn shows_index<D: Disk, E: Extract>(
+    reader: &mut Reader<'_, D>,
+    extract: &E,
+    main: u64,
+    index: u64,
+) -> Result<bool>
+    ensures ok { (map found : Pairs) → Shows D.honest reader.old.core.now reader.old.view main map → Shows D.honest reader.old.core.now reader.old.view index found
+        → IfOk result (λ yes. IsTrue yes ↔ (found ≡ index_of (E.field_of extract.now) map)) }
+    ensures stand { LeavesStanding D.honest reader.old.core.now reader.new.core.now }
+    ensures lent { reader.new.core.ghost_name ≡ reader.old.core.ghost_name }
+{
+    is_index(reader, extract, main, index)
+}
+
+/// Whether the index keyspace has the index of the main one at the present of an engine. What stood over it stands.
+pub(crate) fn is_index_in<D: Disk, E: Extract>(
+    alloc: Global,
+    engine: &mut Engine<D>,
+    extract: &E,
+    main: u64,
+    index: u64,
+) -> Result<bool>
+    ensures ok { (map found : Pairs) → Shows D.honest engine.old Present main map → Shows D.honest engine.old Present index found
+        → IfOk result (λ yes. IsTrue yes ↔ (found ≡ index_of (E.field_of extract.now) map)) }
+    ensures stand { LeavesStanding D.honest engine.old engine.new }
+{
+    let mut reader = Reader::new(alloc, engine, View::Present);
+    let told = shows_index(&mut reader, extract, main, index);
+    reader.into_core();
+    told
+}

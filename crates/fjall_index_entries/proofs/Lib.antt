@@ -1,0 +1,9 @@
+mod Orders
+mod Entries
+pub mod Standing
+pub mod Index
+pub mod Counting
+mod Found
+mod Finding
+pub mod Keeps
+pub mod Owning

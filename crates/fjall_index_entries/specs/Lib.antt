@@ -1,0 +1,6 @@
+pub mod Entries
+pub mod Index
+pub mod Putting
+pub mod Keeping
+pub mod Finding
+pub mod Refusals
