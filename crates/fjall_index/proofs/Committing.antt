@@ -145,7 +145,8 @@ module _ (field : FieldOf) (main index since : ℕ) where
       → CommitGoesOn old t tx outcome new after → (next : Told) × (e : Durable) × GoesOnIndexed field main index since (own_where_done outcome tx) t d next e new after
   commit_goes old new before after t d tx outcome all keeps (next, stands, reads, step, led) = let (e, on, passes) = led d all.on in (next, e, by e on passes step)
     where
-      closing : (e : Durable) → StandsOn new next.state.parts.entries e → Passes d [] e → StepOf t.state (OfTickets (Close tx.ticket.id)) Done next.state → next.accepted ≡ t.accepted → GoesOnIndexed field main index since [] t d next e new after
+      closing : (e : Durable) → StandsOn new next.state.parts.entries e → Passes d [] e
+          → StepOf t.state (OfTickets (Close tx.ticket.id)) Done next.state → next.accepted ≡ t.accepted → GoesOnIndexed field main index since [] t d next e new after
       closing e on tried closes same =
           rests field main index since old new before after t next d e [] all (closes_quietly t.state next.state tx.ticket.id closes) same
           (OneMove (times t.state) (times next.state) (times next.state) (shape_moves t.state next.state (OfTickets (Close tx.ticket.id)) Done closes) (NoMove (times next.state)))

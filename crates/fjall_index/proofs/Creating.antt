@@ -135,7 +135,8 @@ module _ (field : FieldOf) (main index since : ℕ) where
       by true e true is = none_tried field main index since core before t d all
       by true e false is = made_amid core before t d name (option_pairs options) all (sym all.stands.machine.remembered.poisoned ∙ refused_well t.state s name options error is e step)
 
-  alone_too : (s : Store) (accepted : List Accepted) (c : Command) (id : ℕ) (now : Store) → now ≡ fold s (commands_of accepted) → map_at (apply now c).maps id ≡ map_at now.maps id → ChangesByTransactions s accepted id → ChangesByTransactions s (accepted ++ plain c ∷ []) id
+  alone_too : (s : Store) (accepted : List Accepted) (c : Command) (id : ℕ) (now : Store) → now ≡ fold s (commands_of accepted)
+      → map_at (apply now c).maps id ≡ map_at now.maps id → ChangesByTransactions s accepted id → ChangesByTransactions s (accepted ++ plain c ∷ []) id
   alone_too s [] c id now is same alone = ((λ none. subst (λ (x : Store). map_at (apply x c).maps id ≡ map_at x.maps id) is same), tt)
   alone_too s (a ∷ accepted) c id now is same alone = (alone.0, alone_too (apply s a.command) accepted c id now is same alone.1)
 

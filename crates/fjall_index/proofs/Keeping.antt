@@ -70,7 +70,8 @@ all_put P key items (e ∷ es) here all = by (byte_order key e.0) refl (all_put 
 
 module _ (field : FieldOf) (main index : ℕ) (t : Told) where
   -- one that has just begun
-  pub begun_tx : (tx : IndexedTx) (transaction : Tx) → tx.transaction ≡ transaction → tx.changes.entries ≡ [] → transaction ≡ begun (Some no_marks) transaction.ticket → transaction.ticket.id < t.state.tickets.next → IsIndexedTx field main index t tx
+  pub begun_tx : (tx : IndexedTx) (transaction : Tx) → tx.transaction ≡ transaction → tx.changes.entries ≡ []
+      → transaction ≡ begun (Some no_marks) transaction.ticket → transaction.ticket.id < t.state.tickets.next → IsIndexedTx field main index t tx
   begun_tx tx transaction is none fresh given = record {
     marks = no_marks;
     optimistic = ap (λ (x : Tx). x.marks) (is ∙ fresh);

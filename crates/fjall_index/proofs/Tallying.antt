@@ -102,7 +102,8 @@ entry_found : (field : FieldOf) (x : Pairs) (ps : List (Bytes × Bytes)) (key va
 entry_found field x [] key value f all e has = absurd (none-some value e)
 entry_found field x (p ∷ ps) key value f all e has = by (eq_by_cmp byte_order key p.0) refl e (entry_found field x ps key value f all.1)
   where
-    by : (b : Bool) → eq_by_cmp byte_order key p.0 ≡ b → cond b (Some p.1) (find byte_order key ps) ≡ Some value → (find byte_order key ps ≡ Some value → field key value ≡ Some f → lookup x (entry f key) ≡ Some []) → lookup x (entry f key) ≡ Some []
+    by : (b : Bool) → eq_by_cmp byte_order key p.0 ≡ b → cond b (Some p.1) (find byte_order key ps) ≡ Some value
+        → (find byte_order key ps ≡ Some value → field key value ≡ Some f → lookup x (entry f key) ≡ Some []) → lookup x (entry f key) ≡ Some []
     by true is found later =
         let same : key ≡ p.0 = eq_same key p.0 is in
         let its : p.1 ≡ value = ap (λ (o : Option Bytes). elim o as (λ _. Bytes) [ None ↦ value | Some v ↦ v ]) found in
