@@ -6,7 +6,7 @@ use Rattle.fjall_base.specs.Pairs.{Bytes}
 use Rattle.fjall_base.specs.declared.error.Error.{Error}
 use Rattle.fjall_base.specs.declared.error.Error.TheVariants.{TransactionOpen}
 use Rattle.fjall_index_entries.specs.declared.error.IndexError.{IndexError}
-use Rattle.fjall_index_entries.specs.declared.error.IndexError.TheVariants.{Engine}
+use Rattle.fjall_index_entries.specs.declared.error.IndexError.TheVariants.{Engine, IndexStale, SameKeyspace}
 use Rattle.fjall_journal.specs.Ops.{BatchItem, item_in}
 use Rattle.fjall_tx.specs.Marks.{Marks, OfKey}
 use Rattle.fjall_tx.specs.Owns.{items_of}
@@ -14,8 +14,11 @@ use Rattle.fjall_tx.specs.declared.outcome.CommitOutcome.{CommitOutcome}
 use Rattle.fjall_tx.specs.declared.outcome.CommitOutcome.TheVariants as outcomes
 use Rattle.fjall_history.specs.Histories.{view}
 use Rattle.fjall_history.specs.Serial.{value_at}
+use Rattle.fjall_history.specs.declared.reply.Reply.TheVariants.{Done, Refused}
+use Rattle.fjall_machine.specs.Shapes.{Close, OfTickets}
 use Rattle.fjall_core.specs.Durables.{Durable}
 use Rattle.fjall_core.specs.Holding.{Held}
+use Rattle.fjall_core.specs.Standing.{Owes}
 use Rattle.fjall_transactions.specs.Standing.{Told}
 use Rattle.fjall_transactions.specs.Transactions.{Kept, Tx, having_read, with_own_items}
 use Rattle.fjall_index_entries.specs.Index.{FieldOf}
@@ -60,3 +63,10 @@ abbrev pub EndsIndexed : Held → Kept → Tx → Result Unit IndexError → Res
 EndsIndexed old before tx done answer new after =
     (field : FieldOf) (main index since : ℕ) (t : Told) (d : Durable) → StandsIndexed field main index since old before t d → OnOk done (TxKeepsIndex field main index t tx)
     → (next : Told) × (e : Durable) × GoesOnIndexed field main index since (own_where_answered answer tx) t d next e new after
+
+-- A transaction's end without its own writes, answered so: the engine owes what closing its ticket does.
+abbrev pub RollsBack : Held → ℕ → Result Unit IndexError → Held → Type 0
+RollsBack old ticket (Ok done) new = Owes old (OfTickets (Close ticket)) Done new
+RollsBack old ticket (Err (Engine error)) new = Owes old (OfTickets (Close ticket)) (Refused error) new
+RollsBack old ticket (Err IndexStale) new = ⊥
+RollsBack old ticket (Err SameKeyspace) new = ⊥

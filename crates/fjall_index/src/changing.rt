@@ -12,7 +12,7 @@ ghost use Rattle.fjall_transactions.specs.Shown.{Shows};
 ghost use Rattle.fjall_transactions.specs.Standing.{Told};
 ghost use Rattle.fjall_index_entries.specs.Putting.{put_items};
 ghost use Rattle.fjall_index.specs.Changes.{HasKept, IsIndexedTx, IsOutcomeOf, IsSameTx, items_in, where_committed};
-ghost use Rattle.fjall_index.specs.Changing.{EndsIndexed, HasWritten, IsAnswerOf};
+ghost use Rattle.fjall_index.specs.Changing.{EndsIndexed, HasWritten, IsAnswerOf, RollsBack};
 ghost use Rattle.fjall_index.specs.KeptChanges.{KeepsChange};
 ghost use Rattle.fjall_index.specs.Standing.{GoesOnIndexed, KeepsIndexed, StandsIndexed, nothing, putting, where_done};
 
@@ -239,12 +239,15 @@ impl<E: Extract> Indexed<E> {
     pub fn rollback<D: Disk>(&self, core: &mut Core<D>, tx: IndexedTx) -> Result<()>
         ensures keeps { IsTrue D.honest → KeepsIndexed (E.field_of self.now.extract) self.now.main self.now.index nothing
             core.old.engine core.old.transactions core.new.engine core.new.transactions }
+        ensures told { RollsBack core.old.engine tx.transaction.ticket.id result core.new.engine }
     {
         let IndexedTx {
             transaction,
             changes: _changes,
         } = tx;
-        core.rollback(transaction)?;
-        Ok(())
+        match core.rollback(transaction) {
+            Ok(()) => Ok(()),
+            Err(error) => Err(IndexError::Engine(error)),
+        }
     }
 }
