@@ -13,9 +13,9 @@ use Rattle.fjall_machine.specs.Machine.{State}
 use Rattle.fjall_machine.specs.Shapes.{OfTickets, Open, shape_of}
 use Rattle.fjall_machine.specs.declared.call.Call.{Call}
 use Rattle.fjall_machine.specs.declared.call.Call.TheVariants.{Snapshot}
-use Rattle.fjall_core.specs.Holding.{Held}
-use Rattle.fjall_core.specs.Jobs.{KeepsJobs}
-use Rattle.fjall_core.specs.Standing.{Owes, Serves, StandsFor}
+use Rattle.fjall_transactions.specs.Holding.{Held}
+use Rattle.fjall_transactions.specs.Jobs.{KeepsJobs}
+use Rattle.fjall_transactions.specs.CoreStanding.{Owes, Serves, StandsFor}
 use Rattle.fjall_transactions.specs.Commits.{begun_reply}
 use Rattle.fjall_transactions.specs.Standing.{StandFor, Told, gone_on}
 use Rattle.fjall_transactions.specs.Transactions.{Kept, Tx, begun}

@@ -19,9 +19,9 @@ use Rattle.fjall_machine.specs.Machine.{Step}
 use Rattle.fjall_machine.specs.Shapes.{ByMode, CallShape, Close, OfChange, OfTickets, Persistence, shape_of}
 use Rattle.fjall_machine.specs.declared.call.Call.{Call}
 use Rattle.fjall_machine.specs.declared.call.Call.TheVariants.{CloseSnapshot, CommitBatch}
-use Rattle.fjall_core.specs.Holding.{Held}
-use Rattle.fjall_core.specs.Standing.{Owes, ReadsOn, Serves, held_due, reply_of}
-use Rattle.fjall_core.proofs.ServedCalls.{RunsOut}
+use Rattle.fjall_transactions.specs.Holding.{Held}
+use Rattle.fjall_transactions.specs.CoreStanding.{Owes, ReadsOn, Serves, held_due, reply_of}
+use Rattle.fjall_transactions.proofs.ServedCalls.{RunsOut}
 use Rattle.fjall_transactions.specs.Commits.{Comes, Commits, Ends, Fails, Gone, Idle, Lets, Meets, change_of}
 use Rattle.fjall_transactions.specs.Standing.{CommitStep, StandFor, Told, gone_on}
 use Rattle.fjall_transactions.specs.Transactions.{Kept, Tx}

@@ -11,9 +11,9 @@ use Rattle.fjall_machine.specs.Merging.{IsQuiet}
 use Rattle.fjall_machine.specs.Shapes.{CallShape, Close, OfTickets, Open, shape_of}
 use Rattle.fjall_machine.specs.declared.call.Call.{Call}
 use Rattle.fjall_machine.proofs.QuietSteps.{quiet_stays}
-use Rattle.fjall_core.specs.declared.jobs.Job.{Job}
-use Rattle.fjall_core.specs.declared.jobs.Job.TheVariants.{Flush, Merge}
-use Rattle.fjall_core.specs.Jobs.{IsMergeKnown, KnowsMerges}
+use Rattle.fjall_transactions.specs.CoreJob.{Job}
+use Rattle.fjall_transactions.specs.CoreJob.TheVariants.{Flush, Merge}
+use Rattle.fjall_transactions.specs.Jobs.{IsMergeKnown, KnowsMerges}
 use Rattle.fjall_transactions.specs.Commits.{change_of}
 use Rattle.fjall_transactions.specs.Standing.{CommitStep, IsCommitted, IsGone, IsIdle, IsMet, IsRefused, Told}
 use Rattle.fjall_transactions.specs.Transactions.{Tx}

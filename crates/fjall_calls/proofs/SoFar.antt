@@ -1,15 +1,15 @@
 -- A list of calls, as far as it was served.
 use Rattle.std.proofs.Common.{Bool, IsTrue, List, [], ◌∷◌, ◌++◌, refl}
 use Rattle.fjall_history.specs.declared.reply.Reply.{Reply}
-use Rattle.fjall_core.specs.declared.jobs.Job.{Job}
+use Rattle.fjall_transactions.specs.CoreJob.{Job}
 use Rattle.fjall_machine.specs.Machine.{State}
 use Rattle.fjall_machine.specs.declared.call.Call.{Call}
-use Rattle.fjall_core.specs.Durables.{Durable}
-use Rattle.fjall_core.specs.Holding.{Held}
-use Rattle.fjall_core.specs.Jobs.{KnowsMerges}
-use Rattle.fjall_core.specs.Standing.{OwesAll, ReadsOn, StandsFor, StandsOn}
-use Rattle.fjall_core.proofs.KeptMerges.{none_known}
-use Rattle.fjall_core.proofs.RunsOverCrashes.{RunsKnown, SoFar, ends, none_yet, runs_end, runs_none}
+use Rattle.fjall_transactions.specs.Durables.{Durable}
+use Rattle.fjall_transactions.specs.Holding.{Held}
+use Rattle.fjall_transactions.specs.Jobs.{KnowsMerges}
+use Rattle.fjall_transactions.specs.CoreStanding.{OwesAll, ReadsOn, StandsFor, StandsOn}
+use Rattle.fjall_transactions.proofs.KeptMerges.{none_known}
+use Rattle.fjall_transactions.proofs.RunsOverCrashes.{RunsKnown, SoFar, ends, none_yet, runs_end, runs_none}
 use Rattle.fjall_transactions.specs.Standing.{StandFor, Told}
 use Rattle.fjall_transactions.specs.Transactions.{Kept}
 use Rattle.fjall_calls.specs.Steps.{NoCall, TxRun}

@@ -17,7 +17,7 @@ use Rattle.fjall_history.specs.Checked.{IsChecked}
 use Rattle.fjall_history.specs.Serial.{ReadsChangeByTransactions}
 use Rattle.fjall_history.proofs.Resting.{answered_before}
 use Rattle.fjall_machine.specs.declared.call.Call.{Call}
-use Rattle.fjall_core.specs.Holding.{Held}
+use Rattle.fjall_transactions.specs.Holding.{Held}
 use Rattle.fjall_transactions.specs.Standing.{StandFor, Told, accepted_of, history_of}
 use Rattle.fjall_transactions.specs.Transactions.{Kept, with_items}
 use Rattle.fjall_transactions.proofs.Items.{same_reads}

@@ -8,7 +8,7 @@ use Rattle.fjall_base.proofs.Codecs.{some_is}
 use Rattle.fjall_history.specs.Histories.{Accepted, commands_of, plain}
 use Rattle.fjall_history.specs.Tickets.{Tickets}
 use Rattle.fjall_history.specs.declared.ticket.Ticket.{Ticket}
-use Rattle.fjall_core.specs.Holding.{Held}
+use Rattle.fjall_transactions.specs.Holding.{Held}
 use Rattle.fjall_transactions.specs.Commits.{is_writing}
 use Rattle.fjall_transactions.specs.Standing.{StandFor, Told, gone_on}
 use Rattle.fjall_transactions.specs.Transactions.{Kept}

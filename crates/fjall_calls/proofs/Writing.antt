@@ -19,7 +19,7 @@ use Rattle.fjall_history.specs.Checked.{before}
 use Rattle.fjall_machine.specs.Machine.{State, Step}
 use Rattle.fjall_machine.specs.declared.call.Call.{Call}
 use Rattle.fjall_machine.specs.declared.call.Call.TheVariants.{Snapshot}
-use Rattle.fjall_core.specs.Holding.{Held}
+use Rattle.fjall_transactions.specs.Holding.{Held}
 use Rattle.fjall_transactions.specs.Transactions.{Kept, Tx, begun, no_marks}
 use Rattle.fjall_transactions.specs.Standing.{CommitStep, StandFor, Told, gone_on, history_of}
 use Rattle.fjall_calls.specs.declared.call.Kind.{Kind}

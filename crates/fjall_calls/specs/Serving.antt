@@ -6,14 +6,14 @@ use Rattle.fjall_base.specs.declared.error.Error.TheVariants.{OutOfMemory}
 use Rattle.fjall_history.specs.Queries.{Get}
 use Rattle.fjall_history.specs.declared.reply.Reply.{Reply}
 use Rattle.fjall_history.specs.declared.reply.Reply.TheVariants.{Done, Flag, Pairs, Refused, Value}
-use Rattle.fjall_core.specs.declared.jobs.Job.{Job}
+use Rattle.fjall_transactions.specs.CoreJob.{Job}
 use Rattle.fjall_machine.specs.Machine.{State, Step}
 use Rattle.fjall_machine.specs.Places.{resolved}
 use Rattle.fjall_machine.specs.Shapes.{shape_of}
 use Rattle.fjall_machine.specs.declared.call.Call.{Call}
-use Rattle.fjall_core.specs.Holding.{Held}
-use Rattle.fjall_core.specs.Jobs.{KeepsJobs, KeepsMerges, KnowsMerges}
-use Rattle.fjall_core.specs.Standing.{OwesAll, ReadsOn, Runs, RunsSafely, Serves, ServesWhere, StandsFor}
+use Rattle.fjall_transactions.specs.Holding.{Held}
+use Rattle.fjall_transactions.specs.Jobs.{KeepsJobs, KeepsMerges, KnowsMerges}
+use Rattle.fjall_transactions.specs.CoreStanding.{OwesAll, ReadsOn, Runs, RunsSafely, Serves, ServesWhere, StandsFor}
 use Rattle.fjall_transactions.specs.Commits.{is_writing}
 use Rattle.fjall_transactions.specs.Transactions.{Kept, Tx}
 use Rattle.fjall_transactions.specs.Standing.{StandFor, Told}

@@ -2,10 +2,10 @@
 
 ghost use Rattle.std.specs.Prelude.{◌≡◌, ◌+◌, ◌++◌, ◌∷◌, ◌<◌, ◌≤◌, [], Err, IfOk, IsTrue, List, OnErr, false, length, true, vec_capacity, vec_len};
 ghost use Rattle.fjall_base.specs.declared.error.Error.TheVariants.{TransactionOpen};
-ghost use Rattle.fjall_core.specs.Jobs.{KeepsJobs};
-ghost use Rattle.fjall_core.specs.Standing.{Owes, Serves};
+ghost use Rattle.fjall_transactions.specs.Jobs.{KeepsJobs};
+ghost use Rattle.fjall_transactions.specs.CoreStanding.{Owes, Serves};
 ghost use Rattle.fjall_history.specs.declared.reply.Reply.{Reply as Told};
-ghost use Rattle.fjall_core.specs.declared.jobs.Job.{Job};
+ghost use Rattle.fjall_transactions.specs.CoreJob.{Job};
 ghost use Rattle.fjall_machine.specs.Shapes.{OfTickets, Open};
 ghost use Rattle.fjall_transactions.specs.Commits.{begun_reply};
 ghost use Rattle.fjall_transactions.specs.Transactions.{begun};
@@ -18,8 +18,7 @@ use crate::call::{Kind, Within};
 use crate::lookup::take_named;
 use crate::named::Named;
 use fjall_base::{Disk, Error, Result};
-use fjall_core::{Reply, reply_of};
-use fjall_transactions::{CommitOutcome, Core, Transaction};
+use fjall_transactions::{CommitOutcome, Core, Reply, Transaction, reply_of};
 
 // Begins a transaction of this kind.
 fn begun<D: Disk>(core: &mut Core<D>, kind: Kind) -> Result<Transaction>

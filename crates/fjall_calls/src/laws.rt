@@ -1,7 +1,7 @@
 //! What holds of each list of calls.
 
 ghost use Rattle.std.specs.Prelude.{◌≡◌, [], All, List, None, Some, slice_get};
-ghost use Rattle.fjall_core.specs.Holding.{Held};
+ghost use Rattle.fjall_transactions.specs.Holding.{Held};
 ghost use Rattle.fjall_history.specs.Histories.{Accepted, Commit, latest, view};
 ghost use Rattle.fjall_history.specs.declared.reply.Reply.{Reply};
 ghost use Rattle.fjall_history.specs.Checked.{before};

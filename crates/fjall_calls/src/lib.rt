@@ -11,6 +11,11 @@ mod named;
 mod serving;
 
 pub use call::{Kind, TxCall, Within};
+// What lists of calls are made of, so that who runs them lists this crate alone.
+pub use fjall_transactions::{
+    BatchItem, Call, Config, Core, Engine, JobId, KeyRange, Op, PersistMode, Reply, Ticket, View,
+    pairs_reply, reply_of, value_reply,
+};
 pub use laws::{
     the_single_writer_reads_the_present, transactions_hear_those_before,
     transactions_stand_in_the_history,

@@ -1,8 +1,7 @@
 //! What all handles of a database share.
 
 use fjall_base::{Disk, Error, Result};
-use fjall_core::{BatchItem, PersistMode};
-use fjall_shared::Shared;
+use fjall_shared::{BatchItem, PersistMode, Shared};
 use fjall_workers::{Moves, WorkerPool};
 use std::alloc::Global;
 use std::sync::atomic::AtomicBool;

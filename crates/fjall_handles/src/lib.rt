@@ -26,7 +26,6 @@ pub use fjall_base::{
     CompressionType, Disk, Error, FormatVersion, JournalRecoveryError, KeyBounds, KvPair, Refused,
     Result, Slice, StorageError, UserKey, UserValue,
 };
-pub use fjall_core::{Config, PersistMode, RecoveryMode};
 pub use fjall_folder::FolderDisk;
 pub use fjall_options::{
     BlockSizePolicy, BloomConstructionPolicy, CompressionPolicy, DecodeConfig, EncodeConfig,
@@ -34,7 +33,7 @@ pub use fjall_options::{
     PartitioningPolicy, PinningPolicy, RestartIntervalPolicy,
 };
 pub use fjall_reading::{Guard, Identified, ReadIter, Readable, prefix_to_range, prefixed_range};
-pub use fjall_transactions::{Conflict, Made};
+pub use fjall_shared::{Config, Conflict, Made, PersistMode, RecoveryMode};
 pub use fjall_workers::{Gate, OpenGate};
 pub use ingestion::Ingestion;
 pub use iter::Iter;

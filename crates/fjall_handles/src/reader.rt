@@ -4,8 +4,8 @@ ghost use Rattle.std.specs.Prelude.{⊤};
 
 use crate::inner::Inner;
 use fjall_base::{Disk, Error, KvPair, Result, UserValue};
-use fjall_core::View;
 use fjall_reading::{Identified, KeyRange, Pages, Readable};
+use fjall_shared::View;
 use std::alloc::Global;
 use std::sync::Wait;
 

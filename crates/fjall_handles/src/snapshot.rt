@@ -3,9 +3,8 @@
 use crate::inner::Inner;
 use crate::reader::Reader;
 use fjall_base::{Disk, Error, Result};
-use fjall_core::{Ticket, View};
 use fjall_folder::FolderDisk;
-use fjall_shared::{Flag, Raiser, Shared};
+use fjall_shared::{Flag, Raiser, Shared, Ticket, View};
 use std::alloc::Global;
 use std::sync::{Arc, Wait};
 

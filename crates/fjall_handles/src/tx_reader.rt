@@ -4,12 +4,11 @@ ghost use Rattle.std.specs.Prelude.{◌≡◌, ⊤};
 
 use crate::inner::Inner;
 use fjall_base::{Disk, Error, KeyBounds, KvPair, Result, UserValue};
-use fjall_core::View;
 use fjall_reading::{
     Guard, Identified, KeyRange, Pages, ReadIter, Readable, bounds_of, pair_count, prefix_to_range,
     range_of,
 };
-use fjall_transactions::Transaction;
+use fjall_shared::{Transaction, View};
 use std::alloc::Global;
 use std::mem;
 use std::ops::Bound;

@@ -2,8 +2,8 @@
 
 use crate::inner::Inner;
 use fjall_base::{Disk, Error, Result};
-use fjall_core::{FlushMade, MergeMade};
 use fjall_places::{Begun, Made, Ran};
+use fjall_shared::{FlushMade, MergeMade};
 use fjall_workers::{Bench, OpenGate, WorkerMessage, run_job};
 use std::sync::Wait;
 use std::sync::atomic::Ordering::SeqCst;

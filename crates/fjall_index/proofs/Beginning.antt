@@ -20,9 +20,9 @@ use Rattle.fjall_history.proofs.Views.{view_of_all}
 use Rattle.fjall_machine.specs.Shapes.{Open, OfTickets, TicketCall}
 use Rattle.fjall_machine.specs.Machine.{MayFail, Refuses, State, StepOf, due, maps_in, present, times}
 use Rattle.fjall_machine.proofs.Moving.{shape_moves}
-use Rattle.fjall_core.specs.Crashes.{asked, attempt, is_io}
-use Rattle.fjall_core.specs.Durables.{Durable, Passes}
-use Rattle.fjall_core.specs.Holding.{Held}
+use Rattle.fjall_transactions.specs.Crashes.{asked, attempt, is_io}
+use Rattle.fjall_transactions.specs.Durables.{Durable, Passes}
+use Rattle.fjall_transactions.specs.Holding.{Held}
 use Rattle.fjall_transactions.specs.Standing.{GoesOn, Told, gone_on}
 use Rattle.fjall_transactions.specs.Transactions.{Kept}
 use Rattle.fjall_index_entries.specs.Index.{FieldOf}

@@ -21,10 +21,10 @@ use Rattle.fjall_machine.specs.Shapes.{ByMode, Close, OfChange, OfTickets, Persi
 use Rattle.fjall_machine.specs.Machine.{MayFail, Refuses, State, StepOf, due, facts, first_due, items_refusals, present, times}
 use Rattle.fjall_machine.proofs.Dues.{may_change}
 use Rattle.fjall_machine.proofs.Moving.{shape_moves}
-use Rattle.fjall_core.specs.Crashes.{CallPasses, asked, attempt, is_io}
-use Rattle.fjall_core.specs.Durables.{Durable, Passes}
-use Rattle.fjall_core.specs.Holding.{Held}
-use Rattle.fjall_core.specs.Standing.{StandsOn}
+use Rattle.fjall_transactions.specs.Crashes.{CallPasses, asked, attempt, is_io}
+use Rattle.fjall_transactions.specs.Durables.{Durable, Passes}
+use Rattle.fjall_transactions.specs.Holding.{Held}
+use Rattle.fjall_transactions.specs.CoreStanding.{StandsOn}
 use Rattle.fjall_transactions.specs.Commits.{change_of}
 use Rattle.fjall_transactions.specs.Standing.{CommitGoesOn, CommitPasses, CommitStep, IsCommitted, IsGone, IsIdle, IsMet, IsRefused, Told, accepted_of, history_of}
 use Rattle.fjall_transactions.specs.Transactions.{Kept, MeetsSome, Tx, with_items}

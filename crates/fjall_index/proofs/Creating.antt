@@ -23,10 +23,10 @@ use Rattle.fjall_machine.proofs.Dues.{may_create}
 use Rattle.fjall_machine.proofs.Facts.{living_given}
 use Rattle.fjall_machine.proofs.Moving.{shape_moves}
 use Rattle.fjall_machine.proofs.Standing.{living_agree, next_agrees}
-use Rattle.fjall_core.specs.Crashes.{asked, attempt, is_io}
-use Rattle.fjall_core.specs.Durables.{Durable, Passes}
-use Rattle.fjall_core.specs.Holding.{Held}
-use Rattle.fjall_core.specs.Standing.{ReadsOn, StandsOn}
+use Rattle.fjall_transactions.specs.Crashes.{asked, attempt, is_io}
+use Rattle.fjall_transactions.specs.Durables.{Durable, Passes}
+use Rattle.fjall_transactions.specs.Holding.{Held}
+use Rattle.fjall_transactions.specs.CoreStanding.{ReadsOn, StandsOn}
 use Rattle.fjall_transactions.specs.Standing.{GoesOn, StandFor, Told, gone_on}
 use Rattle.fjall_transactions.specs.Transactions.{Kept}
 use Rattle.fjall_index_entries.specs.Index.{FieldOf, index_of}

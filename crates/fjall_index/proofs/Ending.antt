@@ -6,10 +6,10 @@ use Rattle.fjall_tx.specs.declared.outcome.CommitOutcome.{CommitOutcome}
 use Rattle.fjall_tx.specs.declared.outcome.CommitOutcome.TheVariants as outcomes
 use Rattle.fjall_history.specs.declared.reply.Reply.{Reply}
 use Rattle.fjall_machine.specs.Shapes.{Close, OfTickets}
-use Rattle.fjall_core.specs.Durables.{Durable}
-use Rattle.fjall_core.specs.Holding.{Held}
+use Rattle.fjall_transactions.specs.Durables.{Durable}
+use Rattle.fjall_transactions.specs.Holding.{Held}
 use Rattle.fjall_transactions.specs.Standing.{CommitGoesOn, GoesOn, StandFor, Told}
-use Rattle.fjall_core.specs.Standing.{ReadsOn}
+use Rattle.fjall_transactions.specs.CoreStanding.{ReadsOn}
 use Rattle.fjall_transactions.specs.Transactions.{Kept, Tx}
 use Rattle.fjall_index_entries.specs.Index.{FieldOf}
 use Rattle.fjall_index_entries.specs.declared.error.IndexError.{IndexError}

@@ -14,9 +14,9 @@ use Rattle.fjall_history.specs.Moves.{MovesOn, NoMove, OneMove, Times}
 use Rattle.fjall_history.specs.Serial.{ChangesByTransactions}
 use Rattle.fjall_history.proofs.Views.{one_more, view_of_all, view_stays}
 use Rattle.fjall_machine.specs.Machine.{is_living, present, times}
-use Rattle.fjall_core.specs.Durables.{Durable, MakesPresent, Passes}
-use Rattle.fjall_core.specs.Holding.{Held}
-use Rattle.fjall_core.specs.Standing.{ReadsOn, StandsOn, store_with_tables}
+use Rattle.fjall_transactions.specs.Durables.{Durable, MakesPresent, Passes}
+use Rattle.fjall_transactions.specs.Holding.{Held}
+use Rattle.fjall_transactions.specs.CoreStanding.{ReadsOn, StandsOn, store_with_tables}
 use Rattle.fjall_transactions.specs.Leaving.{LeavesStanding}
 use Rattle.fjall_transactions.specs.Standing.{StandFor, Told, history_of}
 use Rattle.fjall_transactions.specs.Transactions.{Kept}

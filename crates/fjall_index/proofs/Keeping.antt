@@ -35,8 +35,8 @@ use Rattle.fjall_history.specs.declared.reply.Reply.TheVariants.{Opened}
 use Rattle.fjall_history.specs.declared.ticket.View.TheVariants.{At}
 use Rattle.fjall_machine.specs.Machine.{maps_in, present, times}
 use Rattle.fjall_machine.specs.Shapes.{Close, OfTickets, Open}
-use Rattle.fjall_core.specs.Durables.{Durable}
-use Rattle.fjall_core.specs.Holding.{Held}
+use Rattle.fjall_transactions.specs.Durables.{Durable}
+use Rattle.fjall_transactions.specs.Holding.{Held}
 use Rattle.fjall_transactions.specs.Leaving.{LeavesStanding}
 use Rattle.fjall_transactions.specs.Shown.{Shows}
 use Rattle.fjall_transactions.specs.Standing.{CommitGoesOn, GoesOn, Told}

@@ -19,8 +19,8 @@ use Rattle.fjall_machine.specs.Machine.{CreatesOrFinds, State, due, present, tim
 use Rattle.fjall_machine.proofs.Facts.{living_given}
 use Rattle.fjall_machine.proofs.Moving.{shape_moves}
 use Rattle.fjall_machine.proofs.Standing.{a_name_resolved, living_agree, next_agrees}
-use Rattle.fjall_core.specs.Holding.{Held}
-use Rattle.fjall_core.specs.Standing.{ReadsOn, number_reply}
+use Rattle.fjall_transactions.specs.Holding.{Held}
+use Rattle.fjall_transactions.specs.CoreStanding.{ReadsOn, number_reply}
 use Rattle.fjall_transactions.specs.Leaving.{LeavesStanding}
 use Rattle.fjall_transactions.specs.Standing.{GoesOn, StandFor, Told, gone_on}
 use Rattle.fjall_transactions.specs.Transactions.{Kept}

@@ -19,8 +19,8 @@ use Rattle.fjall_machine.specs.Machine.{State, instant_of, maps_in, present}
 use Rattle.fjall_history.specs.declared.reply.Reply.{Reply}
 use Rattle.fjall_history.specs.declared.reply.Reply.TheVariants.{Opened}
 use Rattle.fjall_machine.specs.Shapes.{OfTickets, Open}
-use Rattle.fjall_core.specs.Durables.{Durable}
-use Rattle.fjall_core.specs.Holding.{Held}
+use Rattle.fjall_transactions.specs.Durables.{Durable}
+use Rattle.fjall_transactions.specs.Holding.{Held}
 use Rattle.fjall_transactions.specs.Leaving.{LeavesStanding}
 use Rattle.fjall_transactions.specs.Shown.{Shows}
 use Rattle.fjall_transactions.specs.Standing.{GoesOn, Told}

@@ -4,8 +4,8 @@ use Rattle.fjall_base.specs.Pairs.{Pairs}
 use Rattle.fjall_base.specs.Store.{map_at}
 use Rattle.fjall_history.specs.declared.ticket.View.{View}
 use Rattle.fjall_machine.specs.Machine.{State, maps_in}
-use Rattle.fjall_core.specs.Holding.{Held}
-use Rattle.fjall_core.specs.Standing.{ReadsOn, StandsFor}
+use Rattle.fjall_transactions.specs.Holding.{Held}
+use Rattle.fjall_transactions.specs.CoreStanding.{ReadsOn, StandsFor}
 use Rattle.fjall_transactions.specs.Shown.{Shows}
 
 -- a state is shown, by a core that was lent

@@ -16,9 +16,9 @@ use Rattle.fjall_history.specs.Histories.{view}
 use Rattle.fjall_history.specs.Serial.{value_at}
 use Rattle.fjall_history.specs.declared.reply.Reply.TheVariants.{Done, Refused}
 use Rattle.fjall_machine.specs.Shapes.{Close, OfTickets}
-use Rattle.fjall_core.specs.Durables.{Durable}
-use Rattle.fjall_core.specs.Holding.{Held}
-use Rattle.fjall_core.specs.Standing.{Owes}
+use Rattle.fjall_transactions.specs.Durables.{Durable}
+use Rattle.fjall_transactions.specs.Holding.{Held}
+use Rattle.fjall_transactions.specs.CoreStanding.{Owes}
 use Rattle.fjall_transactions.specs.Standing.{Told}
 use Rattle.fjall_transactions.specs.Transactions.{Kept, Tx, having_read, with_own_items}
 use Rattle.fjall_index_entries.specs.Index.{FieldOf}

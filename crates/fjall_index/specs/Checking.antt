@@ -4,8 +4,8 @@ use Rattle.std.specs.Option.{option_eq}
 use Rattle.std.specs.Str.{bytes_eq}
 use Rattle.fjall_base.specs.Pairs.{Bytes, Pairs, lookup}
 use Rattle.fjall_machine.specs.Machine.{present}
-use Rattle.fjall_core.specs.Holding.{Held}
-use Rattle.fjall_core.specs.Standing.{ReadsOn}
+use Rattle.fjall_transactions.specs.Holding.{Held}
+use Rattle.fjall_transactions.specs.CoreStanding.{ReadsOn}
 use Rattle.fjall_transactions.specs.Standing.{StandFor, Told}
 use Rattle.fjall_transactions.specs.Transactions.{Kept}
 use Rattle.fjall_index_entries.specs.Entries.{entry}

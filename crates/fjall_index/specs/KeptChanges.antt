@@ -4,8 +4,8 @@ use Rattle.fjall_base.specs.Pairs.{Bytes, lookup}
 use Rattle.fjall_base.specs.Store.{map_at}
 use Rattle.fjall_history.specs.declared.ticket.View.TheVariants.{At}
 use Rattle.fjall_machine.specs.Machine.{maps_in}
-use Rattle.fjall_core.specs.Durables.{Durable}
-use Rattle.fjall_core.specs.Holding.{Held}
+use Rattle.fjall_transactions.specs.Durables.{Durable}
+use Rattle.fjall_transactions.specs.Holding.{Held}
 use Rattle.fjall_transactions.specs.Standing.{Told}
 use Rattle.fjall_transactions.specs.Transactions.{Kept}
 use Rattle.fjall_index_entries.specs.Index.{FieldOf}

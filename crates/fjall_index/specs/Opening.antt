@@ -5,9 +5,9 @@ use Rattle.fjall_base.specs.Pairs.{Bytes}
 use Rattle.fjall_base.specs.Store.{Store}
 use Rattle.fjall_history.specs.Moves.{MovesOn}
 use Rattle.fjall_machine.specs.Machine.{present, times}
-use Rattle.fjall_core.specs.Durables.{Durable}
-use Rattle.fjall_core.specs.Holding.{Held}
-use Rattle.fjall_core.specs.Standing.{ReadsOn}
+use Rattle.fjall_transactions.specs.Durables.{Durable}
+use Rattle.fjall_transactions.specs.Holding.{Held}
+use Rattle.fjall_transactions.specs.CoreStanding.{ReadsOn}
 use Rattle.fjall_transactions.specs.Standing.{StandFor, Told}
 use Rattle.fjall_transactions.specs.Transactions.{Kept}
 use Rattle.fjall_index_entries.specs.Index.{FieldOf}

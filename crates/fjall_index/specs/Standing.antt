@@ -8,9 +8,9 @@ use Rattle.fjall_history.specs.Histories.{Accepted, view}
 use Rattle.fjall_history.specs.Moves.{MovesOn}
 use Rattle.fjall_history.specs.Serial.{ChangesByTransactions}
 use Rattle.fjall_machine.specs.Machine.{State, is_living, present, times}
-use Rattle.fjall_core.specs.Durables.{Durable}
-use Rattle.fjall_core.specs.Holding.{Held}
-use Rattle.fjall_core.specs.Standing.{ReadsOn, StandsOn}
+use Rattle.fjall_transactions.specs.Durables.{Durable}
+use Rattle.fjall_transactions.specs.Holding.{Held}
+use Rattle.fjall_transactions.specs.CoreStanding.{ReadsOn, StandsOn}
 use Rattle.fjall_transactions.specs.Standing.{StandFor, Told}
 use Rattle.fjall_transactions.specs.Transactions.{Kept}
 use Rattle.fjall_index_entries.specs.Index.{FieldOf}

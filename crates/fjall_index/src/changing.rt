@@ -6,7 +6,7 @@ ghost use Rattle.fjall_base.specs.Pairs.{Pairs, lookup};
 ghost use Rattle.fjall_base.specs.Store.{map_at};
 ghost use Rattle.fjall_history.specs.declared.ticket.View.TheVariants.{At};
 ghost use Rattle.fjall_machine.specs.Machine.{maps_in};
-ghost use Rattle.fjall_core.specs.Durables.{Durable};
+ghost use Rattle.fjall_transactions.specs.Durables.{Durable};
 ghost use Rattle.fjall_transactions.specs.Leaving.{LeavesStanding};
 ghost use Rattle.fjall_transactions.specs.Shown.{Shows};
 ghost use Rattle.fjall_transactions.specs.Standing.{Told};
@@ -20,9 +20,8 @@ use crate::indexed::Indexed;
 use crate::indexed_tx::{IndexedTx, write_kept};
 use crate::reading::value_in;
 use fjall_base::{Disk, Error, UserKey, UserValue, check_item};
-use fjall_core::{Engine, View};
 use fjall_index_entries::{Extract, IndexError, Result, own_writes_keep_the_index, put_items};
-use fjall_transactions::{CommitOutcome, Core, Transaction};
+use fjall_transactions::{CommitOutcome, Core, Engine, Transaction, View};
 use fjall_tx::own_writes_grow;
 
 // What a call answers that is one transaction. One that began at the present meets none.

@@ -6,7 +6,7 @@ ghost use Rattle.fjall_base.specs.Pairs.{Pairs, lookup};
 ghost use Rattle.fjall_base.specs.Store.{map_at};
 ghost use Rattle.fjall_history.specs.declared.ticket.View.TheVariants.{Present};
 ghost use Rattle.fjall_machine.specs.Machine.{maps_in};
-ghost use Rattle.fjall_core.specs.Standing.{ReadsOn};
+ghost use Rattle.fjall_transactions.specs.CoreStanding.{ReadsOn};
 ghost use Rattle.fjall_transactions.specs.Leaving.{LeavesStanding};
 ghost use Rattle.fjall_transactions.specs.Shown.{Shows};
 ghost use Rattle.fjall_transactions.specs.Standing.{StandFor, Told};
@@ -18,10 +18,9 @@ ghost use Rattle.fjall_index.specs.Standing.{KeepsIndexed, nothing};
 
 use crate::indexed::Indexed;
 use fjall_base::{Disk, Error, KvPair, Result, UserValue};
-use fjall_core::{Engine, View};
 use fjall_index_entries::{Extract, entry_of, find_pairs};
 use fjall_reading::{Cursor, Readable};
-use fjall_transactions::{Core, Reader};
+use fjall_transactions::{Core, Engine, Reader, View};
 use std::alloc::Global;
 use std::ops::Bound;
 

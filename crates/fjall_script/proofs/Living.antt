@@ -25,15 +25,15 @@ use Rattle.fjall_history.specs.declared.reply.Reply.{Reply}
 use Rattle.fjall_machine.specs.declared.call.Call.{Call}
 use Rattle.fjall_machine.specs.Machine.{present}
 use Rattle.fjall_history.proofs.Moving.{sound_opening}
-use Rattle.fjall_core.specs.Durables.{CrashLeavesPending, Durable}
-use Rattle.fjall_core.specs.Holding.{Held}
+use Rattle.fjall_transactions.specs.Durables.{CrashLeavesPending, Durable}
+use Rattle.fjall_transactions.specs.Holding.{Held}
 use Rattle.fjall_lives.specs.Lives.{Closed, CutBehind, Ended, Life, Lives, NoLife, OneMore, Opened, Served, Unclosed, begun, start_of}
-use Rattle.fjall_core.specs.Openings.{OpensAmid, OpensAs}
+use Rattle.fjall_transactions.specs.Openings.{OpensAmid, OpensAs}
 use Rattle.fjall_lives.proofs.LastSyncs.{a_last_sync}
 use Rattle.fjall_lives.proofs.CrashedDisks.{new_disk_tidy}
 use Rattle.fjall_lives.proofs.Lives.{lives_blame, lives_hold, lives_open}
-use Rattle.fjall_core.proofs.Reopening.{holds_store_amid}
-use Rattle.fjall_core.proofs.RunsOverCrashes.{no_run}
+use Rattle.fjall_transactions.proofs.Reopening.{holds_store_amid}
+use Rattle.fjall_transactions.proofs.RunsOverCrashes.{no_run}
 use Rattle.fjall_transactions.specs.Standing.{StandFor}
 use Rattle.fjall_transactions.specs.Transactions.{Kept, none_kept}
 use Rattle.fjall_transactions.proofs.Standing.{opening_stands}

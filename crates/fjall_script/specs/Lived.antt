@@ -8,11 +8,11 @@ use Rattle.fjall_meta.specs.Keyspaces.{no_keyspaces}
 use Rattle.fjall_contents.specs.Replays.{bare}
 use Rattle.fjall_history.specs.declared.reply.Reply.{Reply}
 use Rattle.fjall_machine.specs.declared.call.Call.{Call}
-use Rattle.fjall_core.specs.Holding.{Held}
-use Rattle.fjall_core.specs.Crashes.{BlamesEach}
+use Rattle.fjall_transactions.specs.Holding.{Held}
+use Rattle.fjall_transactions.specs.Crashes.{BlamesEach}
 use Rattle.fjall_lives.specs.Lives.{AreLeftOf, Life, Lives, Served, all_left, begun, start_of}
-use Rattle.fjall_core.specs.Openings.{OpensAmid, OpensAs}
-use Rattle.fjall_core.specs.Standing.{ReadsOn}
+use Rattle.fjall_transactions.specs.Openings.{OpensAmid, OpensAs}
+use Rattle.fjall_transactions.specs.CoreStanding.{ReadsOn}
 use Rattle.fjall_transactions.specs.Standing.{StandFor, Told}
 use Rattle.fjall_transactions.specs.Transactions.{Kept}
 use Rattle.fjall_calls.specs.declared.call.TxCall.{TxCall}

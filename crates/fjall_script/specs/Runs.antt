@@ -14,7 +14,7 @@ use Rattle.fjall_script.specs.declared.program.Status.TheVariants.{Failure}
 use Rattle.fjall_script.specs.Statuses.{status_code}
 use Rattle.fjall_script.specs.Answers.{refusal_line, text_of}
 use Rattle.fjall_script.specs.Outputs.{IsIoOrMemory}
-use Rattle.fjall_core.specs.Holding.{Held}
+use Rattle.fjall_transactions.specs.Holding.{Held}
 use Rattle.fjall_transactions.specs.Transactions.{Kept}
 use Rattle.fjall_script.specs.Lived.{HasLived}
 use Rattle.fjall_script.specs.Machine.{IsClosed, NotBegun}

@@ -8,7 +8,7 @@ use Rattle.fjall_base.specs.declared.error.Error.{Error}
 use Rattle.fjall_base.specs.declared.error.Error.TheVariants.{OutOfMemory}
 use Rattle.fjall_memory.specs.Wild.{filled}
 use Rattle.fjall_wild.specs.Wild.{SurvivesUnforged}
-use Rattle.fjall_core.specs.Holding.{Held}
+use Rattle.fjall_transactions.specs.Holding.{Held}
 use Rattle.fjall_transactions.specs.Transactions.{Kept, none_kept}
 use Rattle.fjall_calls.specs.declared.call.TxCall.{TxCall}
 use Rattle.fjall_calls.specs.Serving.{RunsTx}

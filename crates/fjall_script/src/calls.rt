@@ -8,9 +8,9 @@ ghost use Rattle.fjall_calls.specs.declared.call.TxCall.TheVariants as tx;
 
 use fjall_base::{Error, Result, Slice, UserValue};
 use fjall_calls::{Kind, TxCall, Within};
-use fjall_core::{BatchItem, Call, JobId, Op, PersistMode, Ticket, View};
 use fjall_lines::{Command, Request, Write};
 use fjall_options::KeyspaceCreateOptions;
+use fjall_transactions::{BatchItem, Call, JobId, Op, PersistMode, Ticket, View};
 use std::alloc::Global;
 use std::ops::Bound;
 

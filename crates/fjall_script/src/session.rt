@@ -14,10 +14,9 @@ use crate::output::write_text;
 use crate::place::Place;
 use fjall_base::{Disk, Error, Result};
 use fjall_calls::run;
-use fjall_core::{Config, Reply};
 use fjall_journal::RecoveryMode;
 use fjall_lines::Command;
-use fjall_transactions::Core;
+use fjall_transactions::{Config, Core, Reply};
 use std::alloc::{AllocError, Global};
 use std::io::Write;
 

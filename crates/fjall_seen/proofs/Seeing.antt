@@ -26,10 +26,10 @@ use Rattle.fjall_history.specs.Queries.{Get}
 use Rattle.fjall_machine.specs.Machine.{CreatesOrFinds, State, instant_of, present}
 use Rattle.fjall_machine.specs.Shapes.{AsKeyspace, ByMode, OfCreation, OfRead, OfTickets, Open, of_write}
 use Rattle.fjall_machine.proofs.Viewing.{latest_grown}
-use Rattle.fjall_core.specs.Holding.{Held}
-use Rattle.fjall_core.specs.Standing.{Owes, StandsFor, number_reply, reply_of, ticket_reply, value_reply}
-use Rattle.fjall_transactions.specs.Standing.{CommitStep, IsCommitted, IsGone, IsIdle, IsMet, IsRefused, Told, history_of}
-use Rattle.fjall_transactions.specs.Transactions.{MeetsSome, Tx}
+use Rattle.fjall_shared.specs.Holding.{Held}
+use Rattle.fjall_shared.specs.CoreStanding.{Owes, StandsFor, number_reply, reply_of, ticket_reply, value_reply}
+use Rattle.fjall_shared.specs.Standing.{CommitStep, IsCommitted, IsGone, IsIdle, IsMet, IsRefused, Told, history_of}
+use Rattle.fjall_shared.specs.Transactions.{MeetsSome, Tx}
 use Rattle.fjall_shared.specs.Takings.{Lists, Never, taking}
 use Rattle.fjall_shared.specs.Locked.{IsTied, Locked, list_of}
 use Rattle.fjall_shared.specs.Does.{ClosesNone, ClosesOne, ClosesTickets, Does, DoesCommit, entry_of}

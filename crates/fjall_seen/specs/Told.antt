@@ -10,7 +10,7 @@ use Rattle.fjall_tx.specs.declared.outcome.CommitOutcome.{CommitOutcome}
 use Rattle.fjall_tx.specs.declared.outcome.CommitOutcome.TheVariants as outcomes
 use Rattle.fjall_history.specs.Histories.{Accepted, History, commits, grown, latest, plain}
 use Rattle.fjall_machine.specs.Machine.{is_deleted, is_unknown, some_deleted, some_unknown}
-use Rattle.fjall_transactions.specs.Transactions.{MeetsSome, Tx}
+use Rattle.fjall_shared.specs.Transactions.{MeetsSome, Tx}
 use Rattle.fjall_shared.specs.Does.{entry_of}
 
 -- the list ends with this

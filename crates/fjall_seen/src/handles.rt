@@ -3,9 +3,7 @@
 use crate::database::Database;
 use crate::naming::Naming;
 use fjall_base::Disk;
-use fjall_core::Ticket;
-use fjall_shared::Raiser;
-use fjall_transactions::Transaction;
+use fjall_shared::{Raiser, Ticket, Transaction};
 use std::alloc::Global;
 use std::sync::Arc;
 

@@ -9,6 +9,7 @@ mod opened;
 mod seen;
 
 pub use database::Database;
+pub use fjall_shared::{CommitOutcome, Config};
 pub use handles::{Snapshot, WriteTransaction};
 pub use naming::{Naming, Plain};
 pub use opened::Opened;

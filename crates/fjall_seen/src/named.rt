@@ -8,19 +8,17 @@ ghost use Rattle.fjall_tx.specs.Marks.{OfKey};
 ghost use Rattle.fjall_tx.specs.Owns.{own_written};
 ghost use Rattle.fjall_history.specs.Histories.{latest, number, view};
 ghost use Rattle.fjall_history.specs.Moves.{HasGrown};
-ghost use Rattle.fjall_core.specs.Standing.{reply_of};
+ghost use Rattle.fjall_shared.specs.CoreStanding.{reply_of};
 ghost use Rattle.fjall_machine.specs.Shapes.{of_write};
-ghost use Rattle.fjall_transactions.specs.Transactions.{begun, having_read, no_marks};
+ghost use Rattle.fjall_shared.specs.Transactions.{begun, having_read, no_marks};
 ghost use Rattle.fjall_shared.specs.Locked.{list_of};
 ghost use Rattle.fjall_shared.specs.Takings.{Lists, taking};
 ghost use Rattle.fjall_seen.specs.Told.{CommitTold, EndsWithWrite, HasName, IsChangeCause, IsReadCause};
 
 use crate::naming::Naming;
 use fjall_base::{Disk, Error, Result, UserKey, UserValue};
-use fjall_core::{Ticket, View};
 use fjall_options::KeyspaceCreateOptions;
-use fjall_shared::{Flag, Shared};
-use fjall_transactions::{CommitOutcome, Transaction};
+use fjall_shared::{CommitOutcome, Flag, Shared, Ticket, Transaction, View};
 use fjall_word::SeenSeat;
 use std::marker::{Model, PhantomData};
 

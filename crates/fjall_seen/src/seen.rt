@@ -8,7 +8,7 @@ ghost use Rattle.fjall_tx.specs.Marks.{OfKey};
 ghost use Rattle.fjall_tx.specs.Owns.{own_written};
 ghost use Rattle.fjall_history.specs.Histories.{latest, number, view};
 ghost use Rattle.fjall_history.specs.Moves.{HasGrown};
-ghost use Rattle.fjall_transactions.specs.Transactions.{begun, having_read, no_marks};
+ghost use Rattle.fjall_shared.specs.Transactions.{begun, having_read, no_marks};
 ghost use Rattle.fjall_seen.specs.Told.{CommitTold, EndsWithWrite, HasName, IsChangeCause, IsReadCause};
 
 use crate::database::Database;
@@ -16,8 +16,7 @@ use crate::handles::{Snapshot, WriteTransaction};
 use crate::naming::Naming;
 use fjall_base::{Disk, Error, Result, UserKey, UserValue};
 use fjall_options::KeyspaceCreateOptions;
-use fjall_shared::Flag;
-use fjall_transactions::CommitOutcome;
+use fjall_shared::{CommitOutcome, Flag};
 use fjall_word::SeenSeat;
 use std::alloc::{AllocError, Global};
 use std::marker::Model;

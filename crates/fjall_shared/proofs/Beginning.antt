@@ -6,8 +6,8 @@ use Rattle.fjall_base.specs.Store.{Command, Store, fold, kept}
 use Rattle.fjall_recovery.specs.Amid.{IsBeginning, StandsAmid}
 use Rattle.fjall_history.specs.Histories.{History, number}
 use Rattle.fjall_machine.specs.Machine.{State}
-use Rattle.fjall_core.specs.Holding.{Held}
-use Rattle.fjall_core.specs.Openings.{ForHeld, IsLeftWildly, OpensAmid, OpensAs, OpensWithin, opened_as}
+use Rattle.fjall_transactions.specs.Holding.{Held}
+use Rattle.fjall_transactions.specs.Openings.{ForHeld, IsLeftWildly, OpensAmid, OpensAs, OpensWithin, opened_as}
 use Rattle.fjall_transactions.specs.Standing.{Told}
 use Rattle.fjall_transactions.specs.Transactions.{none_kept}
 use Rattle.fjall_transactions.proofs.Standing.{opening_stands, same_number}

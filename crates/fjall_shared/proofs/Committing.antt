@@ -18,8 +18,8 @@ use Rattle.fjall_history.specs.Histories.{Accepted, History, grown, number}
 use Rattle.fjall_machine.specs.Machine.{State, StepOf}
 use Rattle.fjall_machine.specs.Shapes.{ByMode, Close, OfChange, OfTickets, Persistence}
 use Rattle.fjall_machine.proofs.Viewing.{number_grown}
-use Rattle.fjall_core.specs.Holding.{Held}
-use Rattle.fjall_core.specs.Standing.{Owes, ReadsOn, StandsFor}
+use Rattle.fjall_transactions.specs.Holding.{Held}
+use Rattle.fjall_transactions.specs.CoreStanding.{Owes, ReadsOn, StandsFor}
 use Rattle.fjall_transactions.specs.Commits.{AsksFor, Comes, Commits, Ends, Fails, Gone, Idle, Lets, Meets, change_of}
 use Rattle.fjall_transactions.specs.Standing.{CommitGoesOn, CommitLeadsOn, CommitStep, IsCommitted, IsGone, IsIdle, IsMet, IsRefused, StandFor, Told, accepted_of, history_of}
 use Rattle.fjall_transactions.specs.Transactions.{Kept, Tx}

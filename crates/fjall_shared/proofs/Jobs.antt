@@ -14,8 +14,8 @@ use Rattle.fjall_machine.specs.Machine.{BeginsMerge, State, StepOf, begins_merge
 use Rattle.fjall_machine.specs.Merging.{KnowsMerge}
 use Rattle.fjall_machine.specs.Shapes.{CallShape, OfFlushBegin, OfFlushFinish, OfMergeBegin, OfMergeFinish}
 use Rattle.fjall_machine.specs.declared.merge_kind.MergeKind.{MergeKind}
-use Rattle.fjall_core.specs.Holding.{Held}
-use Rattle.fjall_core.specs.Standing.{KnowsIfDue, KnowsMergeIfDue, Owes, ReadsOn, Serves, ServesWhere, StandsFor, flag_reply, job_of}
+use Rattle.fjall_transactions.specs.Holding.{Held}
+use Rattle.fjall_transactions.specs.CoreStanding.{KnowsIfDue, KnowsMergeIfDue, Owes, ReadsOn, Serves, ServesWhere, StandsFor, flag_reply, job_of}
 use Rattle.fjall_places.specs.Labels.{Label}
 use Rattle.fjall_transactions.specs.Standing.{GoesOn, Told}
 use Rattle.fjall_transactions.proofs.Standing.{served_goes_on, shape_stands}

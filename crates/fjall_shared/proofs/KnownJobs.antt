@@ -11,9 +11,9 @@ use Rattle.fjall_machine.specs.Remembered.{KnowsTask}
 use Rattle.fjall_machine.specs.Shapes.{CallShape, Close, OfTickets}
 use Rattle.fjall_machine.proofs.KnownMerges.{a_known_merge_stays}
 use Rattle.fjall_machine.proofs.QuietSteps.{quiet_stays}
-use Rattle.fjall_core.specs.Holding.{Held}
-use Rattle.fjall_core.specs.Standing.{Owes, StandsFor}
-use Rattle.fjall_core.proofs.KeptJobs.{flush_known}
+use Rattle.fjall_transactions.specs.Holding.{Held}
+use Rattle.fjall_transactions.specs.CoreStanding.{Owes, StandsFor}
+use Rattle.fjall_transactions.proofs.KeptJobs.{flush_known}
 use Rattle.fjall_places.specs.Labels.{Label}
 use Rattle.fjall_transactions.specs.Commits.{change_of}
 use Rattle.fjall_transactions.specs.Standing.{CommitStep, IsCommitted, IsGone, IsIdle, IsMet, IsRefused, Told}

@@ -13,9 +13,9 @@ use Rattle.fjall_machine.specs.Machine.{begins_flush, is_flushing, is_living, is
 use Rattle.fjall_machine.specs.Remembered.{Remembered}
 use Rattle.fjall_machine.specs.Remembered as memory
 use Rattle.fjall_machine.specs.Shapes.{OfChange, OfCount, OfCreation, OfDeletion, OfFlushBegin, OfFlushFinish, OfHandle, OfIngestion, OfJournalRotation, OfMaintenance, OfMergeBegin, OfMergeFinish, OfPersist, OfRead, OfRotation, OfTickets, OneLess, OneMore, Persistence, CallShape}
-use Rattle.fjall_core.specs.Holding.{Held}
-use Rattle.fjall_core.specs.Standing.{EvictsInMemory, FindsDisorder, Gives, IngestionPoisons, Looks, LooksAt, Owes, OwesBegin, OwesChange, OwesFailure, OwesFinish, OwesIngestion, OwesMerge, OwesMergeBegin}
-use Rattle.fjall_core.specs.Standing.{OwesRefusal, RanOut, WorkPoisons, at_fault, begins_merge_in, evicted_in_memory, held_due, is_long, journal_synced, store_in, tables_of, takes_effect}
+use Rattle.fjall_transactions.specs.Holding.{Held}
+use Rattle.fjall_transactions.specs.CoreStanding.{EvictsInMemory, FindsDisorder, Gives, IngestionPoisons, Looks, LooksAt, Owes, OwesBegin, OwesChange, OwesFailure, OwesFinish, OwesIngestion, OwesMerge, OwesMergeBegin}
+use Rattle.fjall_transactions.specs.CoreStanding.{OwesRefusal, RanOut, WorkPoisons, at_fault, begins_merge_in, evicted_in_memory, held_due, is_long, journal_synced, store_in, tables_of, takes_effect}
 use Rattle.fjall_shared.specs.Takings.{Counts, CountsOn, taking}
 
 module _ (old new : Held) where

@@ -13,8 +13,8 @@ use Rattle.fjall_history.specs.Histories.{Accepted, History, grown, number, plai
 use Rattle.fjall_machine.specs.Machine.{State, StepOf}
 use Rattle.fjall_machine.specs.Shapes.{CallShape, OfChange, OfIngestion, Persistence}
 use Rattle.fjall_machine.proofs.Viewing.{number_grown}
-use Rattle.fjall_core.specs.Holding.{Held}
-use Rattle.fjall_core.specs.Standing.{Owes, ReadsOn, Serves}
+use Rattle.fjall_transactions.specs.Holding.{Held}
+use Rattle.fjall_transactions.specs.CoreStanding.{Owes, ReadsOn, Serves}
 use Rattle.fjall_transactions.specs.Standing.{GoesOn, StandFor, Told, gone_on, history_of}
 use Rattle.fjall_transactions.specs.Transactions.{Kept}
 use Rattle.fjall_transactions.proofs.Standing.{same_number, served_goes_on}

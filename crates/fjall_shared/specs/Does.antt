@@ -11,7 +11,7 @@ use Rattle.fjall_history.specs.declared.reply.Reply.{Reply}
 use Rattle.fjall_history.specs.declared.reply.Reply.TheVariants.{Began, Refused}
 use Rattle.fjall_machine.specs.Machine.{StepOf}
 use Rattle.fjall_machine.specs.Shapes.{CallShape, Close, OfHandle, OfTickets, OneLess}
-use Rattle.fjall_core.specs.Standing.{LeadsOn, Owes, flag_reply, job_of}
+use Rattle.fjall_transactions.specs.CoreStanding.{LeadsOn, Owes, flag_reply, job_of}
 use Rattle.fjall_places.specs.Labels.{Label}
 use Rattle.fjall_transactions.specs.Commits.{Ends}
 use Rattle.fjall_transactions.specs.Standing.{CommitLeadsOn, CommitStep, Told, accepted_of}

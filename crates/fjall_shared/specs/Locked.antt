@@ -4,8 +4,8 @@ use Rattle.fjall_history.specs.Histories.{History, number}
 use Rattle.fjall_machine.specs.Machine.{State}
 use Rattle.fjall_machine.specs.Merging.{KnowsMerge}
 use Rattle.fjall_machine.specs.Remembered.{KnowsTask}
-use Rattle.fjall_core.specs.Holding.{Held}
-use Rattle.fjall_core.specs.Standing.{ReadsOn}
+use Rattle.fjall_transactions.specs.Holding.{Held}
+use Rattle.fjall_transactions.specs.CoreStanding.{ReadsOn}
 use Rattle.fjall_places.specs.Labels.{Label}
 use Rattle.fjall_transactions.specs.Standing.{StandFor, Told, history_of}
 use Rattle.fjall_transactions.specs.Transactions.{Kept}

@@ -17,5 +17,10 @@ mod telling;
 mod transactions;
 mod upkeep;
 
+// What stands above names these words of transactions, and lists this crate alone.
+pub use fjall_transactions::{
+    BatchItem, CommitOutcome, Config, Conflict, FlushMade, Made, MergeMade, PersistMode,
+    RecoveryMode, Ticket, Transaction, View,
+};
 pub use flags::{Flag, Raiser};
 pub use shared::Shared;

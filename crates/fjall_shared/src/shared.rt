@@ -6,9 +6,8 @@ ghost use Rattle.fjall_history.specs.Moves.{HasGrown};
 
 use crate::flags::Flag;
 use fjall_base::Disk;
-use fjall_core::{Engine, FlushMade, MergeMade, Ticket};
 use fjall_places::Out;
-use fjall_transactions::Core;
+use fjall_transactions::{Core, Engine, FlushMade, MergeMade, Ticket};
 use fjall_word::{CoreSeat, SeenSeat, Word};
 use std::alloc::{AllocError, Global};
 use std::marker::Model;

@@ -4,7 +4,7 @@ ghost use Rattle.std.specs.Prelude.{◌≡◌, Err, None, Some, false, true, IfO
 ghost use Rattle.fjall_base.specs.declared.error.Error.TheVariants.{TransactionOpen};
 ghost use Rattle.fjall_tx.specs.Oracles.{pruned};
 ghost use Rattle.fjall_machine.specs.Shapes.{Close, OfTickets, Open};
-ghost use Rattle.fjall_core.specs.Standing.{reply_of};
+ghost use Rattle.fjall_transactions.specs.CoreStanding.{reply_of};
 ghost use Rattle.fjall_transactions.specs.Commits.{begun_reply, is_writing};
 ghost use Rattle.fjall_transactions.specs.Transactions.{begun, no_marks};
 ghost use Rattle.fjall_shared.specs.Does.{Does, DoesCommit, MakesCall};

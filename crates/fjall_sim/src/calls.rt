@@ -2,8 +2,7 @@
 
 use crate::items::{counted, items, name, options, pairs};
 use crate::list::{List, Wording, Work};
-use fjall_calls::{Kind, Within};
-use fjall_core::{Call, KeyRange, Op, PersistMode, View};
+use fjall_calls::{Call, KeyRange, Kind, Op, PersistMode, View, Within};
 use fjall_recorder::{LineError, Parsed, bytes, durability, mode, number, op, range, size, value};
 use std::alloc::Global;
 use std::ops::Bound;

@@ -5,7 +5,7 @@ use crate::calls::read_page;
 use crate::list::Wording;
 use crate::session::Session;
 use fjall_base::Result;
-use fjall_core::{Engine, Reply, Ticket, View, pairs_reply, reply_of, value_reply};
+use fjall_calls::{Engine, Reply, Ticket, View, pairs_reply, reply_of, value_reply};
 use fjall_recorder::{Handle, LineError, Parsed, bytes, number, size};
 use std::alloc::Global;
 

@@ -1,7 +1,7 @@
 //! What several words of a line spell together: names, options, items of batches and of ingestions.
 
 use fjall_base::Slice;
-use fjall_core::{BatchItem, Op};
+use fjall_calls::{BatchItem, Op};
 use fjall_options::{KeyspaceCreateOptions, Leveled};
 use fjall_recorder::{LineError, Parsed, byte, bytes, number, op};
 use std::alloc::Global;

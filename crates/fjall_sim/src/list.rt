@@ -1,7 +1,6 @@
 //! The calls that lines make, and how the reply to each line is worded.
 
-use fjall_calls::{Kind, TxCall, Within};
-use fjall_core::{Call, JobId, Ticket};
+use fjall_calls::{Call, JobId, Kind, Ticket, TxCall, Within};
 use fjall_recorder::{Parsed, number, size};
 use std::alloc::Global;
 

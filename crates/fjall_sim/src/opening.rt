@@ -3,11 +3,10 @@
 use crate::answer::{pairs, word};
 use crate::session::{SHUT, Session};
 use fjall_base::{Result, Slice};
-use fjall_core::{Config, Engine, View};
+use fjall_calls::{Config, Core, Engine, View};
 use fjall_memory::MemoryDisk;
 use fjall_options::KeyspaceCreateOptions;
 use fjall_recorder::{Handle, LineError, Parsed};
-use fjall_transactions::Core;
 use std::alloc::Global;
 use std::ops::Bound;
 

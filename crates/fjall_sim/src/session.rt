@@ -4,10 +4,8 @@ use crate::answer::{answer, refusal, undone};
 use crate::list::{List, Wording};
 use crate::own::is_own;
 use fjall_base::{Error, Result};
-use fjall_calls::{TxCall, run};
-use fjall_core::{Reply, Ticket};
+use fjall_calls::{Core, Reply, Ticket, TxCall, run};
 use fjall_recorder::{Handle, LineError, Parsed, Tape};
-use fjall_transactions::Core;
 use std::alloc::Global;
 use std::mem;
 

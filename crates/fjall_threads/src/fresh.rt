@@ -3,10 +3,9 @@
 ghost use Rattle.std.specs.Prelude.{◌≡◌, Some};
 
 use anyhow::{Context, Result};
-use fjall_core::Config;
 use fjall_memory::MemoryDisk;
 use fjall_options::KeyspaceCreateOptions;
-use fjall_seen::{Naming, Opened, Seen};
+use fjall_seen::{Config, Naming, Opened, Seen};
 use std::alloc::Global;
 use std::sync::Wait;
 

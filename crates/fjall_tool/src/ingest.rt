@@ -1,9 +1,9 @@
 //! Brings a bulk write into a keyspace of a database.
 
 use fjall_base::{Disk, Result};
-use fjall_core::{Config, Engine};
 use fjall_folder::FolderDisk;
 use fjall_options::KeyspaceCreateOptions;
+use fjall_script::{Config, Engine};
 use fjall_writes::Ingestion;
 use std::alloc::Global;
 

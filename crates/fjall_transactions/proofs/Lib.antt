@@ -1,3 +1,10 @@
+-- The core's lemmas that those above cite.
+pub use Rattle.fjall_core.proofs.CrashedDisks
+pub use Rattle.fjall_core.proofs.KeptJobs
+pub use Rattle.fjall_core.proofs.KeptMerges
+pub use Rattle.fjall_core.proofs.Reopening
+pub use Rattle.fjall_core.proofs.RunsOverCrashes
+pub use Rattle.fjall_core.proofs.ServedCalls
 mod Reading
 pub mod Items
 pub mod Standing

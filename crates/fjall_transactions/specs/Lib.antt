@@ -1,3 +1,11 @@
+-- The core's words that clauses cite, so that who stands on transactions lists no core.
+pub use Rattle.fjall_core.specs.Crashes
+pub use Rattle.fjall_core.specs.Durables
+pub use Rattle.fjall_core.specs.Holding
+pub use Rattle.fjall_core.specs.Jobs
+pub use Rattle.fjall_core.specs.Openings
+pub use Rattle.fjall_core.specs.Standing as CoreStanding
+pub use Rattle.fjall_core.specs.declared.jobs.Job as CoreJob
 pub mod Alike
 pub mod Leaving
 pub mod Shown

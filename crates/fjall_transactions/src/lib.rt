@@ -12,7 +12,12 @@ mod transaction_reader;
 mod transactions;
 mod updates;
 
+// The core's words, so that who stands on transactions lists no core.
 pub use cores::Core;
+pub use fjall_core::{
+    BatchItem, Call, Config, Engine, FlushMade, Job, JobId, KeyRange, MergeMade, Op, PersistMode,
+    RecoveryMode, Reply, Ticket, View, pairs_reply, reply_of, value_reply,
+};
 pub use fjall_tx::{CommitOutcome, Conflict, OwnWrites};
 pub use laws::{
     a_call_of_the_core_stands, a_commit_stands, an_opening_stands, conflicts_are_exact,

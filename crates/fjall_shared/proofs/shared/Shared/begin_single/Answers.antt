@@ -1,7 +1,7 @@
 use Rattle.std.proofs.Common.{◌≡◌, Bool, true, false, Result, OnErr, refl, subst, sym}
 use Rattle.fjall_base.specs.declared.error.Error.{Error}
 use Rattle.fjall_machine.specs.Shapes.{OfTickets, Open}
-use Rattle.fjall_core.specs.Holding.{Held}
+use Rattle.fjall_transactions.specs.Holding.{Held}
 use Rattle.fjall_transactions.specs.Commits.{begun_reply, is_writing}
 use Rattle.fjall_transactions.specs.Transactions.{Kept, Tx}
 use Rattle.fjall_shared.specs.Locked.{IsSettled, Locked}

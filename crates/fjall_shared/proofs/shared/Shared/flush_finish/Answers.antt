@@ -2,7 +2,7 @@ use Rattle.std.proofs.Common.{◌≡◌, ◌∙◌, List, set, get_or, take, dro
 use Rattle.std.specs.Prelude.{remove, slice_get}
 use Rattle.std.proofs.lemmas.Option.{slice_get_within}
 use Rattle.fjall_machine.specs.Shapes.{OfFlushFinish}
-use Rattle.fjall_core.specs.Standing.{KnowsIfDue, Owes, Serves, finish_reply, flag_reply, job_of}
+use Rattle.fjall_transactions.specs.CoreStanding.{KnowsIfDue, Owes, Serves, finish_reply, flag_reply, job_of}
 use Rattle.fjall_places.specs.Labels.{Label, flush_made_of}
 use Rattle.fjall_shared.specs.Locked.{IsSettled, Locked}
 use Rattle.fjall_shared.specs.Does.{FinishesJob, with_flushes}

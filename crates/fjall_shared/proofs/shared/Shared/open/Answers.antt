@@ -1,6 +1,6 @@
 use Rattle.std.proofs.Common.{◌∙◌, List, ap, subst, sym}
 use Rattle.fjall_base.specs.Disk.{Meaning}
-use Rattle.fjall_core.specs.Openings.{KeepsStore, OpensAmid, OpensWithin}
+use Rattle.fjall_transactions.specs.Openings.{KeepsStore, OpensAmid, OpensWithin}
 use Rattle.fjall_places.specs.Labels.{Label}
 use Rattle.fjall_transactions.specs.Transactions.{Kept}
 use Rattle.fjall_word.specs.Seats.{Place}
