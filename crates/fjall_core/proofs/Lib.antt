@@ -1,7 +1,7 @@
 mod Refusals
 pub mod CrashesInRuns
 mod ApproximateLengths
-mod AttemptedCommands
+pub mod AttemptedCommands
 pub mod RunsOverCrashes
 mod ResolvedRuns
 mod CrashImages

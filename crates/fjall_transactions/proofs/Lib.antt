@@ -1,4 +1,5 @@
 -- The core's lemmas that those above cite.
+pub use Rattle.fjall_core.proofs.AttemptedCommands
 pub use Rattle.fjall_core.proofs.CrashedDisks
 pub use Rattle.fjall_core.proofs.KeptJobs
 pub use Rattle.fjall_core.proofs.KeptMerges
