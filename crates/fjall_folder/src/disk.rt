@@ -21,9 +21,9 @@ use std::alloc::Global;
 /// A name that leads to nothing below the folder is a fault, `Error::Io(InvalidInput)`, and the system isn't
 /// asked: one with a part that is empty, `.` or `..`. So is `lock`, the disk's own file, which no list tells
 /// of. A name that leads over a link below the folder is a fault too, `Error::Io(FilesystemLoop)`: what the
-/// link leads to isn't the folder's. Lists tell a link as a file, and pass over names that aren't UTF-8: what
-/// has such a name stays where it is, and a folder that holds nothing else counts as empty, and stays too
-/// where it is removed.
+/// link leads to isn't the folder's. So is that of a pipe, a socket or a device, `Error::Io(Unsupported)`. Lists
+/// tell all of these as files, and pass over names that aren't UTF-8: what has such a name stays where it is,
+/// and a folder that holds nothing else counts as empty, and stays too where it is removed.
 ///
 /// A file that was made or appended to stays open, 16 at most, so that an append is one `write` and a sync
 /// one `fdatasync`; so does one of which parts are read, 64 at most, so that a part is one `pread` after a look

@@ -7,7 +7,7 @@ ghost use Rattle.fjall_folder.specs.Refusals.{FailsUnless};
 
 use crate::kept::{KeptFile, KeptFiles};
 use crate::names::{check_name, is_usable};
-use crate::paths::{is_missing, make_folder, open_file, read_folder, refuse_link, sync_folder};
+use crate::paths::{is_missing, make_folder, open_file, read_folder, refuse_special, sync_folder};
 use fjall_base::DirEntry;
 use std::alloc::{AllocError, Global};
 use std::fs::{self, File, OpenOptions};
@@ -90,12 +90,12 @@ impl Folder {
         })
     }
 
-    // Refuses a name that leads over a link below the root: what stands behind it isn't the folder's.
-    fn check_links(&self, name: &str) -> io::Result<()> {
+    // Refuses a name that leads over something else than folders and files below the root: what stands behind a link isn't the folder's.
+    fn check_parts(&self, name: &str) -> io::Result<()> {
         let mut at = self.path.to_path_buf(self.alloc)?;
         for part in name.split('/') {
             at.push(part)?;
-            refuse_link(&self.rt, at.as_path())?;
+            refuse_special(&self.rt, at.as_path())?;
         }
         Ok(())
     }
@@ -106,7 +106,7 @@ impl Folder {
         ensures path { IfOk result (λ path. path_buf_bytes path ≡ path_join (path_buf_bytes self.now.path) name.now) }
     {
         check_name(name)?;
-        self.check_links(name)?;
+        self.check_parts(name)?;
         Ok(self.path.join(self.alloc, name)?)
     }
 

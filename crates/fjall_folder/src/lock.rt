@@ -4,7 +4,7 @@ ghost use Rattle.std.specs.Prelude.{◌≡◌, ◌+◌, ◌<◌, ◌≤◌, fals
 ghost use Rattle.fjall_folder.specs.Refusals.{IsFolderRefusal};
 
 use crate::faults::refusal;
-use crate::paths::{open_file, refuse_link};
+use crate::paths::{open_file, refuse_special};
 use fjall_base::{Error, Result};
 use std::fs::{File, OpenOptions, TryLockError};
 use std::io;
@@ -57,13 +57,13 @@ impl LockedFileGuard {
     /// Makes the file where it is missing, and asks for its lock three times, without a pause.
     ///
     /// It fails with `Error::Locked` where another owner has the lock, in this process or in another one,
-    /// and with `Error::Io` where the system fails, or a link stands there.
+    /// and with `Error::Io` where the system fails, or something else than a file stands there.
     pub fn lock(rt: &HostRuntime, path: Path<'_>) -> Result<LockedFileGuard>
         ensures cause { IfErr result IsFolderRefusal }
     {
         let mut options = OpenOptions::new();
         options.read(true).write(true).create(true);
-        refuse_link(rt, path).map_err(refusal)?;
+        refuse_special(rt, path).map_err(refusal)?;
         let file = open_file(rt, &options, path).map_err(refusal)?;
         let mut request = LockRequest { file, asked: 0 };
         if !request.settle().map_err(refusal)? {

@@ -122,10 +122,12 @@ pub(crate) fn is_folder(rt: &HostRuntime, path: Path<'_>) -> bool {
     }
 }
 
-/// Refuses a path at which a link stands, with `FilesystemLoop`, as the system refuses one that isn't to be followed.
-pub(crate) fn refuse_link(rt: &HostRuntime, path: Path<'_>) -> io::Result<()> {
+/// Refuses a path at which something else than a file or a folder stands, before the system would wait for it: a link with
+/// `FilesystemLoop`, as the system refuses one that isn't to be followed, and a pipe, a socket or a device with `Unsupported`.
+pub(crate) fn refuse_special(rt: &HostRuntime, path: Path<'_>) -> io::Result<()> {
     match fs::symlink_metadata(rt, path) {
         Ok(found) if found.is_symlink() => Err(ErrorKind::FilesystemLoop.into()),
+        Ok(found) if !found.is_file() && !found.is_dir() => Err(ErrorKind::Unsupported.into()),
         Err(error) if !is_missing(&error) => Err(error),
         _ => Ok(()),
     }
