@@ -3,4 +3,5 @@ pub mod Index
 pub mod Putting
 pub mod Keeping
 pub mod Finding
+pub mod Repairs
 pub mod Refusals

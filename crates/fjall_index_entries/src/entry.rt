@@ -1,8 +1,9 @@
 //! Entries: a field and a key as bytes, in the order of the fields, then of the keys.
 
 ghost use Rattle.std.specs.Prelude.{◌≡◌, ◌⊎◌, ◌<◌, ◌≤◌, ◌^◌, ◌++◌, length, IfErr, IfOk, IsOkUnless, OnOk};
+ghost use Rattle.std.specs.Option.{option_map};
 ghost use Rattle.fjall_base.specs.declared.error.Error.TheVariants.{KeyTooLong, OutOfMemory};
-ghost use Rattle.fjall_index_entries.specs.Entries.{entry, escaped, range_of};
+ghost use Rattle.fjall_index_entries.specs.Entries.{entry, escaped, key_behind, range_of};
 
 use fjall_base::{Error, Result, Slice, UserKey};
 use fjall_reading::KeyRange;
@@ -43,6 +44,17 @@ pub fn entry_of(alloc: Global, field: &[u8], key: &[u8]) -> Result<Slice>
     behind_field(alloc, field, [0, 1], key)
 }
 
+// An entry as a key of the index keyspace. One of more than 65,535 bytes is none.
+pub(crate) fn fitting(entry: Slice) -> Result<UserKey>
+    ensures ok { IfOk result (λ found. (found ≡ entry) × (length entry < 2 ^ 16)) }
+    ensures cause { IfErr result (λ e. (e ≡ KeyTooLong) × (2 ^ 16 ≤ length entry)) }
+{
+    if entry.len() > 65_535 {
+        return Err(Error::KeyTooLong);
+    }
+    Ok(entry)
+}
+
 /// The entry of a key with this field, as a key of the index keyspace. One of more than 65,535 bytes is refused with
 /// `KeyTooLong`.
 pub fn index_key(alloc: Global, field: &[u8], key: &[u8]) -> Result<UserKey>
@@ -50,11 +62,7 @@ pub fn index_key(alloc: Global, field: &[u8], key: &[u8]) -> Result<UserKey>
     ensures fits { IfOk result (λ found. length found < 2 ^ 16) }
     ensures cause { IfErr result (λ e. (e ≡ OutOfMemory) ⊎ ((e ≡ KeyTooLong) × (2 ^ 16 ≤ length (entry field.now key.now)))) }
 {
-    let entry = entry_of(alloc, field, key)?;
-    if entry.len() > 65_535 {
-        return Err(Error::KeyTooLong);
-    }
-    Ok(entry)
+    fitting(entry_of(alloc, field, key)?)
 }
 
 /// The range in which the entries of a field lie, and those of no other one.
@@ -65,4 +73,23 @@ pub fn range_of(alloc: Global, field: &[u8]) -> Result<KeyRange>
     let start = behind_field(alloc, field, [0, 1], &[])?;
     let end = behind_field(alloc, field, [0, 2], &[])?;
     Ok((Bound::Included(start), Bound::Excluded(end)))
+}
+
+/// The key of the main keyspace that an entry has behind its field. Bytes that are spelled as no entry is have none.
+pub fn key_behind(entry: &[u8]) -> Option<&[u8]>
+    ensures { option_map (λ key. key.now) result ≡ key_behind entry.now }
+{
+    let mut ahead = false;
+    for (at, byte) in entry.iter().enumerate() {
+        if !ahead {
+            ahead = *byte == 0;
+        } else if *byte == 1 {
+            return Some(&entry[at + 1..]);
+        } else if *byte == 255 {
+            ahead = false;
+        } else {
+            return None;
+        }
+    }
+    None
 }

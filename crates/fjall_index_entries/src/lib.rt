@@ -10,8 +10,10 @@ mod keeping_laws;
 mod keys;
 mod laws;
 mod put;
+mod repair;
+mod repair_laws;
 
-pub use entry::{entry_of, index_key, range_of};
+pub use entry::{entry_of, index_key, key_behind, range_of};
 pub use error::{IndexError, Result};
 pub use extract::{Extract, Slot};
 pub use find::find_pairs;
@@ -25,3 +27,8 @@ pub use laws::{
     the_index_changes_by_two_entries, the_index_has_the_entries, the_index_stays,
 };
 pub use put::{change_items, field_of_value, put_items};
+pub use repair::repairs;
+pub use repair_laws::{
+    a_key_stands_behind_its_field, a_right_index_is_left_alone, repairs_leave_the_others,
+    repairs_make_the_index,
+};
