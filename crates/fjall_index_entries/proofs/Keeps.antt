@@ -28,10 +28,10 @@ use Rattle.fjall_index_entries.proofs.Standing.{eq_same}
 
 -- ---- maps of keyspaces
 
-map_here : (maps : FinMap nat_cmp Pairs) (id : ℕ) (p : Pairs) → map_at (insert maps id p) id ≡ p
+pub map_here : (maps : FinMap nat_cmp Pairs) (id : ℕ) (p : Pairs) → map_at (insert maps id p) id ≡ p
 map_here maps id p = ap (λ o. unwrap_or o empty) (get-insert nat_cmp_total maps id p id ∙ ap (λ b. cond b (Some p) (get maps id)) (let e : eq_by_cmp nat_cmp id id ≡ true = grind (arith, nat_tests) in e))
 
-map_there : (maps : FinMap nat_cmp Pairs) (id j : ℕ) (p : Pairs) → id ≢ j → map_at (insert maps id p) j ≡ map_at maps j
+pub map_there : (maps : FinMap nat_cmp Pairs) (id j : ℕ) (p : Pairs) → id ≢ j → map_at (insert maps id p) j ≡ map_at maps j
 map_there maps id j p other = ap (λ o. unwrap_or o empty) (get-insert nat_cmp_total maps id p j ∙ ap (λ b. cond b (Some p) (get maps j)) (off (eq_by_cmp nat_cmp j id) refl))
   where
     same : (a b : ℕ) → eq_by_cmp nat_cmp a b ≡ true → a ≡ b
@@ -41,7 +41,7 @@ map_there maps id j p other = ap (λ o. unwrap_or o empty) (get-insert nat_cmp_t
     off true e = absurd (other (sym (same j id e)))
     off false e = e
 
-written_append : (maps : FinMap nat_cmp Pairs) (xs ys : List Item) → written maps (xs ++ ys) ≡ written (written maps xs) ys
+pub written_append : (maps : FinMap nat_cmp Pairs) (xs ys : List Item) → written maps (xs ++ ys) ≡ written (written maps xs) ys
 written_append maps [] ys = refl
 written_append maps (x ∷ xs) ys = written_append (insert maps x.id (altered (map_at maps x.id) x.key x.value)) xs ys
 

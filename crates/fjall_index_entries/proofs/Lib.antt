@@ -6,4 +6,5 @@ pub mod Counting
 mod Found
 mod Finding
 pub mod Keeps
+pub mod Repairing
 pub mod Owning

@@ -47,13 +47,13 @@ has_behind field pairs bytes (Some key) = is_spelled bytes key (field_in field k
 abbrev pub is_entry_in : FieldOf → Pairs → Bytes → Bool
 is_entry_in field pairs bytes = has_behind field pairs bytes (key_behind bytes)
 
--- these bytes go from the index keyspace where they are no entry of a pair
-abbrev pub removal : FieldOf → ℕ → Pairs → Bytes → List Item
-removal field index pairs bytes = goes index (if is_entry_in field pairs bytes then None else Some bytes)
+-- these bytes, unless they are the entry of a pair
+abbrev pub stale : FieldOf → Pairs → Bytes → Option Bytes
+stale field pairs bytes = if is_entry_in field pairs bytes then None else Some bytes
 
--- so does each of the keys of these pairs
+-- what is stale of the keys of these pairs goes from the index keyspace
 abbrev pub removals : FieldOf → ℕ → Pairs → List (Bytes × Bytes) → List Item
-removals field index pairs stood = flat_map (λ pair. removal field index pairs pair.0) stood
+removals field index pairs stood = flat_map (λ pair. goes index (stale field pairs pair.0)) stood
 
 -- the entry of a key with this field, where it has one, unless it stands in the index keyspace with an empty value
 abbrev pub lacking : Pairs → Bytes → Option Bytes → Option Bytes

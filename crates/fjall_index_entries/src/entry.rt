@@ -45,7 +45,7 @@ pub fn entry_of(alloc: Global, field: &[u8], key: &[u8]) -> Result<Slice>
 }
 
 // An entry as a key of the index keyspace. One of more than 65,535 bytes is none.
-pub(crate) fn fitting(entry: Slice) -> Result<UserKey>
+pub(crate) fn as_key(entry: Slice) -> Result<UserKey>
     ensures ok { IfOk result (λ found. (found ≡ entry) × (length entry < 2 ^ 16)) }
     ensures cause { IfErr result (λ e. (e ≡ KeyTooLong) × (2 ^ 16 ≤ length entry)) }
 {
@@ -62,7 +62,7 @@ pub fn index_key(alloc: Global, field: &[u8], key: &[u8]) -> Result<UserKey>
     ensures fits { IfOk result (λ found. length found < 2 ^ 16) }
     ensures cause { IfErr result (λ e. (e ≡ OutOfMemory) ⊎ ((e ≡ KeyTooLong) × (2 ^ 16 ≤ length (entry field.now key.now)))) }
 {
-    fitting(entry_of(alloc, field, key)?)
+    as_key(entry_of(alloc, field, key)?)
 }
 
 /// The range in which the entries of a field lie, and those of no other one.

@@ -73,7 +73,12 @@ fn op_for(value: Option<UserValue>) -> Op
 }
 
 // Adds the item of an entry, where there is one.
-fn add_entry(items: &mut Vec<BatchItem>, index: u64, entry: Option<UserKey>, op: Op) -> Result<()>
+pub(crate) fn add_entry(
+    items: &mut Vec<BatchItem>,
+    index: u64,
+    entry: Option<UserKey>,
+    op: Op,
+) -> Result<()>
     ensures ok { OnOk result (map item_in items.new.items ≡ map item_in items.old.items ++ entry_item index entry (value_in op)) }
     ensures only { IsOkUnless result OutOfMemory }
 {

@@ -1,16 +1,19 @@
 //! What an index keyspace lacks of the index of the main keyspace, and has besides.
 
-ghost use Rattle.std.specs.Prelude.{◌≡◌, ◌++◌, ℕ, IfOk, OnOk, false, map, true};
+ghost use Rattle.std.specs.Prelude.{◌≡◌, ◌++◌, ℕ, IfErr, IfOk, OnOk, false, map, true};
 ghost use Rattle.std.specs.Result.{result_err};
 ghost use Rattle.fjall_base.specs.Pairs.{Pairs};
+ghost use Rattle.fjall_base.specs.declared.error.Error.TheVariants.{KeyTooLong};
 ghost use Rattle.fjall_journal.specs.Ops.{item_in};
 ghost use Rattle.fjall_reading.specs.Cursors.{left};
 ghost use Rattle.fjall_reading.specs.Readers.{all_of};
-ghost use Rattle.fjall_index_entries.specs.Repairs.{AreRepairs, ReadsOrLong, additions, is_entry_in, lacking_of, lacks_long, removals, with_pair};
 ghost use Rattle.fjall_index_entries.specs.Finding.{ReadsEither};
+ghost use Rattle.fjall_index_entries.specs.Putting.{is_long};
+ghost use Rattle.fjall_index_entries.specs.Repairs.{AreRepairs, ReadsOrLong, additions, is_entry_in, lacking_of, lacks_long, removals, stale, with_pair};
 
-use crate::entry::{entry_of, fitting, key_behind};
+use crate::entry::{as_key, entry_of, key_behind};
 use crate::extract::Extract;
+use crate::put::add_entry;
 use fjall_base::{Error, KvPair, Result, Slice, UserKey};
 use fjall_journal::{BatchItem, Op};
 use fjall_reading::{Cursor, Readable};
@@ -54,6 +57,23 @@ fn is_entry<R: Readable, E: Extract>(
     Ok(entry.as_slice() == bytes)
 }
 
+// A key of the index keyspace, unless it is the entry of a pair of the main one.
+fn stale<R: Readable, E: Extract>(
+    reader: &mut R,
+    extract: &E,
+    main: u64,
+    bytes: UserKey,
+) -> Result<Option<UserKey>>
+    ensures ok { (pairs : Pairs) → R.shows reader.old main pairs → IfOk result (λ goes. goes ≡ stale (E.field_of extract.now) pairs bytes) }
+    ensures same { (i : ℕ) (map : Pairs) → R.shows reader.old i map → R.shows reader.new i map }
+    ensures reads { R.reads reader.old main (result_err result) reader.new }
+{
+    if is_entry(reader, extract, main, bytes.as_slice())? {
+        return Ok(None);
+    }
+    Ok(Some(bytes))
+}
+
 // Adds a removal for each pair of the index keyspace whose key isn't the entry of a pair of the main one.
 fn add_removals<R: Readable, E: Extract>(
     reader: &mut R,
@@ -72,9 +92,8 @@ fn add_removals<R: Readable, E: Extract>(
         let Some(pair) = next_pair(reader, &mut stood)? else {
             return Ok(());
         };
-        if !is_entry(reader, extract, main, pair.0.as_slice())? {
-            items.push((index, pair.0, Op::Remove))?;
-        }
+        let going = stale(reader, extract, main, pair.0)?;
+        add_entry(items, index, going, Op::Remove)?;
     }
     // So many fit into no keyspace.
     Err(Error::OutOfMemory)
@@ -103,6 +122,17 @@ fn lacking_of<R: Readable, E: Extract>(
     }
 }
 
+// An entry that is to be put, where there is one. One of more than 65,535 bytes is refused.
+fn fitting(entry: Option<UserKey>) -> Result<Option<UserKey>>
+    ensures ok { IfOk result (λ found. (found ≡ entry) × (is_long entry ≡ false)) }
+    ensures cause { IfErr result (λ e. (e ≡ KeyTooLong) × (is_long entry ≡ true)) }
+{
+    match entry {
+        Some(entry) => Ok(Some(as_key(entry)?)),
+        None => Ok(None),
+    }
+}
+
 // Adds a put for each entry of a pair of the main keyspace that doesn't stand in the index keyspace with an empty value.
 fn add_additions<R: Readable, E: Extract>(
     reader: &mut R,
@@ -124,9 +154,9 @@ fn add_additions<R: Readable, E: Extract>(
         let Some(pair) = next_pair(reader, &mut pairs)? else {
             return Ok(());
         };
-        if let Some(entry) = lacking_of(reader, extract, index, &pair)? {
-            items.push((index, fitting(entry)?, Op::Put(Slice::empty())))?;
-        }
+        let lacks = lacking_of(reader, extract, index, &pair)?;
+        let coming = fitting(lacks)?;
+        add_entry(items, index, coming, Op::Put(Slice::empty()))?;
     }
     // So many fit into no keyspace.
     Err(Error::OutOfMemory)
