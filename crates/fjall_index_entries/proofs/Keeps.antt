@@ -70,7 +70,7 @@ same_field (Some a) (Some b) e = ap (λ x. Some x) ((bytes_eq-Decides a b).0 e)
 -- ---- one key
 
 -- the map of the main keyspace has the key's new value then
-put_main : (field : FieldOf) (main index : ℕ) (maps : FinMap nat_cmp Pairs) (key : Bytes) (old new : Option Bytes) → index ≢ main → map_at (written maps (put_items field main index key old new)) main ≡ altered (map_at maps main) key new
+pub put_main : (field : FieldOf) (main index : ℕ) (maps : FinMap nat_cmp Pairs) (key : Bytes) (old new : Option Bytes) → index ≢ main → map_at (written maps (put_items field main index key old new)) main ≡ altered (map_at maps main) key new
 put_main field main index maps key old new other = by (option_eq bytes_eq was becomes)
   where
     was : Option Bytes
@@ -89,6 +89,34 @@ put_main field main index maps key old new other = by (option_eq bytes_eq was be
         ∙ come_main (written first (goes index (entry_in key was))) main index key becomes other
         ∙ gone_main first main index key was other
         ∙ map_here maps main (altered (map_at maps main) key new)
+
+-- and those of other keyspaces stay
+pub put_others : (field : FieldOf) (main index : ℕ) (maps : FinMap nat_cmp Pairs) (key : Bytes) (old new : Option Bytes) (id : ℕ) → id ≢ main → id ≢ index
+    → map_at (written maps (put_items field main index key old new)) id ≡ map_at maps id
+put_others field main index maps key old new id apart also = by (option_eq bytes_eq was becomes)
+  where
+    was : Option Bytes
+    was = field_in field key old
+
+    becomes : Option Bytes
+    becomes = field_in field key new
+
+    first : FinMap nat_cmp Pairs
+    first = insert maps main (altered (map_at maps main) key new)
+
+    there : map_at first id ≡ map_at maps id
+    there = map_there maps main id (altered (map_at maps main) key new) (λ e. apart (sym e))
+
+    other : index ≢ id
+    other e = also (sym e)
+
+    by : (b : Bool) → map_at (written first (if b then [] else (goes index (entry_in key was) ++ comes index (entry_in key becomes)))) id ≡ map_at maps id
+    by true = there
+    by false =
+        ap (λ n. map_at n id) (written_append first (goes index (entry_in key was)) (comes index (entry_in key becomes)))
+        ∙ come_main (written first (goes index (entry_in key was))) id index key becomes other
+        ∙ gone_main first id index key was other
+        ∙ there
 
 -- a key becomes something else in the main keyspace, and its entries in the index
 put_keeps : (field : FieldOf) (main index : ℕ) (maps : FinMap nat_cmp Pairs) (key : Bytes) (old new : Option Bytes) → index ≢ main → lookup (map_at maps main) key ≡ old → IsIndexed field main index maps
