@@ -5,6 +5,5 @@ mod Showing
 mod Putting
 mod Ending
 mod Keeping
-mod Tallying
 mod Creating
 mod OpeningStates

@@ -7,9 +7,15 @@ mod indexed_tx;
 mod laws;
 mod reading;
 
+// What a caller names beside the index, so that who keeps one lists this crate alone.
+pub use fjall_base::{Error, KvPair, Slice};
 pub use fjall_index_entries::{
     Extract, IndexError, Result, Slot, change_items, entry_of, field_of_value, find_pairs,
     index_key, put_items, range_of,
+};
+pub use fjall_options::KeyspaceCreateOptions;
+pub use fjall_transactions::{
+    Call, CommitOutcome, Config, Core, JobId, PersistMode, Reply, Ticket, View,
 };
 pub use indexed::Indexed;
 pub use indexed_tx::IndexedTx;

@@ -8,3 +8,4 @@ mod Finding
 pub mod Keeps
 pub mod Repairing
 pub mod Owning
+mod Tallying

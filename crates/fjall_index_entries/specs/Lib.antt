@@ -4,4 +4,5 @@ pub mod Putting
 pub mod Keeping
 pub mod Finding
 pub mod Repairs
+pub mod Checking
 pub mod Refusals

@@ -2,6 +2,7 @@
 //! field.
 #![tactic(auto)]
 
+mod check;
 mod entry;
 mod error;
 mod extract;
@@ -13,6 +14,7 @@ mod put;
 mod repair;
 mod repair_laws;
 
+pub use check::is_index;
 pub use entry::{entry_of, index_key, key_behind, range_of};
 pub use error::{IndexError, Result};
 pub use extract::{Extract, Slot};

@@ -18,7 +18,7 @@ use Rattle.fjall_index_entries.specs.Index.{FieldOf, count_in, index_of}
 use Rattle.fjall_index_entries.proofs.Counting.{all_there, as_many}
 use Rattle.fjall_index_entries.proofs.Index.{entry_stands}
 use Rattle.fjall_index_entries.proofs.Standing.{AreOf, all_stand, eq_same, same_bytes}
-use Rattle.fjall_index.specs.Checking.{one_if, told_at, told_of}
+use Rattle.fjall_index_entries.specs.Checking.{one_if, told_at, told_of}
 
 -- all pairs of a map
 pub all_entries : (m : Pairs) → all_of m ≡ entries m

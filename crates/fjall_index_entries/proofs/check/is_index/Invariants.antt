@@ -2,8 +2,8 @@ use Rattle.std.proofs.Common.{◌≡◌, ◌≤◌, ℕ, None}
 use Rattle.fjall_base.specs.Pairs.{Pairs}
 use Rattle.fjall_reading.specs.Cursors.{left}
 use Rattle.fjall_reading.specs.Readers.{all_of}
-use Rattle.fjall_index.proofs.Tallying.{plus, tally}
-use Rattle.fjall_index.proofs.reading.is_index.Given as goal
+use Rattle.fjall_index_entries.proofs.Tallying.{plus, tally}
+use Rattle.fjall_index_entries.proofs.check.is_index.Given as goal
 
 -- what was counted, and what is left to be, is the whole
 abbrev pub invariant-loop : goal.invariant-loop

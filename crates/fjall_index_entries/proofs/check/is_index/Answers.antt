@@ -1,8 +1,8 @@
 use Rattle.std.proofs.Common.{rules, ◌+◌, ◌∙◌, ℕ, None, Option, inr, sym, subst, ap, arith}
 use Rattle.fjall_base.specs.declared.error.Error.{Error}
 use Rattle.fjall_reading.specs.Cursors.{left}
-use Rattle.fjall_index.proofs.Tallying.{at_end, at_missing, first_taken, goes_by, none_in}
-use Rattle.fjall_index.proofs.reading.is_index.Goals as goal
+use Rattle.fjall_index_entries.proofs.Tallying.{at_end, at_missing, first_taken, goes_by, none_in}
+use Rattle.fjall_index_entries.proofs.check.is_index.Goals as goal
 
 pub returns-in_default-clause-ok : goal.returns-in_default-clause-ok
 returns-in_default-clause-ok g c = λ map found main index.
