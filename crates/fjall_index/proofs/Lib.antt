@@ -7,3 +7,4 @@ mod Ending
 mod Keeping
 mod Creating
 mod OpeningStates
+mod Loads

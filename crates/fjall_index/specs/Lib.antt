@@ -4,3 +4,4 @@ pub mod Changes
 pub mod KeptChanges
 pub mod Checking
 pub mod Opening
+pub mod Loading

@@ -140,6 +140,7 @@ impl<E: Extract> Indexed<E> {
             → StandsIndexed (E.field_of self.now.extract) self.now.main self.now.index since core.old.engine core.old.transactions t d
             → (next : Told) × (e : Durable) × GoesOnIndexed (E.field_of self.now.extract) self.now.main self.now.index since [] t d next e core.new.engine core.new.transactions
             × IfOk result (IsIndexedTx (E.field_of self.now.extract) self.now.main self.now.index next) }
+        ensures none { IfOk result (λ tx. tx.changes.entries ≡ []) }
     {
         let transaction = core.begin_optimistic()?;
         Ok(IndexedTx::new(self.alloc, transaction))

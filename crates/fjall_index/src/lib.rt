@@ -5,6 +5,7 @@ mod changing;
 mod indexed;
 mod indexed_tx;
 mod laws;
+mod loading;
 mod reading;
 
 // What a caller names beside the index, so that who keeps one lists this crate alone.
