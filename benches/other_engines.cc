@@ -2,7 +2,8 @@
 // the fills and the synced writes. `other-engines FOLDER N` runs all; `other-engines FOLDER N fill` LevelDB's fill at random alone;
 // `other-engines FOLDER N long ENGINE` the long run over `leveldb`, `rocksdb` or `sqlite`: a fill at random, a merge of all tables,
 // reads, a scan, a reopening, and at last the size of the folder; `other-engines FOLDER N threads ENGINE T` a fill at random by T
-// threads that share `leveldb` or `rocksdb`, and reads of all pairs by as many.
+// threads that share `leveldb` or `rocksdb`, and reads of all pairs by as many; `other-engines FOLDER N index` pairs loaded and found by an
+// index over `sqlite`.
 // Prints a line a workload on standard error: engine, workload, count, wall seconds, processor seconds, operations a second,
 // processor seconds of the calling thread alone, parted by tabs.
 #include <leveldb/db.h>
@@ -422,6 +423,49 @@ static void run_threads(LongEngine& engine, const char* name, const std::string&
     engine.close();
 }
 
+// So many pairs are loaded in one transaction, and so many have one field.
+constexpr size_t kLoaded = 10000;
+constexpr size_t kAlike = 10;
+
+// Pairs at random, loaded in transactions, found by the field that their values begin with, and their index made anew.
+static void use_index(const std::string& folder, size_t count) {
+    Sqlite sqlite;
+    sqlite.open(folder + "/sqlite_index");
+    sqlite.run("create index by_group on items (substr(v, 1, 8))");
+    size_t groups = (count + kAlike - 1) / kAlike;
+    Numbers numbers = at_random(count, 1);
+    measure("sqlite", "index: load", count, [&] {
+        for (size_t at = 0; at < count; at += kLoaded) {
+            sqlite.run("begin");
+            for (size_t place = at; place < std::min(at + kLoaded, count); place++) {
+                Key key(numbers[place]);
+                Value value(numbers[place] % groups);
+                sqlite3_bind_blob(sqlite.insert, 1, key.bytes, sizeof key.bytes, SQLITE_STATIC);
+                sqlite3_bind_blob(sqlite.insert, 2, value.bytes, sizeof value.bytes, SQLITE_STATIC);
+                check(sqlite3_step(sqlite.insert) == SQLITE_DONE, "sqlite insert");
+                sqlite3_reset(sqlite.insert);
+            }
+            sqlite.run("commit");
+        }
+    });
+    sqlite3_stmt* select = nullptr;
+    check(sqlite3_prepare_v2(sqlite.db, "select k, v from items where substr(v, 1, 8) = ? order by k", -1, &select, nullptr) == SQLITE_OK, "sqlite prepare");
+    size_t found = 0;
+    measure("sqlite", "index: find", count, [&] {
+        for (uint64_t group : at_random(groups, 2)) {
+            char field[8];
+            put_big_endian(field, group);
+            sqlite3_bind_blob(select, 1, field, sizeof field, SQLITE_STATIC);
+            while (sqlite3_step(select) == SQLITE_ROW) found += sqlite3_column_bytes(select, 1) == 100;
+            sqlite3_reset(select);
+        }
+    });
+    sqlite3_finalize(select);
+    check(found == count, "sqlite index");
+    measure("sqlite", "index: rebuild", count, [&] { sqlite.run("reindex by_group"); });
+    sqlite.close();
+}
+
 // The engine of a name.
 static std::unique_ptr<LongEngine> engine_of(const std::string& name) {
     if (name == "leveldb") return std::make_unique<LevelDb>();
@@ -433,8 +477,9 @@ static std::unique_ptr<LongEngine> engine_of(const std::string& name) {
 int main(int argc, char** argv) {
     bool is_fill = argc == 4 && std::strcmp(argv[3], "fill") == 0;
     bool is_long = argc == 5 && std::strcmp(argv[3], "long") == 0;
+    bool is_index = argc == 4 && std::strcmp(argv[3], "index") == 0;
     bool is_threads = argc == 6 && std::strcmp(argv[3], "threads") == 0 && std::strcmp(argv[4], "sqlite") != 0;
-    check(argc == 3 || is_fill || is_long || is_threads, "usage: other-engines FOLDER N [fill | long ENGINE | threads ENGINE T]");
+    check(argc == 3 || is_fill || is_index || is_long || is_threads, "usage: other-engines FOLDER N [fill | index | long ENGINE | threads ENGINE T]");
     std::string folder = argv[1];
     size_t count = std::strtoull(argv[2], nullptr, 10);
     check(count > 0, "N is no count");
@@ -443,6 +488,10 @@ int main(int argc, char** argv) {
         size_t threads = std::strtoull(argv[5], nullptr, 10);
         check(threads > 0, "T is no count");
         run_threads(*engine_of(argv[4]), argv[4], folder, count, threads);
+        return 0;
+    }
+    if (is_index) {
+        use_index(folder, count);
         return 0;
     }
     if (is_long) {

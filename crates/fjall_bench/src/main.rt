@@ -1,11 +1,12 @@
 //! `fjall-bench FOLDER N [GROUP]` fills, reads and opens databases in a folder again, with keys of 16 bytes and values of 100,
 //! and says how long that took. `fjall-bench memory N [GROUP]` does so in memory, and `fjall-bench FOLDER N threads THREADS WORKERS` by threads
-//! that share a database with workers.
+//! that share a database with workers, and `fjall-bench memory|FOLDER N index` finds pairs by an index.
 #![tactic(auto)]
 
 mod clock;
 mod data;
 mod database;
+mod indexed;
 mod reads;
 mod report;
 mod rows;
@@ -14,6 +15,7 @@ mod threads;
 mod writes;
 
 use anyhow::Result;
+use indexed::run_indexed;
 use rows::is_group;
 use std::env;
 use std::process::ExitCode;
@@ -22,12 +24,14 @@ use threads::{Sharing, run_shared};
 
 /// What wrong arguments are answered.
 const USAGE: &str = "usage: fjall-bench memory|FOLDER N [GROUP]
+       fjall-bench memory|FOLDER N index
        fjall-bench FOLDER N threads THREADS WORKERS
 N and THREADS are above 0; GROUP is order, random, batches, synced or limits, and without it all of these, or fill or long";
 
-// What is asked for: groups of workloads one after another, or threads that share a database.
+// What is asked for: groups of workloads one after another, an index over so many pairs, or threads that share a database.
 enum Asked<'a> {
     Groups(Measuring<'a>),
+    Index(&'a str, u64),
     Threads(Sharing<'a>),
 }
 
@@ -41,6 +45,9 @@ fn positive(word: &str) -> Option<u64> {
 fn read_arguments(words: &[String]) -> Option<Asked<'_>> {
     let (place, count, group) = match words {
         [place, count] => (place, count, None),
+        [place, count, name] if name.as_str() == "index" => {
+            return Some(Asked::Index(place.as_str(), positive(count.as_str())?));
+        }
         [place, count, group] => (place, count, Some(group.as_str())),
         [place, count, name, threads, workers] if name.as_str() == "threads" => {
             return Some(Asked::Threads(Sharing {
@@ -66,6 +73,7 @@ fn main(rt: HostRuntime) -> Result<ExitCode> {
     let words: Vec<String> = env::args(&rt)?.skip(1).collect(rt.alloc())?;
     match read_arguments(words.as_slice()) {
         Some(Asked::Groups(measuring)) => run(&rt, measuring)?,
+        Some(Asked::Index(place, count)) => run_indexed(&rt, place, count)?,
         Some(Asked::Threads(sharing)) => run_shared(&rt, rt.alloc(), sharing)?,
         None => {
             eprintln!(&rt; "{USAGE}")?;
