@@ -47,7 +47,7 @@ refused_history : (s t : State) (call : TicketCall) (error : Error) (first : Opt
 refused_history s t call error (Some f) (is, same) = ap (λ (k : State). k.history) same
 refused_history s t call error None fails = failed_history s t call error fails
 
-ticket_history : (s t : State) (call : TicketCall) (reply : Reply) → StepOf s (OfTickets call) reply t → t.history ≡ s.history
+pub ticket_history : (s t : State) (call : TicketCall) (reply : Reply) → StepOf s (OfTickets call) reply t → t.history ≡ s.history
 ticket_history s t call (Refused error) step = refused_history s t call error (due s (OfTickets call)) step
 ticket_history s t call reply step = ap (λ (k : State). k.history) step.1.1
 
@@ -78,7 +78,7 @@ found_there tickets instant = get-insert nat_cmp_total tickets.instants tickets.
     by true e = refl
     by false e = let bad : ⊥ = grind (arith, nat_tests, e) in absurd bad
 
-opened_at : (s t : State) (ticket : Ticket) → StepOf s (OfTickets Open) (Opened ticket) t → get t.tickets.instants ticket.id ≡ Some (number t.history)
+pub opened_at : (s t : State) (ticket : Ticket) → StepOf s (OfTickets Open) (Opened ticket) t → get t.tickets.instants ticket.id ≡ Some (number t.history)
 unfolding ticket_in
 opened_at s t ticket step =
     let visible = number s.history in

@@ -38,10 +38,10 @@ use Rattle.fjall_index.proofs.Going.{grows, latest_told, none_tried, now_indexed
 
 -- ---- steps
 
-closes_quietly : (s t : State) (id : ℕ) → StepOf s (OfTickets (Close id)) Done t → t.history ≡ s.history
+pub closes_quietly : (s t : State) (id : ℕ) → StepOf s (OfTickets (Close id)) Done t → t.history ≡ s.history
 closes_quietly s t id step = ap (λ (k : State). k.history) step.1.1
 
-makes : (s t : State) (items : List BatchItem) (how : Persistence) → (items ≡ [] → ⊥) → StepOf s (OfChange (Items items) how) Done t → t.history ≡ grown s.history (plain (write_of items))
+pub makes : (s t : State) (items : List BatchItem) (how : Persistence) → (items ≡ [] → ⊥) → StepOf s (OfChange (Items items) how) Done t → t.history ≡ grown s.history (plain (write_of items))
 makes s t [] how some step = absurd (some refl)
 makes s t (item ∷ items) how some step = ap (λ (k : State). k.history) step.1.1
 
@@ -58,7 +58,7 @@ failed_history s t change how TooManyItems (none_left, same) = ap (λ (k : State
 failed_history s t change how error none = absurd none
 
 -- a change that is refused accepts nothing
-refused_history : (s t : State) (change : Change) (how : Persistence) (error : Error) (first : Option Error) → Refuses first (OfChange change how) error s t → t.history ≡ s.history
+pub refused_history : (s t : State) (change : Change) (how : Persistence) (error : Error) (first : Option Error) → Refuses first (OfChange change how) error s t → t.history ≡ s.history
 refused_history s t change how error (Some f) (is, same) = ap (λ (k : State). k.history) same
 refused_history s t change how error None fails = failed_history s t change how error fails
 

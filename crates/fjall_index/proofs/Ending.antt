@@ -12,31 +12,30 @@ use Rattle.fjall_transactions.specs.Standing.{CommitGoesOn, GoesOn, StandFor, To
 use Rattle.fjall_transactions.specs.CoreStanding.{ReadsOn}
 use Rattle.fjall_transactions.specs.Transactions.{Kept, Tx}
 use Rattle.fjall_index_entries.specs.Index.{FieldOf}
-use Rattle.fjall_index_entries.specs.declared.error.IndexError.{IndexError}
 use Rattle.fjall_index.specs.Changing.{EndsIndexed, IsAnswerOf, TxKeepsIndex, own_where_answered, own_where_done}
 use Rattle.fjall_index.specs.Standing.{GoesOnIndexed}
 use Rattle.fjall_index.proofs.Beginning.{ticket_goes}
 use Rattle.fjall_index.proofs.Committing.{commit_goes}
 
-answered : (field : FieldOf) (main index since : ℕ) (t : Told) (d : Durable) (tx : Tx) (new : Held) (after : Kept) (outcome : CommitOutcome Error) (answer : Result Unit IndexError) → IsAnswerOf outcome answer
+answered : (field : FieldOf) (main index since : ℕ) (t : Told) (d : Durable) (tx : Tx) (new : Held) (after : Kept) (outcome : CommitOutcome Error) (answer : Result Unit Error) → IsAnswerOf outcome answer
     → ((next : Told) × (e : Durable) × GoesOnIndexed field main index since (own_where_done outcome tx) t d next e new after)
     → (next : Told) × (e : Durable) × GoesOnIndexed field main index since (own_where_answered answer tx) t d next e new after
 answered field main index since t d tx new after outcomes.Ok answer is goes =
-    subst (λ (a : Result Unit IndexError). (next : Told) × (e : Durable) × GoesOnIndexed field main index since (own_where_answered a tx) t d next e new after) (sym is) goes
+    subst (λ (a : Result Unit Error). (next : Told) × (e : Durable) × GoesOnIndexed field main index since (own_where_answered a tx) t d next e new after) (sym is) goes
 answered field main index since t d tx new after outcomes.Conflicted answer is goes =
-    subst (λ (a : Result Unit IndexError). (next : Told) × (e : Durable) × GoesOnIndexed field main index since (own_where_answered a tx) t d next e new after) (sym is) goes
+    subst (λ (a : Result Unit Error). (next : Told) × (e : Durable) × GoesOnIndexed field main index since (own_where_answered a tx) t d next e new after) (sym is) goes
 answered field main index since t d tx new after (outcomes.Aborted error) answer is goes =
-    subst (λ (a : Result Unit IndexError). (next : Told) × (e : Durable) × GoesOnIndexed field main index since (own_where_answered a tx) t d next e new after) (sym is) goes
+    subst (λ (a : Result Unit Error). (next : Told) × (e : Durable) × GoesOnIndexed field main index since (own_where_answered a tx) t d next e new after) (sym is) goes
 
 -- by a commit
-pub ends_commit : (old new : Held) (before after : Kept) (tx : Tx) (outcome : CommitOutcome Error) (done answer : Result Unit IndexError)
+pub ends_commit : (old new : Held) (before after : Kept) (tx : Tx) (outcome : CommitOutcome Error) (done answer : Result Unit Error)
     → ((t : Told) → StandFor old before t → ReadsOn old t.state → CommitGoesOn old t tx outcome new after) → IsAnswerOf outcome answer → done ≡ Ok tt → EndsIndexed old before tx done answer new after
 ends_commit old new before after tx outcome done answer steps is ok field main index since t d all keeps =
     answered field main index since t d tx new after outcome answer is
-    (commit_goes field main index since old new before after t d tx outcome all (subst (λ (r : Result Unit IndexError). OnOk r (TxKeepsIndex field main index t tx)) ok keeps) (steps t all.stands all.reads))
+    (commit_goes field main index since old new before after t d tx outcome all (subst (λ (r : Result Unit Error). OnOk r (TxKeepsIndex field main index t tx)) ok keeps) (steps t all.stands all.reads))
 
 -- by a rollback
-pub ends_rollback : (old new : Held) (before after : Kept) (tx : Tx) (id : ℕ) (reply : Reply) (done answer : Result Unit IndexError)
+pub ends_rollback : (old new : Held) (before after : Kept) (tx : Tx) (id : ℕ) (reply : Reply) (done answer : Result Unit Error)
     → ((t : Told) → StandFor old before t → ReadsOn old t.state → GoesOn old t (OfTickets (Close id)) reply new after) → IsErr answer → EndsIndexed old before tx done answer new after
 ends_rollback old new before after tx id reply done (Ok _) steps fails field main index since t d all _ = absurd (true≢false (sym fails))
 ends_rollback old new before after tx id reply done (Err error) steps fails field main index since t d all _ =
@@ -44,9 +43,9 @@ ends_rollback old new before after tx id reply done (Err error) steps fails fiel
     (next, e, goes)
 
 -- which of the two it is
-pub refused_so : (done answer : Result Unit IndexError) → IsErr answer → OnErr done (IsErr answer)
+pub refused_so : (done answer : Result Unit Error) → IsErr answer → OnErr done (IsErr answer)
 refused_so (Ok _) answer fails = tt
 refused_so (Err _) answer fails = fails
 
-pub done_so : (done answer : Result Unit IndexError) → done ≡ Ok tt → OnErr done (IsErr answer)
-done_so done answer ok = subst (λ (r : Result Unit IndexError). OnErr r (IsErr answer)) (sym ok) tt
+pub done_so : (done answer : Result Unit Error) → done ≡ Ok tt → OnErr done (IsErr answer)
+done_so done answer ok = subst (λ (r : Result Unit Error). OnErr r (IsErr answer)) (sym ok) tt

@@ -1,10 +1,15 @@
 mod Going
 mod Beginning
 mod Committing
+mod Answering
 mod Showing
 mod Putting
 mod Ending
 mod Keeping
+mod OtherCalls
 mod Creating
 mod OpeningStates
 mod Loads
+mod Repairs
+mod Refusing
+mod Reopening

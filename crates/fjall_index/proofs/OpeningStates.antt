@@ -29,7 +29,8 @@ use Rattle.fjall_index_entries.specs.Keeping.{IsIndexed}
 use Rattle.fjall_index_entries.specs.declared.error.IndexError.{IndexError}
 use Rattle.fjall_index_entries.specs.declared.error.IndexError.TheVariants.{Engine, IndexStale}
 use Rattle.fjall_index.specs.Opening.{Arrives, ArrivesAt, AreNamed, AreStale, KeepsAny}
-use Rattle.fjall_index.proofs.Creating.{creates, refused_history, stays_of, stays_then}
+use Rattle.fjall_index.proofs.Creating.{creates, refused_history}
+use Rattle.fjall_index.proofs.OtherCalls.{stays_of, stays_then}
 use Rattle.fjall_index.proofs.Going.{moves_on, reads_go, still_goes}
 
 -- ---- names

@@ -5,3 +5,7 @@ pub mod KeptChanges
 pub mod Checking
 pub mod Opening
 pub mod Loading
+pub mod OtherCalls
+pub mod Rebuilding
+pub mod Refusing
+pub mod Reopening

@@ -1,19 +1,21 @@
 //! Changes of one key, and transactions.
 
-ghost use Rattle.std.specs.Prelude.{IfOk, IsTrue, None, OnErr, OnOk, Option, Some, [], ℕ, ◌≡◌};
+ghost use Rattle.std.specs.Prelude.{IfErr, IfOk, IsTrue, None, OnErr, OnOk, Option, Some, [], ℕ, ◌≡◌, ◌⊎◌};
 ghost use Rattle.std.specs.Result.{IsErr};
 ghost use Rattle.fjall_base.specs.Pairs.{Pairs, lookup};
 ghost use Rattle.fjall_base.specs.Store.{map_at};
 ghost use Rattle.fjall_history.specs.declared.ticket.View.TheVariants.{At};
 ghost use Rattle.fjall_machine.specs.Machine.{maps_in};
+ghost use Rattle.fjall_transactions.specs.CoreStanding.{ReadsOn};
 ghost use Rattle.fjall_transactions.specs.Durables.{Durable};
 ghost use Rattle.fjall_transactions.specs.Leaving.{LeavesStanding};
 ghost use Rattle.fjall_transactions.specs.Shown.{Shows};
-ghost use Rattle.fjall_transactions.specs.Standing.{Told};
+ghost use Rattle.fjall_transactions.specs.Standing.{StandFor, Told};
 ghost use Rattle.fjall_index_entries.specs.Putting.{put_items};
 ghost use Rattle.fjall_index.specs.Changes.{HasKept, IsIndexedTx, IsOutcomeOf, IsSameTx, items_in, where_committed};
-ghost use Rattle.fjall_index.specs.Changing.{EndsIndexed, HasWritten, IsAnswerOf, RollsBack};
+ghost use Rattle.fjall_index.specs.Changing.{EndsAnswered, EndsIndexed, HasWritten, IsAnswerOf, RollsBack};
 ghost use Rattle.fjall_index.specs.KeptChanges.{KeepsChange};
+ghost use Rattle.fjall_index.specs.Refusing.{BeginsSo, IsChangeRefusal, IsCommitAnswer, IsEndRefusal, IsItemRefusal, IsPutRefusal, IsWriteRefusal, OfEngine};
 ghost use Rattle.fjall_index.specs.Standing.{GoesOnIndexed, KeepsIndexed, StandsIndexed, nothing, putting, where_done};
 
 use crate::indexed::Indexed;
@@ -25,13 +27,13 @@ use fjall_transactions::{CommitOutcome, Core, Engine, Transaction, View};
 use fjall_tx::own_writes_grow;
 
 // What a call answers that is one transaction. One that began at the present meets none.
-fn answer_of(outcome: CommitOutcome<Error>) -> Result<()>
+fn answer_of(outcome: CommitOutcome<Error>) -> fjall_base::Result<()>
     ensures { IsAnswerOf outcome result }
 {
     match outcome {
         CommitOutcome::Ok => Ok(()),
-        CommitOutcome::Conflicted => Err(IndexError::Engine(Error::TransactionOpen)),
-        CommitOutcome::Aborted(error) => Err(IndexError::Engine(error)),
+        CommitOutcome::Conflicted => Err(Error::TransactionOpen),
+        CommitOutcome::Aborted(error) => Err(error),
     }
 }
 
@@ -39,10 +41,12 @@ fn answer_of(outcome: CommitOutcome<Error>) -> Result<()>
 pub(crate) fn end<D: Disk>(
     core: &mut Core<D>,
     transaction: Transaction,
-    done: Result<()>,
-) -> Result<()>
+    done: fjall_base::Result<()>,
+) -> fjall_base::Result<()>
     ensures keeps { IsTrue D.honest → EndsIndexed core.old.engine core.old.transactions transaction done result core.new.engine core.new.transactions }
+    ensures ends { IsTrue D.honest → EndsAnswered core.old.engine core.old.transactions transaction done result core.new.engine core.new.transactions }
     ensures refused { OnErr done (IsErr result) }
+    ensures cause { (t : Told) → StandFor core.old.engine core.old.transactions t → IfErr result (IsEndRefusal t transaction done) }
 {
     if let Err(error) = done {
         core.rollback(transaction)?;
@@ -59,9 +63,11 @@ impl<E: Extract> Indexed<E> {
         transaction: &mut Transaction,
         key: UserKey,
         new: Option<UserValue>,
-    ) -> Result<()>
+    ) -> fjall_base::Result<()>
         ensures written { (map : Pairs) → Shows D.honest engine.old (At transaction.old.ticket) self.now.main map
             → OnOk result (HasWritten transaction.old self.now.main key (put_items (E.field_of self.now.extract) self.now.main self.now.index key (lookup map key) new) transaction.new) }
+        ensures cause { IfErr result (IsWriteRefusal D.honest (E.field_of self.now.extract) self.now.main self.now.index engine.old transaction.old.ticket key new engine.new) }
+        ensures ticket { transaction.new.ticket ≡ transaction.old.ticket }
         ensures stand { LeavesStanding D.honest engine.old engine.new }
     {
         let view = View::At(transaction.ticket());
@@ -76,8 +82,7 @@ impl<E: Extract> Indexed<E> {
             &old,
             new,
         )?;
-        transaction.write_all(items)?;
-        Ok(())
+        transaction.write_all(items)
     }
 
     // Gives a key a value, or none, as one transaction.
@@ -90,12 +95,15 @@ impl<E: Extract> Indexed<E> {
         ensures keeps { IsTrue D.honest → KeepsIndexed (E.field_of self.now.extract) self.now.main self.now.index
             (where_done result (putting (E.field_of self.now.extract) self.now.main self.now.index key new))
             core.old.engine core.old.transactions core.new.engine core.new.transactions }
+        ensures cause { IsTrue D.honest → (t : Told) → StandFor core.old.engine core.old.transactions t → ReadsOn core.old.engine t.state
+            → IfErr result (OfEngine (IsPutRefusal D.honest (E.field_of self.now.extract) self.now.main self.now.index core.old.engine t key new)) }
     {
         own_writes_keep_the_index();
         own_writes_grow();
         let mut transaction = core.begin_optimistic()?;
         let done = self.write_in(core, &mut transaction, key, new);
-        end(core, transaction, done)
+        end(core, transaction, done)?;
+        Ok(())
     }
 
     /// Gives a key a value.
@@ -106,7 +114,11 @@ impl<E: Extract> Indexed<E> {
         ensures keeps { IsTrue D.honest → KeepsIndexed (E.field_of self.now.extract) self.now.main self.now.index
             (where_done result (putting (E.field_of self.now.extract) self.now.main self.now.index key (Some value)))
             core.old.engine core.old.transactions core.new.engine core.new.transactions }
+        // It meets no other transaction: why it is refused is told whole.
+        ensures cause { IsTrue D.honest → (t : Told) → StandFor core.old.engine core.old.transactions t → ReadsOn core.old.engine t.state
+            → IfErr result (OfEngine (λ e. IsItemRefusal key (Some value) e ⊎ IsPutRefusal D.honest (E.field_of self.now.extract) self.now.main self.now.index core.old.engine t key (Some value) e)) }
     {
+        check_item(key.as_slice(), value.as_slice())?;
         self.change(core, key, Some(value))
     }
 
@@ -115,7 +127,11 @@ impl<E: Extract> Indexed<E> {
         ensures keeps { IsTrue D.honest → KeepsIndexed (E.field_of self.now.extract) self.now.main self.now.index
             (where_done result (putting (E.field_of self.now.extract) self.now.main self.now.index key None))
             core.old.engine core.old.transactions core.new.engine core.new.transactions }
+        // It meets no other transaction: why it is refused is told whole.
+        ensures cause { IsTrue D.honest → (t : Told) → StandFor core.old.engine core.old.transactions t → ReadsOn core.old.engine t.state
+            → IfErr result (OfEngine (λ e. IsItemRefusal key None e ⊎ IsPutRefusal D.honest (E.field_of self.now.extract) self.now.main self.now.index core.old.engine t key None e)) }
     {
+        check_item(key.as_slice(), &[])?;
         self.change(core, key, None)
     }
 }
@@ -141,6 +157,7 @@ impl<E: Extract> Indexed<E> {
             → (next : Told) × (e : Durable) × GoesOnIndexed (E.field_of self.now.extract) self.now.main self.now.index since [] t d next e core.new.engine core.new.transactions
             × IfOk result (IsIndexedTx (E.field_of self.now.extract) self.now.main self.now.index next) }
         ensures none { IfOk result (λ tx. tx.changes.entries ≡ []) }
+        ensures told { BeginsSo core.old.engine result core.new.engine }
     {
         let transaction = core.begin_optimistic()?;
         Ok(IndexedTx::new(self.alloc, transaction))
@@ -156,6 +173,7 @@ impl<E: Extract> Indexed<E> {
     ) -> Result<()>
         ensures kept { (map : Pairs) → Shows D.honest engine.old (At tx.old.transaction.ticket) self.now.main map
             → OnOk result (HasKept tx.old self.now.main key (put_items (E.field_of self.now.extract) self.now.main self.now.index key (lookup map key) new) tx.new) }
+        ensures cause { IfErr result (OfEngine (IsChangeRefusal D.honest (E.field_of self.now.extract) self.now.main engine.old tx.old.transaction.ticket key new engine.new)) }
         ensures unchanged { OnErr result (IsSameTx tx.old tx.new) }
         ensures stand { LeavesStanding D.honest engine.old engine.new }
     {
@@ -188,6 +206,8 @@ impl<E: Extract> Indexed<E> {
     ) -> Result<()>
         ensures keeps { IsTrue D.honest → KeepsChange (E.field_of self.now.extract) self.now.main self.now.index key (Some value) tx.old result tx.new
             core.old.engine core.old.transactions core.new.engine core.new.transactions }
+        ensures cause { IfErr result (OfEngine (IsChangeRefusal D.honest (E.field_of self.now.extract) self.now.main core.old.engine tx.old.transaction.ticket key (Some value) core.new.engine)) }
+        ensures same { core.new.transactions ≡ core.old.transactions }
         ensures unchanged { OnErr result (IsSameTx tx.old tx.new) }
     {
         check_item(key.as_slice(), value.as_slice())?;
@@ -203,6 +223,8 @@ impl<E: Extract> Indexed<E> {
     ) -> Result<()>
         ensures keeps { IsTrue D.honest → KeepsChange (E.field_of self.now.extract) self.now.main self.now.index key None tx.old result tx.new
             core.old.engine core.old.transactions core.new.engine core.new.transactions }
+        ensures cause { IfErr result (OfEngine (IsChangeRefusal D.honest (E.field_of self.now.extract) self.now.main core.old.engine tx.old.transaction.ticket key None core.new.engine)) }
+        ensures same { core.new.transactions ≡ core.old.transactions }
         ensures unchanged { OnErr result (IsSameTx tx.old tx.new) }
     {
         check_item(key.as_slice(), &[])?;
@@ -217,6 +239,7 @@ impl<E: Extract> Indexed<E> {
             → IsIndexedTx (E.field_of self.now.extract) self.now.main self.now.index t tx
             → (next : Told) × (e : Durable) × GoesOnIndexed (E.field_of self.now.extract) self.now.main self.now.index since (where_committed result (items_in tx.changes.entries))
             t d next e core.new.engine core.new.transactions }
+        ensures told { (t : Told) → StandFor core.old.engine core.old.transactions t → IsCommitAnswer t tx result core.new.engine core.new.transactions }
     {
         own_writes_keep_the_index();
         own_writes_grow();

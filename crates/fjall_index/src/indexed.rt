@@ -1,11 +1,13 @@
 //! A main keyspace with its index: how it is opened, and checked.
 
 ghost use Rattle.std.specs.FinMap.{get};
-ghost use Rattle.std.specs.Prelude.{Err, IfOk, IsTrue, Some, ◌≡◌};
+ghost use Rattle.std.specs.Prelude.{Err, IfErr, IfOk, IsTrue, Some, ◌≡◌};
+ghost use Rattle.fjall_history.specs.declared.ticket.View.TheVariants.{Present};
 ghost use Rattle.fjall_transactions.specs.Leaving.{LeavesStanding};
 ghost use Rattle.fjall_index_entries.specs.declared.error.IndexError.TheVariants.{IndexStale, SameKeyspace};
 ghost use Rattle.fjall_index.specs.Checking.{TellsIndexed, TellsStale};
 ghost use Rattle.fjall_index.specs.Opening.{AreIndexed, AreNamed, AreStale, ArrivesAt, KeepsAny};
+ghost use Rattle.fjall_index.specs.Refusing.{IsRefusedForEither, OfEngineOrStale};
 ghost use Rattle.fjall_index.specs.Standing.{KeepsIndexed, nothing};
 
 use crate::reading::is_index_in;
@@ -85,6 +87,7 @@ impl<E: Extract> Indexed<E> {
         ensures stale { IsTrue D.honest → TellsStale (E.field_of self.now.extract) self.now.main self.now.index core.old.engine core.old.transactions result }
         ensures only { result ≡ Err SameKeyspace → ⊥ }
         ensures stand { LeavesStanding D.honest core.old.engine core.new.engine }
+        ensures cause { IfErr result (OfEngineOrStale (IsRefusedForEither core.old.engine Present self.now.main self.now.index core.new.engine)) }
         ensures same { core.new.transactions ≡ core.old.transactions }
         ensures keeps { IsTrue D.honest → KeepsIndexed (E.field_of self.now.extract) self.now.main self.now.index nothing
             core.old.engine core.old.transactions core.new.engine core.new.transactions }

@@ -1,9 +1,10 @@
 //! A transaction of an index, which keeps what it writes until it commits.
 
-ghost use Rattle.std.specs.Prelude.{◌≡◌, [], IsOkUnless, OnErr, OnOk};
+ghost use Rattle.std.specs.Prelude.{◌≡◌, ◌⊎◌, [], IfErr, IsOkUnless, OnErr, OnOk, Some};
 ghost use Rattle.std.specs.BTreeMap.{IsOrdered, insert_entry};
 ghost use Rattle.fjall_base.specs.Pairs.{byte_order};
 ghost use Rattle.fjall_base.specs.declared.error.Error.TheVariants.{OutOfMemory};
+ghost use Rattle.fjall_journal.specs.Ops.{items_refusal};
 ghost use Rattle.fjall_tx.specs.Marks.{OfKey};
 ghost use Rattle.fjall_transactions.specs.Transactions.{having_read, with_own_items};
 ghost use Rattle.fjall_index.specs.Changes.{IsSameTx, batch_of};
@@ -59,6 +60,8 @@ pub(crate) fn write_kept(
 ) -> Result<()>
     ensures ok { OnOk result (transaction.new ≡ with_own_items transaction.old (batch_of changes.entries)) }
     ensures ordered { OnOk result (IsOrdered byte_order changes) }
+    ensures cause { IfErr result (λ e. (e ≡ OutOfMemory) ⊎ (items_refusal (batch_of changes.entries) ≡ Some e)) }
+    ensures ticket { transaction.new.ticket ≡ transaction.old.ticket }
 {
     let mut batch = Vec::new(alloc);
     for (_, mut items) in changes {

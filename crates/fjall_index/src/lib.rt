@@ -7,6 +7,7 @@ mod indexed_tx;
 mod laws;
 mod loading;
 mod reading;
+mod rebuilding;
 
 // What a caller names beside the index, so that who keeps one lists this crate alone.
 pub use fjall_base::{Error, KvPair, Slice};
@@ -20,4 +21,7 @@ pub use fjall_transactions::{
 };
 pub use indexed::Indexed;
 pub use indexed_tx::IndexedTx;
-pub use laws::{an_open_transaction_stays, views_show_the_index};
+pub use laws::{
+    an_open_transaction_stays, an_opening_keeps_the_index, another_call_keeps_the_index,
+    views_show_the_index,
+};
