@@ -22,6 +22,21 @@ use std::rt::Env;
 // What wrong arguments are answered.
 const USAGE: &str = "usage: fjall-index-run";
 
+// Adds the answer to a line, wholly or not at all.
+fn answer_line(session: &mut Session, line: &str, out: &mut String) -> Result<(), IndexError> {
+    let before = out.len();
+    let told = match session.take(line) {
+        Ok(answer) => writeln!(out, "{answer}"),
+        Err(Undone::Ended(error)) => return Err(error),
+        Err(undone) => writeln!(out, "{undone}"),
+    };
+    if let Err(error) = told {
+        out.truncate(before);
+        return Err(IndexError::from(error));
+    }
+    Ok(())
+}
+
 // Adds the answers to the lines of a text, up to one that ends the program.
 fn answer_lines(session: &mut Session, text: &[u8], out: &mut String) -> Result<(), IndexError> {
     if text.is_empty() {
@@ -30,11 +45,7 @@ fn answer_lines(session: &mut Session, text: &[u8], out: &mut String) -> Result<
     let lines = text.strip_suffix(b"\n").unwrap_or(text);
     for line in lines.split(|byte| *byte == b'\n') {
         // what is no text has no word of a command
-        match session.take(str::from_utf8(line).unwrap_or("")) {
-            Ok(answer) => writeln!(out, "{answer}")?,
-            Err(Undone::Ended(error)) => return Err(error),
-            Err(undone) => writeln!(out, "{undone}")?,
-        }
+        answer_line(session, str::from_utf8(line).unwrap_or(""), out)?;
     }
     Ok(())
 }

@@ -20,7 +20,7 @@ fn place(word: &str) -> Tried<usize> {
 }
 
 impl Session {
-    // Gives a line its number, which it has even where no memory is found for it.
+    // Gives a line its number, whatever it is answered.
     fn next_number(&mut self) -> Tried<usize> {
         self.asked = self.asked.saturating_add(1);
         for _ in self.numbered.len()..self.asked {
@@ -38,7 +38,6 @@ impl Session {
 
     /// Begins a transaction.
     pub(crate) fn begin(&mut self) -> Tried<Answer> {
-        self.both()?;
         let number = self.next_number()?;
         let (indexed, core) = self.both()?;
         let transaction = indexed.begin(core)?;
@@ -48,7 +47,6 @@ impl Session {
 
     /// Opens a snapshot.
     pub(crate) fn snapshot(&mut self) -> Tried<Answer> {
-        self.core()?;
         let number = self.next_number()?;
         let ticket = self.core()?.snapshot()?;
         self.keep(number.wrapping_sub(1), Numbered::Snapshot(ticket));

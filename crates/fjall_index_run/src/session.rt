@@ -15,7 +15,7 @@ pub struct Session {
     pub(crate) core: Box<Option<Core<Handle>>>,
     /// An index is open only where a core is.
     pub(crate) opened: Option<Opened>,
-    /// How many lines have numbers, those too that found no memory.
+    /// How many lines have numbers.
     pub(crate) asked: usize,
     /// What these lines opened, in their order.
     pub(crate) numbered: Vec<Numbered>,
