@@ -100,6 +100,8 @@ class Model:
     """A core over a disk, with the index that is open on it."""
 
     def __init__(self, commands=(), safe=0):
+        # How many lines have numbers before this core is there.
+        self.numbered = 0
         # Behind the commands that were accepted, those that a call tried which met a fault: a crash may leave a beginning of them.
         self.commands, self.tried, self.safe = list(commands), [], safe
         # None where it isn't known.
@@ -119,7 +121,7 @@ class Model:
     # ---- what is due
 
     def slot(self, word, kind):
-        at = int(word) - 1
+        at = int(word) - 1 - self.numbered
         found = self.slots[at] if 0 <= at < len(self.slots) else None
         return found if isinstance(found, kind) else None
 
@@ -136,7 +138,7 @@ class Model:
         if word in ('begin', 'put-in', 'del-in', 'commit', 'rollback', 'find-at') or words[:1] == ['close'] and len(words) == 2:
             return self.due_of_number(words)
         if word in ('persist', 'close', 'snapshot'):
-            return (OK if word != 'snapshot' else 'snapshot %d' % len(self.slots)), []
+            return (OK if word != 'snapshot' else 'snapshot %d' % (self.numbered + len(self.slots))), []
         return self.due_of_index(words, state)
 
     def due_of_spec(self, word, spec, state):
@@ -190,7 +192,7 @@ class Model:
         if self.spec is None:
             return BAD_LINE, []
         if word == 'begin':
-            return 'tx %d' % len(self.slots), []
+            return 'tx %d' % (self.numbered + len(self.slots)), []
         found = self.slot(words[1], dict if word == 'find-at' else Tx)
         if found is None:
             return CLOSED, []
@@ -264,10 +266,8 @@ class Model:
         word = words[0]
         if word == 'close' and len(words) == 1:
             self.shut()
-        elif word in ('commit', 'rollback', 'close') and 0 < int(words[1]) <= len(self.slots):
-            kind = dict if word == 'close' else Tx
-            if self.slot(words[1], kind) is not None:
-                self.slots[int(words[1]) - 1] = None
+        elif word in ('commit', 'rollback', 'close') and self.slot(words[1], dict if word == 'close' else Tx) is not None:
+            self.slots[int(words[1]) - 1 - self.numbered] = None
 
     def meet(self, words, answer):
         """A line met the fault, or found no memory: nothing was tried then, but that an index makes its keyspaces first."""
@@ -280,15 +280,18 @@ class Model:
 
     # ---- openings
 
-    def see(self, name, answer):
-        """Takes what a keyspace shows behind an opening."""
+    def see(self, name, answer, is_last):
+        """Takes what a keyspace shows behind an opening, and behind the last one finds what stands there: all of that is safe from then
+        on."""
         if self.at_fault is None and answer in FAULTS:
             self.at_fault = (self.commands + self.tried, self.safe)
         else:
             self.shown[name] = answer
+        if is_last:
+            self.find_commands()
 
-    def opened(self):
-        """Finds what stands behind an opening, by what its keyspaces show: all of that is safe from then on."""
+    def find_commands(self):
+        """Finds a beginning of the commands, the longest one, that leaves what is shown."""
         tried = self.commands + self.tried
         for count in range(len(tried), self.safe - 1, -1):
             state = fold(tried[:count])
