@@ -61,6 +61,15 @@ class Spec(namedtuple('Spec', 'main index at len')):
         return [self.main, self.index, str(self.at), str(self.len)]
 
 
+class Some(str):
+    """An answer of some of these pairs, whichever."""
+
+    def __eq__(self, answer):
+        return set(answer.split()) <= set(self.split())
+
+    __hash__ = None
+
+
 def spec_of(words):
     return Spec(words[0], words[1], int(words[2]), int(words[3]))
 
@@ -104,6 +113,8 @@ class Model:
         self.numbered = 0
         # Behind the commands that were accepted, those that a call tried which met a fault: a crash may leave a beginning of them.
         self.commands, self.tried, self.safe = list(commands), [], safe
+        # How many of those the core may show: keyspaces that a call made which was refused behind that.
+        self.counts = [0]
         # None where it isn't known.
         self.is_poisoned = False
         self.at_fault, self.slots, self.shown = None, [], {}
@@ -112,11 +123,6 @@ class Model:
     def shut(self):
         self.is_open, self.spec, self.log = False, None, []
         self.slots = [None] * len(self.slots)
-
-    def states(self):
-        """What the core may show: whether a keyspace was made by a call that was refused behind that isn't known."""
-        most = len(self.tried) if all(not any(command.values()) for command in self.tried) else 0
-        return [(count, fold(self.commands + self.tried[:count])) for count in range(most + 1)]
 
     # ---- what is due
 
@@ -171,7 +177,7 @@ class Model:
         if spec is None:
             return BAD_LINE, []
         if word == 'find':
-            return pairs_text(spec.found(state, read(words[1]))), []
+            return self.due_of_find(state, read(words[1])), []
         if word == 'check':
             return (OK if spec.is_right(state) else STALE), []
         if word == 'rebuild':
@@ -185,6 +191,12 @@ class Model:
                 return changes[read(key)], []
         return OK, [joined(changes.values())] if changes else []
 
+    def due_of_find(self, state, field):
+        """The pairs with a field; where the index is stale just those of the main keyspace are known."""
+        if self.spec.is_right(state):
+            return pairs_text(self.spec.found(state, field))
+        return Some(pairs_text(state[self.spec.main]))
+
     def due_of_number(self, words):
         word, rest = words[0], words[2:]
         if word == 'close':
@@ -197,7 +209,7 @@ class Model:
         if found is None:
             return CLOSED, []
         if word == 'find-at':
-            return pairs_text(self.spec.found(found, read(rest[0]))), []
+            return self.due_of_find(found, read(rest[0])), []
         if word == 'commit':
             if any(found.changes.keys() & keys for keys in self.log[found.since:]):
                 return 'conflict', []
@@ -219,11 +231,14 @@ class Model:
         if answer == POISONED and self.is_poisoned is not False and words[0] in CHANGES:
             self.is_poisoned = True
             return self.end(words)
-        dues = [(count, state) + self.due(words, state) for count, state in self.states()]
-        for count, state, due, commands in dues:
-            if answer == due:
-                return self.accept(words, answer, self.tried[:count] + commands if commands else [], state)
-        raise Wrong('%s: %s, not %s' % (' '.join(words)[:100], answer[:300], dues[0][2][:300]))
+        states = [fold(self.commands + self.tried[:count]) for count in self.counts]
+        dues = [self.due(words, state) for state in states]
+        found = [at for at, (due, _) in enumerate(dues) if answer == due]
+        if not found:
+            raise Wrong('%s: %s, not %s' % (' '.join(words)[:100], answer[:300], dues[0][0][:300]))
+        self.counts = [self.counts[at] for at in found]
+        commands = dues[found[0]][1]
+        self.accept(words, answer, self.tried[:self.counts[0]] + commands if commands else [], states[found[0]])
 
     def accept(self, words, answer, commands, state):
         """Takes an answer that is due, and the commands that are accepted with it."""
@@ -231,7 +246,7 @@ class Model:
         if commands:
             if self.is_poisoned:
                 raise Wrong('%s is done by a poisoned core' % ' '.join(words))
-            self.is_poisoned, self.tried = False, []
+            self.is_poisoned, self.tried, self.counts = False, [], [0]
             self.commands += commands
             if word == 'index':
                 # What makes a keyspace syncs what was before it.
@@ -271,8 +286,9 @@ class Model:
 
     def meet(self, words, answer):
         """A line met the fault, or found no memory: nothing was tried then, but that an index makes its keyspaces first."""
-        _, commands = self.due(words, self.states()[0][1])
+        _, commands = self.due(words, fold(self.commands))
         self.tried = commands if answer == FAULTS[0] or words[0] == 'index' else []
+        self.counts = list(range(len(self.tried) + 1)) if words[0] == 'index' else [0]
         if answer == FAULTS[0] and words[0] in CHANGES:
             self.is_poisoned = None
         self.at_fault = (self.commands + self.tried, self.safe)
@@ -296,6 +312,7 @@ class Model:
         for count in range(len(tried), self.safe - 1, -1):
             state = fold(tried[:count])
             if all(answer == self.due_of_keyspace(['pairs', name], state)[0] for name, answer in self.shown.items()):
-                self.commands, self.tried, self.safe, self.is_poisoned = tried[:count], [], count, False
+                self.commands, self.tried, self.counts = tried[:count], [], [0]
+                self.safe, self.is_poisoned = count, False
                 return
         raise Wrong('%s is none of %d commands, %d at least' % (self.shown, len(tried), self.safe))
