@@ -306,8 +306,7 @@ module _ (field : FieldOf) (main index since : ℕ) where
         let (v, e, third) = commits u n second.keeps (stays is) in
         let items = items_in next.changes.entries in
         let goes = goes_then field main index since mid new amid after t u v d m e items first (goes_then field main index since low new half after u u v m n e items second third) in
-        let load : AreLoads main index next.changes.entries pairs = loads [] (subst (λ (es : List Change). AreLoads main index es []) (sym none) (no_loads main index)) in
-        (
+        let load : AreLoads main index next.changes.entries pairs = loads [] (subst (λ (es : List Change). AreLoads main index es []) (sym none) (no_loads main index)) in (
           v,
           e,
           items,
