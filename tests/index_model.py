@@ -117,7 +117,9 @@ class Model:
         self.counts = [0]
         # None where it isn't known.
         self.is_poisoned = False
-        self.at_fault, self.slots, self.shown = None, [], {}
+        # What a crash may leave where the fault was met, and how much it must; None where it may still come.
+        self.at_fault = ()
+        self.slots, self.shown = [], {}
         self.shut()
 
     def shut(self):
