@@ -73,7 +73,8 @@ impl<E: Extract, D: Disk + Drop> IndexedKeyspace<E, D> {
         key: UserKey,
         new: Option<UserValue>,
     ) -> Result<()>
-        ensures kept { OnOk result (KeepsChange (E.field_of self.now.extract) self.now.main self.now.index key new tx.old.changes.entries tx.new.changes.entries) }
+        ensures kept { OnOk result (KeepsChange (E.field_of self.now.extract) self.now.main self.now.index key new
+            tx.old.changes.entries tx.new.changes.entries) }
         ensures unchanged { OnErr result (tx.new.changes.entries ≡ tx.old.changes.entries) }
     {
         let old = tx.transaction.at(rt).get(&self.main, key.as_slice())?;
@@ -112,7 +113,8 @@ impl<E: Extract, D: Disk + Drop> IndexedKeyspace<E, D> {
         key: &[u8],
         value: &[u8],
     ) -> Result<()>
-        ensures kept { OnOk result (KeepsChange (E.field_of self.now.extract) self.now.main self.now.index key.now (Some value.now) tx.old.changes.entries tx.new.changes.entries) }
+        ensures kept { OnOk result (KeepsChange (E.field_of self.now.extract) self.now.main self.now.index key.now (Some value.now)
+            tx.old.changes.entries tx.new.changes.entries) }
         ensures unchanged { OnErr result (tx.new.changes.entries ≡ tx.old.changes.entries) }
     {
         self.check_pair(key, value)?;
@@ -122,7 +124,8 @@ impl<E: Extract, D: Disk + Drop> IndexedKeyspace<E, D> {
 
     /// Takes a key and its value away within a transaction. It is refused as [`put_in`](IndexedKeyspace::put_in) is.
     pub fn del_in<R: Wait>(&self, rt: &R, tx: &mut IndexedWriteTx<D>, key: &[u8]) -> Result<()>
-        ensures kept { OnOk result (KeepsChange (E.field_of self.now.extract) self.now.main self.now.index key.now None tx.old.changes.entries tx.new.changes.entries) }
+        ensures kept { OnOk result (KeepsChange (E.field_of self.now.extract) self.now.main self.now.index key.now None
+            tx.old.changes.entries tx.new.changes.entries) }
         ensures unchanged { OnErr result (tx.new.changes.entries ≡ tx.old.changes.entries) }
     {
         check_item(key, &[])?;
