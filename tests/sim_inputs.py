@@ -4,6 +4,7 @@ from pathlib import Path
 from types import SimpleNamespace
 
 from sim_model import BEGINNINGS, ENDINGS, History, Wrong, same, stands
+from sim_transactions import BEGINS, ENDS, WITHIN
 
 HERE = Path(__file__).resolve().parent
 # The program, and what makes one of its requests for memory fail.
@@ -102,11 +103,11 @@ def script_of(name):
 
 
 def lists_of(script):
-    """The lines in lists: those from the beginning of a job up to its end are one."""
+    """The lines in lists: those from the beginning of a job or a transaction up to its end are one."""
     found, begun = [[]], 0
     for line in script:
         found[-1].append(line)
-        begun = max(begun + (line[0] in BEGINNINGS) - (line[0] in ENDINGS), 0)
+        begun = max(begun + (line[0] in BEGINNINGS + BEGINS) - (line[0] in ENDINGS + ENDS), 0)
         if begun == 0:
             found.append([])
     return [lines for lines in found if lines]
@@ -116,23 +117,30 @@ class Play:
     """A database that is opened over the disk as it stands, and takes a script; what each list left is looked at."""
 
     def __init__(self, into, script):
-        # `numbers` are those of the lines that open snapshots, `tickets` the ids that these were answered.
-        self.into, self.history, self.numbers, self.tickets, self.made = into, History(), [], {}, 0
+        # `numbers` are those of the lines that open snapshots and begin transactions, `snapshots` those of them that open snapshots,
+        # `tickets` the ids that these were answered.
+        self.into, self.history, self.made = into, History(), 0
+        self.numbers, self.snapshots, self.tickets = [], [], {}
         self.open()
-        for lines in lists_of(script):
-            if lines == [['reopen']]:
-                into.say('close', self.history.closed)
-                self.open()
-            else:
-                for line in lines:
-                    self.ask(line)
-                self.look()
+        for at, lines in enumerate(lists_of(script)):
+            self.take(at, lines)
         into.expect('drop', 'ok')
+
+    def take(self, at, lines):
+        """Takes a list of the script."""
+        if lines == [['reopen']]:
+            self.into.say('close', self.history.closed)
+            self.open()
+        else:
+            for line in lines:
+                self.ask(line)
+            self.end_list()
+            self.look()
 
     def open(self):
         """Opens it, with a second try where the first meets the fault."""
         history, first = self.history, []
-        self.numbers = []
+        self.numbers, self.snapshots = [], []
 
         def tried(answer):
             self.tickets.clear()
@@ -148,34 +156,54 @@ class Play:
         self.into.say('open', again)
         self.into.twice('show', history.opened, history)
 
+    def is_counted(self, line):
+        """Whether a line that gets a number does."""
+        return True
+
+    def heard(self, line):
+        """A line as the model hears it: a transaction has a name, and a snapshot is that of its ticket."""
+        word = line[0]
+        if word in BEGINS:
+            return [word, str(self.into.asked)]
+        if word in WITHIN + ENDS:
+            return [word, str(self.numbers[int(line[1])])] + line[2:]
+        return line
+
     def ask(self, line):
-        """Asks for what a line says; a snapshot goes by its number among all that the input opens."""
+        """Asks for what a line says; a snapshot or a transaction goes by its number among all that the input opens."""
         word, number = line[0], None
         if word in ('clone_snapshot', 'close_snapshot'):
             number = self.numbers[int(line[1])]
-        if word in ('snapshot', 'clone_snapshot'):
-            self.into.asked += 1
+        if word in ('snapshot', 'clone_snapshot') + BEGINS:
+            self.into.asked += self.is_counted(line)
             self.numbers.append(self.into.asked)
+            self.snapshots += [self.into.asked] * (word not in BEGINS)
         self.made += word == 'keyspace'
-        opens = self.into.asked
+        opens, heard = self.into.asked, self.heard(line)
 
         def hear(answer):
-            self.history.hear(line if number is None else [word, self.tickets.get(number)], answer)
+            self.history.hear(heard if number is None else [word, self.tickets.get(number)], answer)
             if answer.startswith('ticket '):
                 self.tickets[opens] = int(answer.split()[1])
-        words = ['snapshot', 'id'] if word == 'snapshot' else line if number is None else [word, str(number)]
+        words = heard if number is None else [word, str(number)]
+        if word == 'snapshot':
+            words = ['snapshot', 'id']
+        elif word in BEGINS:
+            words = line
         self.into.say(' '.join(words), hear)
+
+    def end_list(self):
+        self.into.say('next', lambda answer: (self.history.end_list(), same(answer, 'ok')))
 
     def look(self):
         """Looks at what a list left: keyspaces, pairs, journals and tables, and what each snapshot shows."""
         into, history = self.into, self.history
-        into.say('next', lambda answer: (history.end_list(), same(answer, 'ok')))
         into.twice('show', lambda answer: same(answer, history.shown()), history)
         self.count('journals')
         for id in range(1, self.made + 1):
             self.count('tables', id)
             self.count('level0', id)
-            for number in self.numbers:
+            for number in self.snapshots:
                 self.view(number, id)
         into.expect('get_at %d 1 6b' % END, 'error 20 SnapshotClosed')
 

@@ -5,6 +5,8 @@ A command is what takes a number of its own: ('keyspace', NAME), ('delete', ID),
 commands. A line is the list of its words, but that a snapshot is named by the id of its ticket, None where it got none."""
 from dataclasses import dataclass, field
 
+from sim_transactions import BEGINS, COMMITS, ENDS, READS, UPDATES, WITHIN, Transactions
+
 MERGES = ('merge_begin', 'merge_due_begin')
 BEGINNINGS = ('flush_begin',) + MERGES
 ENDINGS = ('flush_finish', 'merge_finish')
@@ -266,6 +268,7 @@ class History:
     # The commands that were tried at the fault, and how many of them were safe.
     at_fault: tuple = None
     tickets: Tickets = field(default_factory=Tickets)
+    transactions: Transactions = field(default_factory=Transactions)
     work: Work = field(default_factory=Work)
     tables: Tables = field(default_factory=Tables)
 
@@ -278,6 +281,9 @@ class History:
     def command(self, line):
         """The command that a line is, where its keyspace lives or is to be made."""
         homes, word = self.homes(), line[0]
+        if word in COMMITS:
+            changes = self.transactions.changes(line[1])
+            return ('write', changes) if changes and all(id in homes for id, _, _ in changes) else None
         if word == 'keyspace':
             return None if line[1] in [name for name, _ in homes.values()] else (word, line[1])
         if word in ('delete', 'clear'):
@@ -374,9 +380,46 @@ class History:
         self.tickets.shows[line[1]] = None
         return 'ok'
 
+    def note_transaction(self, line, command):
+        """Takes note of a line of transactions; answers the answers that are due."""
+        word, name = line[0], line[1]
+        if word in BEGINS:
+            ticket = self.tickets.open(self.accepted)
+            self.transactions.begin(name, word == 'begin_single', ticket, self.accepted, self.homes())
+            return ['tx ' + name]
+        if name not in self.transactions.open:
+            return ['error 20 SnapshotClosed']
+        if word in WITHIN:
+            return [self.transactions.take(line)]
+        return self.transactions.conflict(name) if word in COMMITS else ['ok']
+
+    def end_transaction(self, name):
+        """A transaction is open no more, nor is its snapshot."""
+        one = self.transactions.open.pop(name, None)
+        if one is not None:
+            self.tickets.shows[one.ticket] = None
+
+    def last_pairs(self, id):
+        """What a keyspace holds, or held when it was deleted."""
+        commands = self.commands[:self.accepted]
+        if ('delete', id) in commands:
+            commands = commands[:commands.index(('delete', id))]
+        return fold(commands).get(id, ('', {}))[1]
+
+    def note_read(self, line):
+        """What a read of the present is answered."""
+        pairs = self.last_pairs(int(line[1]))
+        if line[0] == 'scan':
+            return [pairs_text(pairs)]
+        return ['value ' + pairs[line[2]] if line[2] in pairs else 'none']
+
     def note(self, line, answer, command):
         """Takes note of what a line does beside its command; answers the answers that it may get, where they are known."""
         word = line[0]
+        if word in BEGINS + WITHIN + ENDS:
+            return self.note_transaction(line, command)
+        if word in ('get', 'scan'):
+            return self.note_read(line)
         if word in ('snapshot', 'clone_snapshot', 'close_snapshot', 'gc'):
             return [self.note_snapshot(line)]
         if word in BEGINNINGS:
@@ -411,15 +454,28 @@ class History:
             return command is not None
         if word == 'commit_batch':
             return command is not None and line[1] in ('data', 'all')
+        if word in COMMITS:
+            return command is not None and self.transactions.open[line[1]].is_synced
         if word == 'persist':
             return line[1] != 'buffer'
         return word == 'rotate_journal' or word == 'flush_begin' and is_begun(answer)
 
     def hear(self, line, answer):
         """Takes what a line was answered."""
+        self.hear_line(line, answer)
+        if line[0] in ENDS:
+            is_unsure = answer.startswith('error 17 ') and line[1] in self.transactions.open
+            if is_unsure and not self.transactions.open[line[1]].is_unsure:
+                self.transactions.open[line[1]].is_unsure = True
+            else:
+                self.end_transaction(line[1])
+
+    def hear_line(self, line, answer):
         command = self.command(line)
         if answer.startswith('error '):
             return self.refuse(line, answer, command)
+        if line[0] in COMMITS and answer == 'conflict':
+            command = None
         told = 'job' if is_begun(answer) and answer.endswith(' of ' + line[1]) else answer
         due = self.note(line, answer, command)
         if due is not None and told not in due:
@@ -428,6 +484,8 @@ class History:
             raise Wrong('%s is done by a poisoned database' % words_of(line))
         if command:
             self.commands.append(command)
+            if line[0] in COMMITS:
+                self.transactions.commit(line[1], len(self.commands) - 1)
         if not self.is_poisoned:
             self.accepted = len(self.commands)
         if self.is_sync(line, answer, command):
@@ -456,15 +514,20 @@ class History:
         name, word = answer.split()[2], line[0]
         if name == 'Poisoned':
             is_due = self.is_poisoned
+        elif name == 'SnapshotClosed' and word in WITHIN + ENDS:
+            is_due = line[1] not in self.transactions.open or self.transactions.open[line[1]].is_unsure
         elif name == 'SnapshotClosed':
             is_due = word in ('clone_snapshot', 'close_snapshot') and self.tickets.shown(line[1]) is None
         elif name in ('UnknownKeyspace', 'KeyspaceDeleted'):
             is_due = command is None and self.at_fault is not None
-        elif word in MERGES:
-            # The one line beside reads that no fault poisons.
+        elif word in MERGES + WITHIN + ('get', 'scan'):
+            # The lines that no fault poisons.
+            if word in READS + UPDATES and line[1] in self.transactions.open:
+                self.transactions.open[line[1]].mark(line, is_tried=True)
             return self.meet(answer)
         else:
-            self.work.is_unsure = self.work.is_unsure or word in ('rotate_journal', 'maintenance', 'ingest') + ENDINGS
+            is_done_in_part = word in ('rotate_journal', 'maintenance', 'ingest') + ENDINGS
+            self.work.is_unsure |= is_done_in_part and answer.startswith('error 1 Io')
             return self.fault(answer, command)
         if not is_due:
             raise Wrong('%s: %s' % (words_of(line), answer))
@@ -473,6 +536,7 @@ class History:
         """No later list of calls names a job that is out."""
         self.work.lose_jobs()
         self.tables.lose_jobs()
+        self.transactions.open.clear()
 
     # ---- openings, and what is looked at
 
@@ -482,7 +546,7 @@ class History:
         del self.commands[count:]
         self.accepted = self.safe = count
         self.is_poisoned = False
-        self.tickets = Tickets()
+        self.tickets, self.transactions = Tickets(), Transactions()
         self.tickets.gc(count)
         self.work.open(self.commands, self.homes())
         self.tables.open()
