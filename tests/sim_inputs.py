@@ -102,6 +102,9 @@ def script_of(name):
     return [line.split() for line in text if not line.startswith('#')], (int(head[1]), int(head[4]))
 
 
+OPENS = ('snapshot', 'clone_snapshot') + BEGINS
+
+
 def lists_of(script):
     """The lines in lists: those from the beginning of a job or a transaction up to its end are one."""
     found, begun = [[]], 0
@@ -156,9 +159,13 @@ class Play:
         self.into.say('open', again)
         self.into.twice('show', history.opened, history)
 
-    def is_counted(self, line):
-        """Whether a line that gets a number does."""
+    def is_counted(self):
+        """Whether the line that comes next gets its number."""
         return True
+
+    def keep_number(self):
+        """Keeps the number of the next line that a script names by its place among such lines."""
+        self.numbers.append(self.into.asked)
 
     def heard(self, line):
         """A line as the model hears it: a transaction has a name, and a snapshot is that of its ticket."""
@@ -174,9 +181,9 @@ class Play:
         word, number = line[0], None
         if word in ('clone_snapshot', 'close_snapshot'):
             number = self.numbers[int(line[1])]
-        if word in ('snapshot', 'clone_snapshot') + BEGINS:
-            self.into.asked += self.is_counted(line)
-            self.numbers.append(self.into.asked)
+        if word in OPENS:
+            self.into.asked += self.is_counted()
+            self.keep_number()
             self.snapshots += [self.into.asked] * (word not in BEGINS)
         self.made += word == 'keyspace'
         opens, heard = self.into.asked, self.heard(line)
