@@ -199,6 +199,19 @@ class Damage:
                              ('item', id, kind, self.pick([b'a', b'\xff' * 300, key + b'\0']), value), ('item', id, kind, key, self.random.randbytes(9))])
         return self.pick([entries[:at] + [new] + entries[at + 1:], entries + [new], entries[:at] + entries[at + 1:], entries[::-1]])
 
+    def indirection(self):
+        """An item of a batch has the type that no journal may hold, or one that means nothing."""
+        name = self.of_file('.jnl')
+        batches = journal(self.files[name])[0] if name else []
+        places = [(at, place) for at, (_, entries) in enumerate(batches) for place, one in enumerate(entries) if one[0] == 'item']
+        if places:
+            at, place = self.pick(places)
+            number, entries = batches[at]
+            one = entries[place]
+            entries = entries[:place] + [(*one[:2], self.pick([4, 4, 4, 3, 5]), *one[3:])] + entries[place + 1:]
+            texts = [batch_text(*other) for other in batches[:at]] + [batch_text(number, entries)] + [batch_text(*other) for other in batches[at + 1:]]
+            self.files[name] = b''.join(texts)
+
     def record(self):
         """The last record of a `current` is another one, or one more comes."""
         name = self.of_file('current')
@@ -292,7 +305,7 @@ class Damage:
         """Damages it in so many ways."""
         plain = [self.byte] * 4 + [self.cut] * 3 + [self.front, self.added, self.doubled, self.swapped, self.of_another_folder, self.removed, self.renamed]
         plain += [self.copied, self.folder_moved, self.stranger, self.marker]
-        right = [self.batch] * 6 + [self.record] * 6 + [self.entry] * 6 + [self.frame]
+        right = [self.batch] * 6 + [self.record] * 6 + [self.entry] * 6 + [self.frame, self.indirection]
         for _ in range(count):
             if self.names() and self.of_file():
                 way = self.pick(plain if self.random.random() < 0.5 else right)
