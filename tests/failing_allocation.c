@@ -4,6 +4,8 @@
 #include <stddef.h>
 #include <stdio.h>
 #include <stdlib.h>
+#include <sys/syscall.h>
+#include <unistd.h>
 
 extern void *__libc_malloc(size_t);
 extern void *__libc_realloc(void *, size_t);
@@ -57,4 +59,12 @@ __attribute__((destructor)) static void tell(void)
 {
     if (getenv("FAIL_COUNT"))
         fprintf(stderr, "%ld\n", asked);
+}
+
+/* Where a program ends without its destructors. */
+void _exit(int status)
+{
+    tell();
+    syscall(SYS_exit_group, status);
+    __builtin_unreachable();
 }

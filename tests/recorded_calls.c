@@ -3,7 +3,8 @@
    in hexadecimal; only calls that succeeded are told. With FAIL_AT set, the call of that number, counted from 1 and with those that
    fail, goes wrong as FAIL_HOW has it: `EIO` and `EINTR` do nothing and answer so, the second one of calls that a signal may interrupt
    alone; `short` lets a write take half of its bytes. That a file which was there is opened, and that one is closed, is written down
-   too, as `open` and `close`, and not counted. */
+   too, as `open` and `close`, and not counted. Reads of a file, and openings of one for reading, are counted apart: that of the number
+   in READ_FAIL_AT answers EIO, and with RECORD_READS set they are written down, as `read`. */
 #define _GNU_SOURCE
 #include <dlfcn.h>
 #include <errno.h>
@@ -20,6 +21,7 @@
 
 static char *paths[MOST_FILES];
 static long calls = 0;
+static long reads = 0;
 
 /* whether a path lies below the folder that is watched */
 static int is_watched(const char *path)
@@ -86,6 +88,36 @@ static int begins(const char *path, int is_interruptible)
     return 1;
 }
 
+/* Counts a read, and says whether it fails. */
+static int read_fails(const char *path)
+{
+    const char *at = getenv("READ_FAIL_AT");
+    if (!path)
+        return 0;
+    reads += 1;
+    if (getenv("RECORD_READS"))
+        record("read", path, NULL, 0, -1);
+    if (!at || reads != atol(at))
+        return 0;
+    errno = EIO;
+    return 1;
+}
+
+ssize_t read(int file, void *bytes, size_t len)
+{
+    return read_fails(path_of(file)) ? -1 : syscall(SYS_read, file, bytes, len);
+}
+
+ssize_t pread64(int file, void *bytes, size_t len, off64_t at)
+{
+    return read_fails(path_of(file)) ? -1 : syscall(SYS_pread64, file, bytes, len, at);
+}
+
+ssize_t pread(int file, void *bytes, size_t len, off_t at)
+{
+    return pread64(file, bytes, len, at);
+}
+
 /* Opens a file; one that is made by it is told. */
 static int opened(int folder, const char *path, int flags, int mode)
 {
@@ -95,6 +127,8 @@ static int opened(int folder, const char *path, int flags, int mode)
         return -1;
     int lists = is_watched(path) && (flags & O_DIRECTORY);
     if (lists && begins(path, 1))
+        return -1;
+    if (!makes && !lists && read_fails(is_watched(path) && (flags & O_ACCMODE) == O_RDONLY ? path : NULL))
         return -1;
     int file = syscall(SYS_openat, folder, path, flags, mode);
     if (file >= 0 && file < MOST_FILES) {
