@@ -4,11 +4,11 @@ import os
 import shutil
 from concurrent.futures import ThreadPoolExecutor
 
-from recorded_runs import SCRIPT, above
+from recorded_runs import EVERY_LINE, above
 
 FOLDER = "folder"
 # Lines that answer only once all that was accepted before them is safe.
-SYNCS = ("keyspace", "delete", "persist", "reopen")
+SYNCS = ("keyspace", "delete", "persist", "reopen", "flush")
 
 
 class File:
@@ -83,9 +83,14 @@ class Disk:
                 found[path] = entry
         return found
 
-    def left(self, pick, part):
-        """What a crash leaves: bytes of files, and folders."""
-        return {path: FOLDER if entry is FOLDER else entry.left(part) for path, entry in self.stands(pick).items()}
+    def left(self, pick, part, apart=()):
+        """What a crash leaves: bytes of files, and folders. Some files keep another part."""
+        parts = dict(apart)
+        return {path: FOLDER if entry is FOLDER else entry.left(parts.get(path, part)) for path, entry in self.stands(pick).items()}
+
+    def loose(self):
+        """The files that have bytes which aren't synced."""
+        return [path for path, entry in self.stands({}).items() if isinstance(entry, File) and entry.parts()[1]]
 
 
 def build(image, root, place):
@@ -102,12 +107,14 @@ def build(image, root, place):
 class Cuts:
     """A script that ran once, and how far its lines had come behind each call."""
 
-    def __init__(self, program, script=SCRIPT):
+    def __init__(self, program, script=EVERY_LINE):
         self.program = program
         self.script = script
         self.root = program.fresh()
         whole = program.run(self.root, script, {})
-        assert whole.status == 0, whole.errors
+        assert whole.status == 0 and "error 0 BadLine" not in whole.answers, whole
+        # Each flush of it syncs the journal.
+        assert all(whole.answers[at] == "true" for at, line in enumerate(script) if line.startswith("flush")), whole.answers
         self.calls = whole.calls
         self.ends = [self.end_of(count) for count in range(len(script) + 1)]
         self.wanted = [program.wanted(script[:count]) for count in range(len(script) + 1)]
@@ -147,6 +154,9 @@ class Cuts:
         for pick in disk.picks():
             for part in (0, 0.5, 1):
                 yield disk.left(pick, part)
+        for path in disk.loose():
+            for part in (0, 0.25, 0.5, 0.75, 1):
+                yield from (disk.left({}, others, {path: part}) for others in (0, 1))
 
     def folders(self, is_kept, left):
         """The folders behind each call, once each, where only the calls that are kept are done."""

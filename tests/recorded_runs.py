@@ -34,6 +34,36 @@ insert 3 6b 39
 persist
 insert 3 6f 40""".split("\n")
 
+# Behind the lines that each kind of call needs, all others of the program: of each kind of write one that isn't synced, reads of each kind,
+# snapshots, transactions, one of which meets another, and a flush of a clear.
+EVERY_LINE = SCRIPT + """batch 3 61 31 3 62 32
+get 3 61
+len 3
+snapshot
+clear 3
+get_at 1 3 61
+insert 3 6e 42
+begin
+begin
+tx_get 3 3 63
+tx_insert 2 3 63 33
+tx_insert 3 3 70 34
+commit 2
+commit 3
+close_snapshot 1
+gc
+rotate 3
+flush 3
+keyspace c
+batch 3 64 34 3 6e ~ 4 65 353535 3 65 35
+insert 4 6b 43
+rotate 3
+flush 3
+merge 3
+scan 3
+clear 3
+insert 3 6f 44""".split("\n")
+
 # What a folder is asked for, so that two that answer alike hold alike.
 PROBE = ["scan 1", "scan 2", "scan 3", "scan 4", "keyspace a", "keyspace b"]
 
@@ -81,7 +111,7 @@ class Program:
                     name, path, given = line.rstrip("\n").split("\t")
                     told.append(Call(name, path.rstrip("/"), given))
             os.remove(log)
-        calls = [call for call in told if call.name not in ("open", "close")]
+        calls = [call for call in told if call.name not in ("open", "close", "read")]
         return Run(done.returncode, done.stdout.split("\n")[:-1], done.stderr.strip(), calls, told)
 
     def fresh(self):
