@@ -1,6 +1,7 @@
 """Runs of the program under recorded_calls.c, and what they have to leave in a folder."""
 
 import os
+import shutil
 import subprocess
 import tempfile
 from collections import namedtuple
@@ -117,6 +118,12 @@ class Program:
     def fresh(self):
         """The path of a folder that isn't there yet, nor is the one above it, in a folder of its own."""
         return os.path.join(tempfile.mkdtemp(dir=self.work), "new", "db")
+
+    def fresh_copy(self, place):
+        """The path of a copy of a folder, in a folder of its own."""
+        copy = self.fresh()
+        shutil.copytree(place, copy)
+        return copy
 
     def probed(self, place):
         """What a folder holds, or how it is refused."""
