@@ -180,7 +180,7 @@ class Damage:
         texts[at] = self.pick([
             batch_text(self.number(number), entries), batch_text(number, entries, self.number(len(entries)) % (1 << 32)),
             batch_text(number, self.other_entries(entries)), batch_text(number, self.other_entries(entries)), texts[at] * 2, b'',
-            texts[at] + batch_text(number + 1, []), texts[at] + batch_text(self.number(number), [self.pick(entries or [('clear', 1)])])])
+            texts[at] + batch_text((number + 1) % (1 << 64), []), texts[at] + batch_text(self.number(number), [self.pick(entries or [('clear', 1)])])])
         if self.random.random() < 0.1:
             self.random.shuffle(texts)
         self.files[name] = b''.join(texts) + end
