@@ -20,7 +20,7 @@ def tried(part):
     try:
         return part[0](*part[1:]), None
     except Exception as wrong:
-        return 0, '%s(%s): %s' % (part[0].__name__, ', '.join(map(repr, part[1:])), wrong)
+        return 0, '%s(%s): %s' % (part[0].__name__, ', '.join(repr(word)[:100] for word in part[1:]), wrong)
 
 
 def run(pool, name, what, least, parts):
