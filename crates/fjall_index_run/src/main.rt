@@ -24,16 +24,13 @@ const USAGE: &str = "usage: fjall-index-run";
 
 // Adds the answer to a line, wholly or not at all.
 fn answer_line(session: &mut Session, line: &str, out: &mut String) -> Result<(), IndexError> {
-    let before = out.len();
+    let alloc = session.alloc;
     let told = match session.take(line) {
-        Ok(answer) => writeln!(out, "{answer}"),
+        Ok(answer) => format!(in alloc; "{answer}\n")?,
         Err(Undone::Ended(error)) => return Err(error),
-        Err(undone) => writeln!(out, "{undone}"),
+        Err(undone) => format!(in alloc; "{undone}\n")?,
     };
-    if let Err(error) = told {
-        out.truncate(before);
-        return Err(IndexError::from(error));
-    }
+    out.push_str(told.as_str())?;
     Ok(())
 }
 
