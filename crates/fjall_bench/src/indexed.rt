@@ -48,7 +48,7 @@ fn opened<D: Disk + Drop>(alloc: Global, disk: D) -> fjall_base::Result<Core<D>>
 // The value of a number: its field, which the numbers of a group have in common, and bytes that are always the same.
 fn value_of(number: u64, groups: u64) -> [u8; VALUE_LEN] {
     let mut value = [0x76; VALUE_LEN];
-    value[..8].copy_from_slice(&(number % groups).to_be_bytes());
+    value[..8].copy_from_slice(&(number % groups.max(1)).to_be_bytes());
     value
 }
 
