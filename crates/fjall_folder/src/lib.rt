@@ -8,7 +8,9 @@ mod kept;
 mod lock;
 mod names;
 mod paths;
+mod reader;
 
 pub use disk::FolderDisk;
 pub use lock::LockedFileGuard;
 pub use names::{is_usable, stays_within};
+pub use reader::FolderReader;

@@ -4,7 +4,7 @@ ghost use Rattle.std.specs.Prelude.{◌≡◌, ◌+◌, ◌<◌, ◌≤◌, fals
 ghost use Rattle.fjall_folder.specs.Refusals.{IsFolderRefusal};
 
 use crate::faults::refusal;
-use crate::paths::{open_file, refuse_special};
+use crate::paths::{is_missing, open_file, refuse_special};
 use fjall_base::{Error, Result};
 use std::fs::{File, OpenOptions, TryLockError};
 use std::io;
@@ -13,10 +13,11 @@ use std::path::Path;
 // How often the system is asked for a lock that another owner has.
 const TRIES: u32 = 3;
 
-// A file whose lock is asked for, and how often it was.
+// A file whose lock is asked for, whether with other readers, and how often it was.
 #[derive(Drop)]
 struct LockRequest {
     file: File,
+    is_shared: bool,
     asked: u32,
 }
 
@@ -27,7 +28,12 @@ impl LockRequest {
         ensures { self.new.asked ≡ self.old.asked + 1 }
     {
         self.asked += 1;
-        match self.file.try_lock() {
+        let answer = if self.is_shared {
+            self.file.try_lock_shared()
+        } else {
+            self.file.try_lock()
+        };
+        match answer {
             Ok(()) => Ok(true),
             Err(TryLockError::WouldBlock) => Ok(false),
             Err(TryLockError::Error(error)) => Err(error),
@@ -45,6 +51,21 @@ impl LockRequest {
         }
         Ok(false)
     }
+}
+
+// Asks for the lock of a file three times, without a pause.
+fn locked(file: File, is_shared: bool) -> Result<LockedFileGuard>
+    ensures cause { IfErr result IsFolderRefusal }
+{
+    let mut request = LockRequest {
+        file,
+        is_shared,
+        asked: 0,
+    };
+    if !request.settle().map_err(refusal)? {
+        return Err(Error::Locked);
+    }
+    Ok(LockedFileGuard { file: request.file })
 }
 
 /// Holds the lock of a file. It is released where the guard is dropped, which closes the file.
@@ -65,10 +86,21 @@ impl LockedFileGuard {
         options.read(true).write(true).create(true);
         refuse_special(rt, path).map_err(refusal)?;
         let file = open_file(rt, &options, path).map_err(refusal)?;
-        let mut request = LockRequest { file, asked: 0 };
-        if !request.settle().map_err(refusal)? {
-            return Err(Error::Locked);
+        locked(file, false)
+    }
+
+    /// Asks three times, without a pause, for the lock that readers share of a file that is there, which is opened to be read
+    /// alone; `None` where nothing has that name. It fails as `lock` does, with `Error::Locked` where an owner has the lock.
+    pub fn lock_shared(rt: &HostRuntime, path: Path<'_>) -> Result<Option<LockedFileGuard>>
+        ensures cause { IfErr result IsFolderRefusal }
+    {
+        refuse_special(rt, path).map_err(refusal)?;
+        let mut options = OpenOptions::new();
+        options.read(true);
+        match open_file(rt, &options, path) {
+            Ok(file) => Ok(Some(locked(file, true)?)),
+            Err(error) if is_missing(&error) => Ok(None),
+            Err(error) => Err(refusal(error)),
         }
-        Ok(LockedFileGuard { file: request.file })
     }
 }

@@ -114,6 +114,15 @@ pub(crate) fn make_folders(rt: &HostRuntime, path: &str) -> io::Result<PathBuf> 
     fs::canonicalize(rt, path)
 }
 
+/// The path without links and from the root of the file system on of a folder that is there. Nothing is made.
+pub(crate) fn find_folder(rt: &HostRuntime, path: &str) -> io::Result<PathBuf> {
+    let found = fs::canonicalize(rt, path)?;
+    if !is_folder(rt, found.as_path()) {
+        return Err(ErrorKind::NotADirectory.into());
+    }
+    Ok(found)
+}
+
 /// Whether a folder stands at a path.
 pub(crate) fn is_folder(rt: &HostRuntime, path: Path<'_>) -> bool {
     match fs::symlink_metadata(rt, path) {
