@@ -1,0 +1,12 @@
+//! A database folder looked at without a change: whether it is right down to the blocks of its tables, and what is wrong where.
+#![tactic(auto)]
+
+mod checking;
+mod journals;
+mod mending;
+mod places;
+mod report;
+mod tables;
+
+pub use checking::check;
+pub use report::{Cut, Fault, Report};
