@@ -19,8 +19,9 @@ use Rattle.fjall_table.proofs.TableBlocks.{one_index}
 use Rattle.fjall_table.proofs.TableLaws.{tables_have_an_index}
 use Rattle.fjall_table_reader.specs.Files.{IsIndexed}
 use Rattle.fjall_table_reader.proofs.TableFiles.{has_an_index, one_index_of}
+use Rattle.fjall_manifest.specs.declared.reading.LoadedHome.{LoadedHome}
 use Rattle.fjall_inspect.specs.declared.report.Fault.{Fault}
-use Rattle.fjall_inspect.specs.Faults.{AreToldOf, BlockTells, FileTells, IsOneFault, IsSomeTable, TableTells, is_fault}
+use Rattle.fjall_inspect.specs.Faults.{AreToldOf, BlockTells, FileTells, HomeTells, IsOneFault, IsSomeTable, TableTells, is_fault}
 
 -- ---- errors
 
@@ -127,3 +128,18 @@ module _ (image : Image) (id : ℕ) (info : TableInfo) (name other : Name) (byte
   table_told (Ok faults) told =
       subst (λ (n : Name). FileTells n info (text_in (image (table_name id info.id))) faults.items) named (subst (λ (b : List ℕ). FileTells name info b faults.items) (is ∙ ap (λ (n : Name). text_in (image n)) read) told)
   table_told (Err error) told = tt
+
+module _ (image mid : Image) (same : mid ≡ image) where
+  -- one table more was looked at
+  pub table_more : (id : ℕ) (tables : List TableInfo) (n : ℕ) (d : TableInfo) → n < length tables → (faults more all : List Fault) → all ≡ faults ++ more
+      → AreToldOf (TableTells image id) (take n tables) faults → TableTells mid id (get_or tables n d) more → AreToldOf (TableTells image id) (take (n + 1) tables) all
+  table_more id tables n d lt faults more all is told one =
+      let here = subst (λ (i : Image). TableTells i id (get_or tables n d) more) same one in
+      subst (λ (l : List Fault). AreToldOf (TableTells image id) (take (n + 1) tables) l) (sym is) (told_more (TableTells image id) tables n d (get_or tables n d) lt refl faults more told here)
+
+  -- one home more
+  pub home_more : (homes : List LoadedHome) (n : ℕ) (d home : LoadedHome) → n < length homes → home ≡ get_or homes n d → (tables : List TableInfo) → tables ≡ home.record.tables.items
+      → (faults more all : List Fault) → all ≡ faults ++ more → AreToldOf (HomeTells image) (take n homes) faults → AreToldOf (TableTells mid home.id) tables more → AreToldOf (HomeTells image) (take (n + 1) homes) all
+  home_more homes n d home lt at tables are faults more all is told one =
+      let here = subst (λ (l : List TableInfo). AreToldOf (TableTells image home.id) l more) are (subst (λ (i : Image). AreToldOf (TableTells i home.id) tables more) same one) in
+      subst (λ (l : List Fault). AreToldOf (HomeTells image) (take (n + 1) homes) l) (sym is) (told_more (HomeTells image) homes n d home lt at faults more told here)

@@ -6,7 +6,9 @@ mod journals;
 mod mending;
 mod places;
 mod report;
+mod surveying;
 mod tables;
 
 pub use checking::check;
 pub use report::{Cut, Fault, Report};
+pub use surveying::{KeyspaceSurvey, TableCounts, survey};
