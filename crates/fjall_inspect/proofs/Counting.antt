@@ -1,9 +1,7 @@
 -- Counts of tables, and surveys of one keyspace after another.
-use Rattle.std.proofs.Common.{◌≡◌, ℕ, ◌+◌, ◌-◌, ◌<◌, ◌≤◌, ◌^◌, Bool, true, false, cond, min, List, [], ◌∷◌, ◌++◌, length, take, get_or, Option, None, add-one, refl, sym, ◌∙◌, ap, subst, arith}
+use Rattle.std.proofs.Common.{◌≡◌, ℕ, ◌+◌, ◌<◌, ◌≤◌, List, [], ◌∷◌, ◌++◌, length, take, get_or, Option, None, add-one, refl, sym, ◌∙◌, ap, subst, arith}
 use Rattle.std.specs.List.{filter}
-use Rattle.std.proofs.lemmas.List.{append-nil, take_all}
-use Rattle.std.proofs.lemmas.List.Elements.{filter-append}
-use Rattle.std.proofs.lemmas.List.Sums.{sum_by-append}
+use Rattle.std.proofs.lemmas.List.{take_all}
 use Rattle.std.proofs.Math.Seq.{take-suc}
 use Rattle.fjall_base.specs.Disk.{Image}
 use Rattle.fjall_table.specs.declared.level.Level.{Level}
@@ -13,7 +11,7 @@ use Rattle.fjall_meta.specs.declared.living.LivingKeyspace.{LivingKeyspace}
 use Rattle.fjall_recovery.specs.Homes.{AreHomesRead}
 use Rattle.fjall_inspect.specs.declared.surveying.KeyspaceSurvey.{KeyspaceSurvey}
 use Rattle.fjall_inspect.specs.declared.surveying.TableCounts.{TableCounts}
-use Rattle.fjall_inspect.specs.Surveys.{AreCounts, AreSurveysOf, IsSurveyOf, is_at, total}
+use Rattle.fjall_inspect.specs.Surveys.{AreCounts, AreSurveysOf, IsSurveyOf, is_at}
 
 -- ---- counts
 

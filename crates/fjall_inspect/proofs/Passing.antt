@@ -9,6 +9,7 @@ use Rattle.std.proofs.lemmas.List.Elements.{All-from_recursion}
 use Rattle.fjall_base.specs.declared.error.Error.{Error}
 use Rattle.fjall_base.specs.declared.error.Error.TheVariants.{Io, OutOfMemory}
 use Rattle.fjall_base.specs.Disk.{DiskState, Image, standing}
+use Rattle.fjall_base.specs.Store.{Store}
 use Rattle.fjall_files.specs.Names.{table_name}
 use Rattle.fjall_files.specs.Texts.{text_in}
 use Rattle.fjall_table.specs.declared.table_info.TableInfo.{TableInfo}
@@ -22,8 +23,8 @@ use Rattle.fjall_meta.specs.declared.living.LivingKeyspace.{LivingKeyspace}
 use Rattle.fjall_meta.specs.Keyspaces.{Keyspaces, keyspace_at}
 use Rattle.fjall_contents.proofs.Ids.{living_has}
 use Rattle.fjall_recovery.specs.declared.folder.RecoveredFolder.{RecoveredFolder}
-use Rattle.fjall_recovery.specs.Folders.{Contents, IsFinished, IsOpenable, IsUnfinished, ReadsFolder, ShowsContents}
-use Rattle.fjall_recovery.specs.Homes.{AreHomesRead, HasHomeAt, HasOpenableHome, IsHomeRead}
+use Rattle.fjall_recovery.specs.Folders.{Contents, ImageStandsFor, IsFinished, IsOpenable, IsUnfinished, ReadsFolder, ShowsContents}
+use Rattle.fjall_recovery.specs.Homes.{AreHomesRead, HasHomeAt, HasOpenableHome, HasVersionsAt, IsHomeRead}
 use Rattle.fjall_recovery.specs.Refusals.{FolderRefuses, IsDue}
 use Rattle.fjall_recovery.proofs.Alone.{one_openable}
 use Rattle.fjall_recovery.proofs.Kept.{open_folder_is_kept}
@@ -149,6 +150,17 @@ module _ (image : Image) where
         let read = subst (λ (s : Keyspaces). AreHomesRead image s.living f.homes.items) one finished.homes in
         told_none (HomeTells image) f.homes.items faults
         (all_clean d.keyspaces.living f.homes.items read (housed_right d right d.keyspaces.living (all_housed image d.keyspaces.living d.homes right.openable.homes))) told
+
+-- ---- a folder that stands for a store
+
+pub sound_passes : (image : Image) (store : Store) → ImageStandsFor image store → Passes image
+sound_passes image store (inr unfinished) = inr unfinished.0
+sound_passes image store (inl (c, sound, is)) = inl (c, record { openable = sound.openable; tables = λ id h at. of h (get c.homes id) (get c.versions id) at (sound.versions id) })
+  where
+    of : (h : Home) (found : Option Home) (versions : Option (List Entry)) → found ≡ Some h → HasVersionsAt found versions → HasRightTables h
+    of h (Some g) (Some versions) at has = let same : g ≡ h = cc in subst HasRightTables same (has.lists, has.right)
+    of h (Some g) None at has = absurd has
+    of h None versions at has = let no : ⊥ = cc in absurd no
 
 -- no folder was made to its end whose making was cut short
 whole_or_not : (image : Image) (c : Contents) → IsOpenable image c → IsUnfinished image → ⊥

@@ -3,6 +3,7 @@
 
 mod checking;
 mod journals;
+mod laws;
 mod mending;
 mod places;
 mod report;
@@ -10,5 +11,6 @@ mod surveying;
 mod tables;
 
 pub use checking::check;
+pub use laws::sound_folders_pass;
 pub use report::{Cut, Fault, Report};
 pub use surveying::{KeyspaceSurvey, TableCounts, survey};
