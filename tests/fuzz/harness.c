@@ -1,6 +1,6 @@
-/* Gives an input to one of the readers behind crates/fjall_fuzz, as its first byte says, under libFuzzer. The reader is asked twice, and once
-   more with a request for memory that fails. It aborts where the answers differ, where a reader answers what it never may, asks for more
-   memory than its input accounts for, or keeps some of it. */
+/* Gives an input to one of the readers behind crates/fjall_fuzz, as its first byte says, under libFuzzer. The reader is asked twice, once as
+   another compiler built it, its names beginning with other_ (where OTHER is defined), and once with a request for memory that fails. It
+   aborts where the answers differ, where a reader answers what it never may, holds more memory than its input accounts for, or keeps some. */
 #include <malloc.h>
 #include <stddef.h>
 #include <stdint.h>
@@ -9,39 +9,51 @@
 
 #define REFUSED (UINT64_C(1) << 63)
 #define OUT_OF_MEMORY (REFUSED + 17)
-/* The refusals that a reader may answer, by their numbers. */
+/* The refusals that a reader may answer where memory is there, by their numbers. */
 #define MAY(number) (UINT32_C(1) << (number))
 #define IO 1
 #define STORAGE 2
 #define INVALID_VERSION 4
 #define INVALID_TAG 7
-#define MEMORY 17
+/* Behind how many entries find tells whether its key is there. */
+#define FOUND (UINT64_C(1) << 32)
 /* So many bytes a reader may hold beside MOST_EACH for each byte of its input. */
 #define MOST_ALWAYS ((size_t)1 << 18)
 #define MOST_EACH ((size_t)512)
 
-#define READER(name) extern uint64_t fjall_fuzz_##name(const uint8_t *input, size_t len);
+typedef uint64_t read_bytes(const uint8_t *input, size_t len);
+
+#ifdef OTHER
+#define READER(name) extern read_bytes fjall_fuzz_##name, other_##name;
+#define BUILDS(name) #name, fjall_fuzz_##name, other_##name
+#else
+#define READER(name) extern read_bytes fjall_fuzz_##name;
+#define BUILDS(name) #name, fjall_fuzz_##name, fjall_fuzz_##name
+#endif
+
 READER(journal) READER(batches) READER(current) READER(records) READER(table) READER(blocks)
-READER(policy) READER(options) READER(pairs) READER(marker) READER(lines)
+READER(find) READER(policy) READER(options) READER(pairs) READER(keyspaces) READER(marker) READER(lines)
 
 static const struct reader {
     const char *name;
-    uint64_t (*read)(const uint8_t *input, size_t len);
+    read_bytes *read, *other;
     uint32_t refusals;
     /* How much it may answer for each byte of its input. */
     uint64_t most;
 } readers[] = {
-    {"journal", fjall_fuzz_journal, MAY(MEMORY), 1},
-    {"batches", fjall_fuzz_batches, MAY(MEMORY), 1},
-    {"current", fjall_fuzz_current, MAY(STORAGE) | MAY(MEMORY), 1},
-    {"records", fjall_fuzz_records, MAY(STORAGE) | MAY(MEMORY), 6},
-    {"table", fjall_fuzz_table, MAY(STORAGE) | MAY(MEMORY), 1},
-    {"blocks", fjall_fuzz_blocks, MAY(STORAGE) | MAY(MEMORY), 1},
-    {"policy", fjall_fuzz_policy, MAY(IO) | MAY(INVALID_TAG) | MAY(MEMORY), 1},
-    {"options", fjall_fuzz_options, MAY(STORAGE) | MAY(MEMORY), REFUSED},
-    {"pairs", fjall_fuzz_pairs, MAY(STORAGE) | MAY(MEMORY), 1},
-    {"marker", fjall_fuzz_marker, MAY(INVALID_VERSION), 1},
-    {"lines", fjall_fuzz_lines, MAY(MEMORY), 1},
+    {BUILDS(journal), 0, 1},
+    {BUILDS(batches), 0, 1},
+    {BUILDS(current), MAY(STORAGE), 1},
+    {BUILDS(records), MAY(STORAGE), 6},
+    {BUILDS(table), MAY(STORAGE), 1},
+    {BUILDS(blocks), MAY(STORAGE), 1},
+    {BUILDS(policy), MAY(IO) | MAY(INVALID_TAG), 1},
+    {BUILDS(options), MAY(STORAGE), REFUSED},
+    {BUILDS(pairs), MAY(STORAGE), 1},
+    {BUILDS(marker), MAY(INVALID_VERSION), 1},
+    {BUILDS(lines), 0, 1},
+    {BUILDS(find), MAY(STORAGE), FOUND},
+    {BUILDS(keyspaces), MAY(STORAGE), 1},
 };
 
 /* Memory while a reader runs: requests so far, the one that fails, and what is held. */
@@ -118,15 +130,15 @@ static void stop(const struct reader *reader, const char *what, uint64_t answer,
     abort();
 }
 
-/* What the reader answers, where the request for memory of this number fails, or none with 0. */
-static uint64_t ask(const struct reader *reader, const uint8_t *input, size_t len, size_t failing)
+/* What a build of the reader answers, where the request for memory of this number fails, or none with 0. */
+static uint64_t ask(const struct reader *reader, read_bytes *read, const uint8_t *input, size_t len, size_t failing)
 {
     uint64_t answer;
     memory.asked = memory.held = memory.highest = 0;
     memory.blocks = 0;
     memory.failing = failing;
     memory.is_counting = 1;
-    answer = reader->read(input, len);
+    answer = read(input, len);
     memory.is_counting = 0;
     if (memory.blocks != 0 || memory.held != 0)
         stop(reader, "keeps memory", (uint64_t)memory.blocks, memory.held);
@@ -146,27 +158,30 @@ static int is_due(const struct reader *reader, uint64_t answer, size_t len)
 int LLVMFuzzerTestOneInput(const uint8_t *data, size_t size)
 {
     const struct reader *reader;
-    uint64_t answer, again;
+    uint64_t answer, other;
     size_t asked, at, failing = 0;
     if (size == 0)
         return 0;
     reader = &readers[data[0] % (sizeof readers / sizeof readers[0])];
     data += 1;
     size -= 1;
-    answer = ask(reader, data, size, 0);
+    answer = ask(reader, reader->read, data, size, 0);
     asked = memory.asked;
-    if (!is_due(reader, answer, size) || answer == OUT_OF_MEMORY)
+    if (!is_due(reader, answer, size))
         stop(reader, "answers", answer, size);
-    again = ask(reader, data, size, 0);
-    if (again != answer || memory.asked != asked)
-        stop(reader, "answers otherwise when asked again", answer, again);
+    other = ask(reader, reader->read, data, size, 0);
+    if (other != answer || memory.asked != asked)
+        stop(reader, "answers otherwise when asked again", answer, other);
+    other = ask(reader, reader->other, data, size, 0);
+    if (other != answer)
+        stop(reader, "answers otherwise by another compiler", answer, other);
     if (asked == 0)
         return 0;
     for (at = 0; at < size; at++)
         failing = 31 * failing + data[at];
-    again = ask(reader, data, size, 1 + failing % asked);
+    other = ask(reader, reader->read, data, size, 1 + failing % asked);
     /* A request for more than is wanted at once may fail and be made again for less. */
-    if (again != OUT_OF_MEMORY && again != answer)
-        stop(reader, "answers otherwise without memory", answer, again);
+    if (other != OUT_OF_MEMORY && other != answer)
+        stop(reader, "answers otherwise without memory", answer, other);
     return 0;
 }

@@ -12,7 +12,8 @@ TESTS = pathlib.Path(__file__).resolve().parent.parent
 sys.path.insert(0, str(TESTS))
 from folder_damage import batch_text, framed_record, record_text, table_text  # noqa: E402
 
-READERS = ['journal', 'batches', 'current', 'records', 'table', 'blocks', 'policy', 'options', 'pairs', 'marker', 'lines']
+READERS = ['journal', 'batches', 'current', 'records', 'table', 'blocks', 'policy', 'options', 'pairs', 'marker', 'lines', 'find',
+           'keyspaces']
 # The options by name, each with its default.
 OPTIONS = {
     'compaction_strategy': b'LeveledCompaction', 'data_block_compression_policy': b'\1\0', 'data_block_hash_ratio_policy': b'\1\0\0\0\0',
@@ -66,6 +67,11 @@ def blocks():
     yield part(payload((b'b', 1, b''))) + part(payload((b'a', 1, b'')))
 
 
+def finds():
+    entries = [(b'a', 2, None), (b'a', 1, b'b'), (b'b', 9, b'value'), (b'long key', 3, b'')]
+    yield from (part(key) + part(payload(*entries)) for key in (b'', b'a', b'b', b'c', b'long key'))
+
+
 def pairs(count):
     """The pairs of so many keyspaces, as the meta keyspace stores them: by key."""
     ids = [struct.pack('>Q', id) for id in range(1, count + 1)]
@@ -81,6 +87,7 @@ def seeds():
         'policy': [bytes([kind]) + value for kind in range(5) for value in OPTIONS.values()],
         'options': [b'', b''.join(map(part, OPTIONS.values())), part(b'') * 15 + part(b'\1\0\0\0\0\0\0\0'), part(b'x'), part(b'') * 17 + part(b'\0')],
         'pairs': [b'', pairs(1), pairs(2), pairs(2)[:-20]],
+        'find': finds(), 'keyspaces': [part(b'one'), part(b'one') + part(b'') * 20 + part(b'two') + part(b'x'), (part(b'one') + part(b'') * 20) * 2],
         'marker': [b'', b'FJ', b'FJL\3', b'FJL\2', b'FJLx', b'FJL\3more'],
         'lines': [b'\n'.join(path.read_bytes().splitlines()[:40]) for path in sorted(TESTS.glob('scripts/*.in'))]}
     return [bytes([READERS.index(name)]) + text for name, texts in named.items() for text in texts]

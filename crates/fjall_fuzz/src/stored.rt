@@ -1,12 +1,11 @@
-//! Stored options, and the pairs of the meta keyspace.
+//! Policies and stored options.
 
 use crate::answer::refusal;
 use crate::parts::parts_of;
 use fjall_base::{KvPair, Result, Slice};
-use fjall_meta::{MetaEntry, MetaKeyspace};
 use fjall_options::{
     BlockSizePolicy, CompressionPolicy, DecodeConfig, FilterPolicy, KeyspaceCreateOptions,
-    PinningPolicy, RestartIntervalPolicy, STORED_OPTIONS, encode_config_key,
+    PinningPolicy, RestartIntervalPolicy, STORED_OPTIONS, StoredOption, encode_config_key,
 };
 use std::alloc::Global;
 
@@ -29,14 +28,19 @@ pub extern "C" fn fjall_fuzz_policy(alloc: Global, input: &[u8]) -> u64 {
     }
 }
 
-/// The pairs that store these parts as the values of keyspace 1's options, in their order, and the default where a part is empty.
+/// The value that is stored for an option: the part, or the default where it is empty or missing.
+pub(crate) fn value_of<'a>(part: Option<&&'a [u8]>, option: StoredOption) -> &'a [u8] {
+    match part {
+        Some(part) if !part.is_empty() => *part,
+        _ => option.default_value(),
+    }
+}
+
+/// The pairs that store the parts as the values of keyspace 1's options, in their order.
 fn options_of(alloc: Global, parts: &[&[u8]]) -> Result<Vec<KvPair>> {
     let mut pairs = Vec::new(alloc);
     for (at, option) in STORED_OPTIONS.iter().enumerate() {
-        let value = match parts.get(at) {
-            Some(part) if !part.is_empty() => *part,
-            _ => option.default_value(),
-        };
+        let value = value_of(parts.get(at), *option);
         let key = encode_config_key(alloc, 1, option.name())?;
         pairs.push((key, Slice::new(alloc, value)?))?;
     }
@@ -57,36 +61,6 @@ fn read_options(alloc: Global, input: &[u8]) -> Result<u64> {
 pub extern "C" fn fjall_fuzz_options(alloc: Global, input: &[u8]) -> u64 {
     match read_options(alloc, input) {
         Ok(half) => half,
-        Err(error) => refusal(&error),
-    }
-}
-
-/// The entries of the meta keyspace whose keys and values are the parts, one behind the other.
-fn entries_of(alloc: Global, parts: &[&[u8]]) -> Result<Vec<MetaEntry>> {
-    let mut entries = Vec::new(alloc);
-    for pair in parts.chunks_exact(2) {
-        entries.push(MetaEntry {
-            key: Slice::new(alloc, pair[0])?,
-            value: Slice::new(alloc, pair[1])?,
-            number: 1,
-        })?;
-    }
-    Ok(entries)
-}
-
-/// Reads the keyspaces that the parts store. It answers how many there are.
-fn read_keyspaces(alloc: Global, input: &[u8]) -> Result<u64> {
-    let parts = parts_of(alloc, input)?;
-    let entries = entries_of(alloc, &parts)?;
-    let keyspaces = MetaKeyspace::from_entries(alloc, &entries, 1 << 32)?;
-    Ok(keyspaces.keyspace_count() as u64)
-}
-
-/// Reads the pairs of the meta keyspace whose keys and values are the parts of the input. It answers how many keyspaces they store.
-#[unsafe(no_mangle)]
-pub extern "C" fn fjall_fuzz_pairs(alloc: Global, input: &[u8]) -> u64 {
-    match read_keyspaces(alloc, input) {
-        Ok(count) => count,
         Err(error) => refusal(&error),
     }
 }

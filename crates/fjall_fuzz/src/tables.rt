@@ -36,7 +36,7 @@ pub extern "C" fn fjall_fuzz_table(alloc: Global, bytes: &[u8]) -> u64 {
 }
 
 /// The first key of a block's payload, or no bytes where it has none.
-fn first_key(payload: &[u8]) -> &[u8]
+pub(crate) fn first_key(payload: &[u8]) -> &[u8]
     ensures { length result.now < 2 ^ 16 }
 {
     let Some((len, rest)) = u16_of(payload) else {
