@@ -5,9 +5,18 @@ use crate::parts::parts_of;
 use fjall_base::{KvPair, Result, Slice};
 use fjall_options::{
     BlockSizePolicy, CompressionPolicy, DecodeConfig, FilterPolicy, KeyspaceCreateOptions,
-    PinningPolicy, RestartIntervalPolicy, STORED_OPTIONS, StoredOption, encode_config_key,
+    PinningPolicy, Policy, PolicyEntry, RestartIntervalPolicy, STORED_OPTIONS, StoredOption,
+    encode_config_key,
 };
 use std::alloc::Global;
+
+/// The answer to a policy that was decoded: how many entries it has.
+fn told<T: PolicyEntry + Drop>(decoded: Result<Policy<T>>) -> u64 {
+    match decoded {
+        Ok(policy) => policy.len() as u64,
+        Err(error) => refusal(&error),
+    }
+}
 
 /// Decodes the bytes behind the first one as a policy of the kind that this names. It answers how many entries it has.
 #[unsafe(no_mangle)]
@@ -15,16 +24,12 @@ pub extern "C" fn fjall_fuzz_policy(alloc: Global, input: &[u8]) -> u64 {
     let Some((kind, bytes)) = input.split_first() else {
         return 0;
     };
-    let count = match kind % 5 {
-        0 => BlockSizePolicy::decode(alloc, bytes).map(|policy| policy.len()),
-        1 => CompressionPolicy::decode(alloc, bytes).map(|policy| policy.len()),
-        2 => FilterPolicy::decode(alloc, bytes).map(|policy| policy.len()),
-        3 => PinningPolicy::decode(alloc, bytes).map(|policy| policy.len()),
-        _ => RestartIntervalPolicy::decode(alloc, bytes).map(|policy| policy.len()),
-    };
-    match count {
-        Ok(count) => count as u64,
-        Err(error) => refusal(&error),
+    match kind % 5 {
+        0 => told(BlockSizePolicy::decode(alloc, bytes)),
+        1 => told(CompressionPolicy::decode(alloc, bytes)),
+        2 => told(FilterPolicy::decode(alloc, bytes)),
+        3 => told(PinningPolicy::decode(alloc, bytes)),
+        _ => told(RestartIntervalPolicy::decode(alloc, bytes)),
     }
 }
 
