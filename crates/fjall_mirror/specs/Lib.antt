@@ -1,0 +1,2 @@
+-- What the contracts of a mirror cite.
+pub mod Changes
