@@ -1,0 +1,3 @@
+-- What the contracts of the calls cite.
+pub mod Answers
+pub mod Handles

@@ -1,0 +1,50 @@
+//! Calls that open, persist, flush and close, and the names of refusals.
+
+use crate::answers::{answer, mode_of, name_of};
+use crate::handle::Database;
+use std::alloc::Global;
+
+/// Opens the database of the files that it was told of, or begins one where there are none. Where it is refused, the database is
+/// closed.
+#[unsafe(no_mangle)]
+pub extern "C" fn fjall_c_open(database: &mut Database) -> i32 {
+    answer(database.session_mut().open())
+}
+
+/// Writes out what waits of the journal and, in the modes 1 and 2, syncs it.
+#[unsafe(no_mangle)]
+pub extern "C" fn fjall_c_persist(database: &mut Database, mode: u8) -> i32 {
+    match mode_of(mode) {
+        Ok(mode) => answer(database.session_mut().persist(mode)),
+        Err(error) => i32::from(error.number()),
+    }
+}
+
+/// Moves what a keyspace has in memory to a table, and merges its tables where that is due.
+#[unsafe(no_mangle)]
+pub extern "C" fn fjall_c_flush(database: &mut Database, keyspace: u64) -> i32 {
+    answer(database.session_mut().flush(keyspace))
+}
+
+/// Syncs the journal and closes the database, whatever it answers. Each call answers the number of `Poisoned` from then on.
+#[unsafe(no_mangle)]
+pub extern "C" fn fjall_c_close(database: &mut Database) -> i32 {
+    answer(database.session_mut().close())
+}
+
+/// Gives back what a database has of memory. The handle, and each copy of it, is none any more.
+#[unsafe(no_mangle)]
+pub extern "C" fn fjall_c_free(alloc: Global, database: Database) {
+    drop(database.into_box(alloc));
+}
+
+/// The name of a refusal by its number, at the beginning of `room`, where that is as long. It answers how many bytes the name has: 0
+/// where no refusal has the number.
+#[unsafe(no_mangle)]
+pub extern "C" fn fjall_c_error_name(number: u8, room: &mut [u8]) -> usize {
+    let name = name_of(number).as_bytes();
+    if let Some(place) = room.get_mut(..name.len()) {
+        place.copy_from_slice(name);
+    }
+    name.len()
+}

@@ -1,0 +1,101 @@
+//! Calls that tell of the folder's files, and that hand out what the folder is to take.
+
+use crate::answers::{answer, text};
+use crate::handle::Database;
+use fjall_session::{Change, ChangeKind, Result, Session};
+use std::alloc::Global;
+
+// A session on the heap.
+fn boxed(alloc: Global) -> Result<Box<Session>> {
+    Ok(Box::new(alloc, Session::new(alloc)?)?)
+}
+
+/// Makes a database that was told of no file yet, and puts its handle into `database`.
+///
+/// It answers 0, or the number of `OutOfMemory`, after which no handle was made.
+#[unsafe(no_mangle)]
+pub extern "C" fn fjall_c_new(alloc: Global, database: &mut *mut u8) -> i32 {
+    match boxed(alloc) {
+        Ok(session) => {
+            *database = Box::into_raw(session).cast::<u8>();
+            0
+        }
+        Err(error) => i32::from(error.number()),
+    }
+}
+
+/// Tells of a folder in the database's, by its name from the root on, as `keyspaces/1`. Those above it were told of before.
+#[unsafe(no_mangle)]
+pub extern "C" fn fjall_c_put_folder(database: &mut Database, name: &[u8]) -> i32 {
+    match text(name) {
+        Ok(name) => answer(database.session_mut().put_folder(name)),
+        Err(error) => i32::from(error.number()),
+    }
+}
+
+/// Tells of a file in the database's folder, by its name from the root on, with its bytes.
+#[unsafe(no_mangle)]
+pub extern "C" fn fjall_c_put_file(database: &mut Database, name: &[u8], bytes: &[u8]) -> i32 {
+    match text(name) {
+        Ok(name) => answer(database.session_mut().put_file(name, bytes)),
+        Err(error) => i32::from(error.number()),
+    }
+}
+
+/// How many bytes the name and the bytes of the first change have that the folder is still to take. It answers whether there is one.
+#[unsafe(no_mangle)]
+pub extern "C" fn fjall_c_change_lengths(
+    database: &mut Database,
+    name_len: &mut usize,
+    bytes_len: &mut usize,
+) -> bool {
+    match database.session_mut().change_lengths() {
+        Some(lengths) => {
+            *name_len = lengths.0;
+            *bytes_len = lengths.1;
+            true
+        }
+        None => false,
+    }
+}
+
+// Copies a text to the beginning of a room, where there is as much.
+fn copy_to(room: &mut [u8], text: &[u8]) {
+    if let Some(place) = room.get_mut(..text.len()) {
+        place.copy_from_slice(text);
+    }
+}
+
+// The number of a kind of change.
+fn kind_number(kind: ChangeKind) -> u8 {
+    match kind {
+        ChangeKind::Create => 1,
+        ChangeKind::Append => 2,
+        ChangeKind::Sync => 3,
+        ChangeKind::Cut => 4,
+        ChangeKind::Remove => 5,
+        ChangeKind::RemoveFolder => 6,
+        ChangeKind::MakeFolder => 7,
+        ChangeKind::SyncFolder => 8,
+    }
+}
+
+/// Gives the first change away that the folder is still to take: the number of its kind, 0 where there is none, its name and its bytes
+/// at the beginning of their rooms, which are as long as `fjall_c_change_lengths` says, and the length that a file is cut to.
+#[unsafe(no_mangle)]
+pub extern "C" fn fjall_c_take_change(
+    database: &mut Database,
+    name: &mut [u8],
+    bytes: &mut [u8],
+    len: &mut usize,
+) -> u8 {
+    match database.session_mut().take_change() {
+        Some(change) => {
+            copy_to(name, change.name.as_bytes());
+            copy_to(bytes, &change.bytes);
+            *len = change.len;
+            kind_number(change.kind)
+        }
+        None => 0,
+    }
+}
