@@ -1,5 +1,13 @@
 //! A database from its files on to its closing.
 
+ghost use Rattle.std.specs.Prelude.{◌≡◌, None};
+ghost use Rattle.fjall_base.specs.Pairs.{key_range};
+ghost use Rattle.fjall_core.specs.Standing.{pairs_reply, value_reply};
+ghost use Rattle.fjall_history.specs.Queries.{Get, Page};
+ghost use Rattle.fjall_history.specs.declared.ticket.View.TheVariants.{Present};
+ghost use Rattle.fjall_machine.specs.Shapes.{OfRead};
+ghost use Rattle.fjall_session.specs.Calls.{Calls, engine_of};
+
 use crate::place::Place;
 use fjall_base::{Disk, Error, KeyBounds, KvPair, Result, UserValue};
 use fjall_core::{Config, Engine, View};
@@ -97,7 +105,9 @@ impl Session {
     }
 
     /// The value that a key of a keyspace has now; refused as `Engine::get_at` is. Nothing changes.
-    pub fn get(&mut self, id: u64, key: &[u8]) -> Result<Option<UserValue>> {
+    pub fn get(&mut self, id: u64, key: &[u8]) -> Result<Option<UserValue>>
+        ensures { Calls (OfRead Present id (Get key.now)) value_reply (engine_of self.old) (engine_of self.new) result }
+    {
         match &mut self.place {
             Place::Open(engine) => engine.get_at(View::Present, id, key),
             _ => Err(Error::Poisoned),
@@ -112,7 +122,9 @@ impl Session {
         bounds: KeyBounds<'_>,
         back: bool,
         max: usize,
-    ) -> Result<Vec<KvPair>> {
+    ) -> Result<Vec<KvPair>>
+        ensures { Calls (OfRead Present id (Page (key_range bounds.entry) back max)) pairs_reply (engine_of self.old) (engine_of self.new) result }
+    {
         let range = range_of(self.alloc, bounds)?;
         match &mut self.place {
             Place::Open(engine) => engine.page_at(View::Present, id, &range, back, max),
@@ -123,7 +135,9 @@ impl Session {
     /// Syncs the journal and closes the database. Whatever it answers, the database isn't open any more.
     ///
     /// Refusals: `Poisoned`, and `Io`.
-    pub fn close(&mut self) -> Result<()> {
+    pub fn close(&mut self) -> Result<()>
+        ensures { engine_of self.new ≡ None }
+    {
         match mem::replace(&mut self.place, Place::Closed) {
             Place::Open(engine) => {
                 let (disk, closed) = Box::into_inner(engine).close();

@@ -1,0 +1,2 @@
+-- What the contracts of a session cite.
+pub mod Calls
