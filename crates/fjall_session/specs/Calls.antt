@@ -1,11 +1,19 @@
--- What comes of a session's calls.
-use Rattle.std.specs.Prelude.{◌≡◌, ◌⊎◌, Option, Some, None, Result, Err, IsErr}
+-- What comes of a session's calls. Callers have the words of the engine's calls from here.
+pub use Rattle.fjall_core.specs.Standing.{number_reply, reply_of, value_reply}
+pub use Rattle.fjall_journal.specs.Changes.{Items}
+pub use Rattle.fjall_machine.specs.Shapes.{ByMode, OfChange, OfCreation, OfPersist}
+pub use Rattle.fjall_options.specs.Options.{default_options}
+use Rattle.std.specs.Prelude.{ℕ, ◌≡◌, ◌⊎◌, Option, Some, None, Result, Err, IsErr}
+use Rattle.fjall_base.specs.Pairs.{Bytes}
 use Rattle.fjall_base.specs.declared.error.Error.{Error}
 use Rattle.fjall_base.specs.declared.error.Error.TheVariants.{OutOfMemory}
 use Rattle.fjall_core.specs.Holding.{Held}
 use Rattle.fjall_core.specs.Standing.{Owes, Serves}
+use Rattle.fjall_history.specs.Queries.{Get}
 use Rattle.fjall_history.specs.declared.reply.Reply.{Reply}
-use Rattle.fjall_machine.specs.Shapes.{CallShape}
+use Rattle.fjall_history.specs.declared.ticket.View.TheVariants.{Present}
+use Rattle.fjall_journal.specs.declared.op.Op.TheVariants as ops
+use Rattle.fjall_machine.specs.Shapes.{CallShape, OfRead, of_write}
 use Rattle.fjall_session.specs.declared.place.Place.{Place}
 use Rattle.fjall_session.specs.declared.place.Place.TheVariants.{Open}
 use Rattle.fjall_session.specs.declared.session.Session.{Session}
@@ -24,3 +32,15 @@ abbrev pub Calls : {T : Type 0} → CallShape → (Result T Error → Reply) →
 Calls shape reply (Some old) (Some new) result = (Serves old shape (reply result) new × Owes old shape (reply result) new) ⊎ ((result ≡ Err OutOfMemory) × (new ≡ old))
 Calls shape reply (Some old) None result = ⊥
 Calls shape reply None new result = IsErr result × (new ≡ None)
+
+-- the call that gives a key a value
+abbrev pub inserting : ℕ → Bytes → Bytes → CallShape
+inserting id key value = of_write (id, key, ops.Put value)
+
+-- the call that takes a key away
+abbrev pub removing : ℕ → Bytes → CallShape
+removing id key = of_write (id, key, ops.Remove)
+
+-- the call that reads a key as it is now
+abbrev pub getting : ℕ → Bytes → CallShape
+getting id key = OfRead Present id (Get key)

@@ -2,11 +2,11 @@
 
 ghost use Rattle.std.specs.Prelude.{◌≡◌, None};
 ghost use Rattle.fjall_base.specs.Pairs.{key_range};
-ghost use Rattle.fjall_core.specs.Standing.{pairs_reply, value_reply};
-ghost use Rattle.fjall_history.specs.Queries.{Get, Page};
+ghost use Rattle.fjall_core.specs.Standing.{pairs_reply};
+ghost use Rattle.fjall_history.specs.Queries.{Page};
 ghost use Rattle.fjall_history.specs.declared.ticket.View.TheVariants.{Present};
 ghost use Rattle.fjall_machine.specs.Shapes.{OfRead};
-ghost use Rattle.fjall_session.specs.Calls.{Calls, engine_of};
+ghost use Rattle.fjall_session.specs.Calls.{Calls, engine_of, getting, value_reply};
 
 use crate::place::Place;
 use fjall_base::{Disk, Error, KeyBounds, KvPair, Result, UserValue};
@@ -106,7 +106,7 @@ impl Session {
 
     /// The value that a key of a keyspace has now; refused as `Engine::get_at` is. Nothing changes.
     pub fn get(&mut self, id: u64, key: &[u8]) -> Result<Option<UserValue>>
-        ensures { Calls (OfRead Present id (Get key.now)) value_reply (engine_of self.old) (engine_of self.new) result }
+        ensures { Calls (getting id key.now) value_reply (engine_of self.old) (engine_of self.new) result }
     {
         match &mut self.place {
             Place::Open(engine) => engine.get_at(View::Present, id, key),

@@ -1,12 +1,8 @@
 //! Calls that change a database.
 
 ghost use Rattle.std.specs.Prelude.{◌≡◌, ◌++◌, [], ◌∷◌, OnErr, OnOk};
-ghost use Rattle.fjall_core.specs.Standing.{number_reply, reply_of};
-ghost use Rattle.fjall_journal.specs.Changes.{Items};
 ghost use Rattle.fjall_journal.specs.declared.op.Op.TheVariants as ops;
-ghost use Rattle.fjall_machine.specs.Shapes.{ByMode, OfChange, OfCreation, OfPersist, of_write};
-ghost use Rattle.fjall_options.specs.Options.{default_options};
-ghost use Rattle.fjall_session.specs.Calls.{Calls, engine_of};
+ghost use Rattle.fjall_session.specs.Calls.{ByMode, Calls, Items, OfChange, OfCreation, OfPersist, default_options, engine_of, inserting, number_reply, removing, reply_of};
 
 use crate::place::Place;
 use crate::session::Session;
@@ -61,7 +57,7 @@ impl Session {
 
     /// Gives a key of a keyspace a value; refused as `Engine::insert` is.
     pub fn insert(&mut self, id: u64, key: &[u8], value: &[u8]) -> Result<()>
-        ensures { Calls (of_write (id, key.now, ops.Put value.now)) reply_of (engine_of self.old) (engine_of self.new) result }
+        ensures { Calls (inserting id key.now value.now) reply_of (engine_of self.old) (engine_of self.new) result }
     {
         let (key, value) = (Slice::new(self.alloc, key)?, Slice::new(self.alloc, value)?);
         match &mut self.place {
@@ -72,7 +68,7 @@ impl Session {
 
     /// Takes a key of a keyspace and its value away; refused as `Engine::remove` is.
     pub fn remove(&mut self, id: u64, key: &[u8]) -> Result<()>
-        ensures { Calls (of_write (id, key.now, ops.Remove)) reply_of (engine_of self.old) (engine_of self.new) result }
+        ensures { Calls (removing id key.now) reply_of (engine_of self.old) (engine_of self.new) result }
     {
         let key = Slice::new(self.alloc, key)?;
         match &mut self.place {
