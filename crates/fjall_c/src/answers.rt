@@ -1,7 +1,7 @@
 //! Answers as numbers, and what is told beside them.
 
 ghost use Rattle.std.specs.Prelude.{◌≡◌};
-ghost use Rattle.fjall_c.specs.Answers.{answer_of};
+ghost use Rattle.fjall_c.specs.Answers.{Copies, answer_of, mode_at};
 
 use fjall_session::{Error, PersistMode, Result};
 use std::io::ErrorKind;
@@ -17,6 +17,15 @@ pub(crate) fn answer(done: Result<()>) -> i32
     }
 }
 
+/// Copies bytes to the beginning of a room that is as long. Of more bytes nothing is copied.
+pub(crate) fn copy_to(room: &mut [u8], bytes: &[u8])
+    ensures { Copies bytes.now room.old room.new }
+{
+    if bytes.len() <= room.len() {
+        room[..bytes.len()].copy_from_slice(bytes);
+    }
+}
+
 /// The text of a name, or `Io(InvalidInput)` where it isn't UTF-8.
 pub(crate) fn text(name: &[u8]) -> Result<&str> {
     match str::from_utf8(name) {
@@ -26,12 +35,14 @@ pub(crate) fn text(name: &[u8]) -> Result<&str> {
 }
 
 /// A mode by its number: 0 for the system's buffers, 1 for the bytes on the device, 2 for the file's metadata too.
-pub(crate) fn mode_of(number: u8) -> Result<PersistMode> {
+pub(crate) fn mode_of(number: u8) -> Option<PersistMode>
+    ensures { result ≡ mode_at number }
+{
     match number {
-        0 => Ok(PersistMode::Buffer),
-        1 => Ok(PersistMode::SyncData),
-        2 => Ok(PersistMode::SyncAll),
-        _ => Err(Error::InvalidTag(("PersistMode", number))),
+        0 => Some(PersistMode::Buffer),
+        1 => Some(PersistMode::SyncData),
+        2 => Some(PersistMode::SyncAll),
+        _ => None,
     }
 }
 

@@ -1,7 +1,12 @@
 //! Calls that open, persist, flush and close, and the names of refusals.
 
-use crate::answers::{answer, mode_of, name_of};
+ghost use Rattle.std.specs.Prelude.{◌≡◌, MatchOption, None};
+ghost use Rattle.fjall_c.specs.Answers.{Answers, mode_at};
+ghost use Rattle.fjall_session.specs.Calls.{Calls, OfPersist, engine_of, reply_of};
+
+use crate::answers::{answer, copy_to, mode_of, name_of};
 use crate::handle::Database;
+use fjall_session::Error;
 use std::alloc::Global;
 
 /// Opens the database of the files that it was told of, or begins one where there are none. Where it is refused, the database is
@@ -13,10 +18,12 @@ pub extern "C" fn fjall_c_open(database: &mut Database) -> i32 {
 
 /// Writes out what waits of the journal and, in the modes 1 and 2, syncs it.
 #[unsafe(no_mangle)]
-pub extern "C" fn fjall_c_persist(database: &mut Database, mode: u8) -> i32 {
+pub extern "C" fn fjall_c_persist(database: &mut Database, mode: u8) -> i32
+    ensures { MatchOption (mode_at mode) (engine_of database.new.session ≡ engine_of database.old.session) (λ mode. Answers result (Calls (OfPersist mode) reply_of (engine_of database.old.session) (engine_of database.new.session))) }
+{
     match mode_of(mode) {
-        Ok(mode) => answer(database.session_mut().persist(mode)),
-        Err(error) => i32::from(error.number()),
+        Some(mode) => answer(database.session_mut().persist(mode)),
+        None => answer(Err(Error::InvalidTag(("PersistMode", mode)))),
     }
 }
 
@@ -28,7 +35,9 @@ pub extern "C" fn fjall_c_flush(database: &mut Database, keyspace: u64) -> i32 {
 
 /// Syncs the journal and closes the database, whatever it answers. Each call answers the number of `Poisoned` from then on.
 #[unsafe(no_mangle)]
-pub extern "C" fn fjall_c_close(database: &mut Database) -> i32 {
+pub extern "C" fn fjall_c_close(database: &mut Database) -> i32
+    ensures { engine_of database.new.session ≡ None }
+{
     answer(database.session_mut().close())
 }
 
@@ -43,8 +52,6 @@ pub extern "C" fn fjall_c_free(alloc: Global, database: Database) {
 #[unsafe(no_mangle)]
 pub extern "C" fn fjall_c_error_name(number: u8, room: &mut [u8]) -> usize {
     let name = name_of(number).as_bytes();
-    if let Some(place) = room.get_mut(..name.len()) {
-        place.copy_from_slice(name);
-    }
+    copy_to(room, name);
     name.len()
 }

@@ -1,6 +1,6 @@
 //! Calls that tell of the folder's files, and that hand out what the folder is to take.
 
-use crate::answers::{answer, text};
+use crate::answers::{answer, copy_to, text};
 use crate::handle::Database;
 use fjall_session::{Change, ChangeKind, Result, Session};
 use std::alloc::Global;
@@ -56,13 +56,6 @@ pub extern "C" fn fjall_c_change_lengths(
             true
         }
         None => false,
-    }
-}
-
-// Copies a text to the beginning of a room, where there is as much.
-fn copy_to(room: &mut [u8], text: &[u8]) {
-    if let Some(place) = room.get_mut(..text.len()) {
-        place.copy_from_slice(text);
     }
 }
 

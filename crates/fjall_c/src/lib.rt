@@ -5,6 +5,7 @@ mod answers;
 mod calls;
 mod files;
 mod handle;
+mod keyspaces;
 mod lending;
 mod reads;
 mod writes;

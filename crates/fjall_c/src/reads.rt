@@ -1,5 +1,9 @@
 //! Calls that read.
 
+ghost use Rattle.fjall_c.specs.Answers.{Answers, PutsFound};
+ghost use Rattle.fjall_session.specs.Calls.{Calls, engine_of, getting, value_reply};
+
+use crate::answers::copy_to;
 use crate::handle::Database;
 use fjall_session::{Error, Packed, Result, pack_pairs};
 use std::alloc::Global;
@@ -21,25 +25,8 @@ pub struct Page {
     pub len: usize,
 }
 
-// Looks for the value of a key, and copies it to the beginning of a room, where that is as long.
-fn find(database: &mut Database, id: u64, key: &[u8], room: &mut [u8]) -> Result<Found> {
-    let Some(value) = database.session_mut().get(id, key)? else {
-        return Ok(Found {
-            is_there: false,
-            len: 0,
-        });
-    };
-    if let Some(place) = room.get_mut(..value.len()) {
-        place.copy_from_slice(&value);
-    }
-    Ok(Found {
-        is_there: true,
-        len: value.len(),
-    })
-}
-
 /// The value that a key of a keyspace has now, at the beginning of `room`, where that is as long; of a longer one nothing is copied.
-/// Whether there is one, and its length, are put into `found`, which stays as it was where the call is refused.
+/// Whether there is one, and its length, are put into `found`. Both stay as they were where the call is refused.
 #[unsafe(no_mangle)]
 pub extern "C" fn fjall_c_get(
     database: &mut Database,
@@ -47,10 +34,19 @@ pub extern "C" fn fjall_c_get(
     key: &[u8],
     room: &mut [u8],
     found: &mut Found,
-) -> i32 {
-    match find(database, keyspace, key, room) {
-        Ok(value) => {
-            *found = value;
+) -> i32
+    ensures { Answers result (λ value. Calls (getting keyspace key.now) value_reply (engine_of database.old.session) (engine_of database.new.session) value × PutsFound found.old found.new room.old room.new value) }
+{
+    match database.session_mut().get(keyspace, key) {
+        Ok(Some(value)) => {
+            copy_to(room, &value);
+            found.is_there = true;
+            found.len = value.len();
+            0
+        }
+        Ok(None) => {
+            found.is_there = false;
+            found.len = 0;
             0
         }
         Err(error) => i32::from(error.number()),
