@@ -220,6 +220,25 @@ static int32_t settled(fjall_database *d, int32_t answer) {
 
 /* ---- opening */
 
+/* Syncs the name at the end of a path, unless the folder that it stands in mustn't be opened. */
+static bool sync_name(const char *path) {
+    char *above = strdup(path);
+    if (!above)
+        return false;
+    size_t len = strlen(above);
+    while (len > 1 && above[len - 1] == '/')
+        above[--len] = 0;
+    char *slash = strrchr(above, '/');
+    if (slash)
+        slash[slash == above] = 0;
+    int fd = open(slash ? above : ".", O_RDONLY | O_DIRECTORY | O_CLOEXEC);
+    bool done = fd < 0 ? errno == EACCES : fsync(fd) == 0;
+    if (fd >= 0)
+        close(fd);
+    free(above);
+    return done;
+}
+
 /* Makes the folder at a path, and those above it, where they are missing. Each name is synced before the next one is made. */
 static bool make_folders(const char *path) {
     char *part = strdup(path);
@@ -228,33 +247,27 @@ static bool make_folders(const char *path) {
         if (path[end] != '/' && path[end] != 0)
             continue;
         part[end] = 0;
-        done = mkdir(part, 0777) == 0 || errno == EEXIST;
+        done = mkdir(part, 0777) == 0 ? sync_name(part) : errno == EEXIST;
         part[end] = path[end];
     }
     free(part);
     return done;
 }
 
-/* Syncs the name of the open folder, and those of the folders above it, but in those that mustn't be opened. */
-static bool sync_path(int folder) {
-    struct stat here, above;
-    int at = dup(folder);
-    while (at >= 0) {
-        int up = openat(at, "..", O_RDONLY | O_DIRECTORY | O_CLOEXEC);
-        if (up < 0) {
-            close(at);
-            return errno == EACCES;
-        }
-        bool is_root = fstat(at, &here) == 0 && fstat(up, &above) == 0 && here.st_ino == above.st_ino && here.st_dev == above.st_dev;
-        bool done = is_root || fsync(up) == 0;
-        close(at);
-        at = up;
-        if (!done || is_root) {
-            close(at);
-            return done;
-        }
+/* Whether nothing stands in the folder yet. */
+static bool is_empty(int folder) {
+    int fd = open_at(folder, ".", O_RDONLY | O_DIRECTORY);
+    DIR *list = fd < 0 ? NULL : fdopendir(fd);
+    if (!list) {
+        if (fd >= 0)
+            close(fd);
+        return false;
     }
-    return false;
+    bool found = false;
+    for (struct dirent *entry; !found && (entry = readdir(list));)
+        found = strcmp(entry->d_name, ".") && strcmp(entry->d_name, "..");
+    closedir(list);
+    return !found;
 }
 
 /* Takes the lock of the folder's file `lock`. */
@@ -340,7 +353,8 @@ static int32_t open_folder(fjall_database *d, const char *path) {
     if (!make_folders(path))
         return FJALL_IO;
     d->folder = open(path, O_RDONLY | O_DIRECTORY | O_CLOEXEC);
-    if (d->folder < 0 || !sync_path(d->folder))
+    /* an opening that was cut off may have made it */
+    if (d->folder < 0 || (is_empty(d->folder) && !sync_name(path)))
         return FJALL_IO;
     int32_t answer = take_lock(d);
     if (!answer)
