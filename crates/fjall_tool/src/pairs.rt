@@ -11,8 +11,8 @@ use fjall_writes::Ingestion;
 use std::alloc::{AllocError, Global};
 use std::io::BufRead;
 
-// A key, and its new value, or none where it is removed.
-type Pair = (UserKey, Option<UserValue>);
+/// A key, and its new value, or none where it is removed.
+pub type Pair = (UserKey, Option<UserValue>);
 
 // The writes of a batch, where this is one.
 fn writes_of(found: Option<Command>) -> Option<Writes>
@@ -38,8 +38,8 @@ fn only_pair(writes: &[Write]) -> std::result::Result<Option<Pair>, AllocError>
     Ok(Some((key.clone()?, value.clone()?)))
 }
 
-// The pair that a line spells, or none. It is spelled as the one write of a batch is, behind the keyspace's id.
-fn pair(alloc: Global, line: &[u8]) -> std::result::Result<Option<Pair>, AllocError>
+/// The pair that a line spells, or none. It is spelled as the one write of a batch is, behind the keyspace's id.
+pub fn pair(alloc: Global, line: &[u8]) -> std::result::Result<Option<Pair>, AllocError>
     ensures { IfOk result (λ found. SpellsPair line.now found) }
 {
     let mut batch = Vec::new(alloc);

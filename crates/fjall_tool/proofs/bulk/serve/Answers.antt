@@ -2,7 +2,7 @@ use Rattle.std.proofs.Common.{rules}
 use Rattle.fjall_writes.specs.Ingestions.{IsIngestible}
 use Rattle.fjall_tool.specs.Pairs.{SpellItems}
 use Rattle.fjall_tool.proofs.Cuts.{printed}
-use Rattle.fjall_tool.proofs.load.serve.Goals as goal
+use Rattle.fjall_tool.proofs.bulk.serve.Goals as goal
 
 pub returns-clause-loaded : goal.returns-clause-loaded
 returns-clause-loaded g c done =
