@@ -146,7 +146,8 @@ class Work:
         return self.is_out(id) and last_end(self.out, id) > self.flushed_end(id)
 
     def drop_flush(self, id):
-        self.out = [one for one in self.out if one[0] != id]
+        """A flush that this list names is out no more; one that no list names stays out."""
+        self.out = [one for one in self.out if one[0] != id or one[1] == 0]
 
     def finish_flush(self, id):
         self.flushed.append((id, last_end(self.out, id)))

@@ -78,7 +78,14 @@ class Repeats(Play):
         self.open()
         if is_marked:
             self.place = range(start, start + 2)
+            self.look_at_opening(start + 1)
             self.mark(MARK + 1)
+
+    def look_at_opening(self, place):
+        """Where it is open, the line that says so may find no memory."""
+        check, history = self.into.checks[place], self.history
+        is_refused = lambda answer: answer.startswith('error 17 ') and history.at_fault is None  # noqa: E731
+        self.into.checks[place] = lambda answer: history.meet(answer) if is_refused(answer) else check(answer)
 
     def is_counted(self):
         """A line that couldn't be read gets no number."""
