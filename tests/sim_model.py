@@ -93,6 +93,8 @@ class Tickets:
     def __init__(self):
         # Of each that was given out how many commands it shows, None where it is closed.
         self.shows, self.watermark = [], 0
+        # Those of transactions whose end found no memory: they are closed, or not.
+        self.unsure = []
 
     def shown(self, id):
         """How many commands a ticket shows, None where it isn't open."""
@@ -103,10 +105,21 @@ class Tickets:
         self.shows.append(count)
         return len(self.shows) - 1
 
-    def gc(self, accepted):
-        """Raises the watermark to one below the least of what is shown; answers it."""
+    def least(self, accepted):
+        """One below the least of what is shown, and not below the watermark."""
         least = min([count for count in self.shows if count is not None] + [accepted])
-        self.watermark = max(self.watermark, least - 1, 0)
+        return max(self.watermark, least - 1, 0)
+
+    def settle(self, answer, accepted):
+        """Those that are closed, or not, are closed where the watermark says so."""
+        if answer != 'watermark %d' % self.least(accepted):
+            for id in self.unsure:
+                self.shows[id] = None
+        self.unsure = []
+
+    def gc(self, accepted):
+        """Raises the watermark; answers it."""
+        self.watermark = self.least(accepted)
         return self.watermark
 
 
@@ -421,6 +434,8 @@ class History:
             return self.note_transaction(line, command)
         if word in ('get', 'scan'):
             return self.note_read(line)
+        if word == 'gc':
+            self.tickets.settle(answer, self.accepted)
         if word in ('snapshot', 'clone_snapshot', 'close_snapshot', 'gc'):
             return [self.note_snapshot(line)]
         if word in BEGINNINGS:
@@ -537,6 +552,7 @@ class History:
         """No later list of calls names a job that is out."""
         self.work.lose_jobs()
         self.tables.lose_jobs()
+        self.tickets.unsure += [one.ticket for one in self.transactions.open.values() if one.is_unsure]
         self.transactions.open.clear()
 
     # ---- openings, and what is looked at
