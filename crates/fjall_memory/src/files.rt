@@ -1,14 +1,14 @@
 //! Named entries, and the history of their changes.
 
 ghost use Rattle.std.specs.Prelude.{◌≡◌, ◌≢◌, ◌↔◌, [], ◌∷◌, IfOk, IfErr, IsOk, IsOkUnless, OnOk, OnErr, IsTrue};
-ghost use Rattle.fjall_base.specs.Disk.{Took, Append, Sync, Loosen, Cut, Put, SyncFolder, HasFolder, IsThere, standing, put, ReadsFile, IsFile, IsLong, IsNoFile, IsNoFolder, CanCreate, CanMakeFolder, CanRemoveFolder};
+ghost use Rattle.fjall_base.specs.Disk.{Took, Append, Sync, Loosen, Cut, Put, SyncFolder, HasFolder, IsThere, standing, put, ReadsAt, ReadsFile, IsFile, IsLong, IsNoFile, IsNoFolder, CanCreate, CanMakeFolder, CanRemoveFolder};
 ghost use Rattle.fjall_memory.specs.Memory.{entry_of, IsKind, IsRefusedUnless, state_of};
 ghost use Rattle.fjall_base.specs.Crash.{IsHoused};
 
 use crate::history::{Change, History};
 use crate::node::{
     FileChange, Kind, Named, Node, alter_at, folder_name, holds_any, is_long_at, is_there, kind_at,
-    put_at, read_at, settle_names,
+    put_at, read_at, read_part_at, settle_names,
 };
 use fjall_base::{Error, Result};
 use std::alloc::{AllocError, Global};
@@ -38,6 +38,19 @@ impl Files {
         ensures { IfOk result (ReadsFile (state_of self.now.names.items name.now).now) }
     {
         read_at(alloc, self.names.as_slice(), name)
+    }
+
+    /// So many bytes of a file from a place on; `None` where there is none, or it is too short.
+    pub fn read_part(
+        &self,
+        alloc: Global,
+        name: &str,
+        at: usize,
+        len: usize,
+    ) -> std::result::Result<Option<Vec<u8>>, AllocError>
+        ensures { IfOk result (ReadsAt at len (state_of self.now.names.items name.now).now) }
+    {
+        read_part_at(alloc, self.names.as_slice(), name, at, len)
     }
 
     /// Which kind of entry stands at a name.

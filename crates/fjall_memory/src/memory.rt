@@ -174,13 +174,7 @@ impl Disk for MemoryDisk {
         if self.failing.strikes() {
             return Err(self.failing.fault());
         }
-        let Some(bytes) = self.files.read(alloc, name)? else {
-            return Ok(None);
-        };
-        if bytes.len() < at || bytes.len() - at < len {
-            return Ok(None);
-        }
-        Ok(Some(Vec::from_slice(alloc, &bytes.as_slice()[at..at + len])?))
+        Ok(self.files.read_part(alloc, name, at, len)?)
     }
 
     fn list(&mut self, alloc: Global, folder: &str) -> Result<Vec<DirEntry>>

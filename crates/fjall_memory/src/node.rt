@@ -5,7 +5,7 @@ ghost use Rattle.std.specs.Prelude.{List, All, AllPairs, Any, ◌≢◌, ◌≡�
 ghost use Rattle.std.specs.Bool.{OnTrue, OnFalse};
 ghost use Rattle.std.specs.List.{list_any};
 ghost use Rattle.std.specs.Str.{bytes_eq};
-ghost use Rattle.fjall_base.specs.Disk.{Image, File, Folder, Missing, IsEmpty, IsFile, IsInList, IsLong, IsThere, Lists, ReadsFile, standing, disk_of, folder_of, put, alter, settle, settled, appended, all_synced, cut_to};
+ghost use Rattle.fjall_base.specs.Disk.{Image, File, Folder, Missing, IsEmpty, IsFile, IsInList, IsLong, IsThere, Lists, ReadsAt, ReadsFile, standing, disk_of, folder_of, put, alter, settle, settled, appended, all_synced, cut_to};
 ghost use Rattle.fjall_memory.specs.Memory.{entry_of, place_of, state_of, changed, FitsEntry, IsKind, TakesNone};
 ghost use Rattle.fjall_memory.specs.Wild.{filled, fills_of, followed, following};
 ghost use Rattle.fjall_base.specs.Crash.{keeping, crashed};
@@ -189,6 +189,24 @@ impl Node {
             _ => Ok(None),
         }
     }
+
+    /// What a read of so many bytes of it from a place on gives. It copies these alone.
+    pub fn read_part(
+        &self,
+        alloc: Global,
+        at: usize,
+        len: usize,
+    ) -> Result<Option<Vec<u8>>, AllocError>
+        ensures { IfOk result (ReadsAt at len (entry_of self.now)) }
+    {
+        let Node::File { bytes, .. } = self else {
+            return Ok(None);
+        };
+        if bytes.len() < at || bytes.len() - at < len {
+            return Ok(None);
+        }
+        Ok(Some(Vec::from_slice(alloc, &bytes.as_slice()[at..at + len])?))
+    }
 }
 
 /// Puts one more at the end, where room was made for it.
@@ -304,6 +322,23 @@ pub fn read_at(alloc: Global, names: &[Named], name: &str) -> Result<Option<Vec<
         return Ok(None);
     };
     let found = names[at].now.read(alloc)?;
+    Ok(found)
+}
+
+/// What a read of so many bytes from a place on gives of a name.
+pub fn read_part_at(
+    alloc: Global,
+    names: &[Named],
+    name: &str,
+    at: usize,
+    len: usize,
+) -> Result<Option<Vec<u8>>, AllocError>
+    ensures { IfOk result (ReadsAt at len (state_of names.now name.now).now) }
+{
+    let Some(place) = find(names, name) else {
+        return Ok(None);
+    };
+    let found = names[place].now.read_part(alloc, at, len)?;
     Ok(found)
 }
 
