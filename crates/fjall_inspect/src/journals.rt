@@ -3,6 +3,7 @@
 ghost use Rattle.std.specs.Prelude.{IsOkUnless};
 
 use crate::report::{Fault, add_fault};
+use bytes::Bytes;
 use fjall_base::{Error, Result};
 use fjall_contents::check_batches;
 use fjall_journal::{Batch, JournalBatchReader, Tail, next_batch};
@@ -36,7 +37,7 @@ fn look_at_batch(
 pub(crate) fn look_at_journal(
     alloc: Global,
     file: &str,
-    text: &[u8],
+    text: &Bytes,
     is_active: bool,
     mut least: u64,
     faults: &mut Vec<Fault>,

@@ -9,6 +9,7 @@ ghost use Rattle.fjall_recovery.specs.Refusals.{HasRisen, IsDue};
 use crate::journals::look_at_journal;
 use crate::report::{Fault, add_fault, is_fault};
 use crate::tables::look_at_tables;
+use bytes::Bytes;
 use fjall_base::{DirEntry, Disk, Error, Result, StorageError};
 use fjall_catalog::{LoadedCatalog, read_catalog};
 use fjall_files::{
@@ -78,7 +79,7 @@ fn look_at_root<D: Disk>(alloc: Global, disk: &mut D, faults: &mut Vec<Fault>) -
     let mut least = 0;
     for id in &ids {
         let name = journal_name(alloc, *id)?;
-        let text = read_text(alloc, disk, name.as_str())?;
+        let text = Bytes::from_vec(read_text(alloc, disk, name.as_str())?)?;
         let is_active = ids.last() == Some(id);
         least = look_at_journal(alloc, name.as_str(), &text, is_active, least, faults)?;
     }

@@ -1,5 +1,6 @@
 mod Fields
 mod Entries
+mod Rests
 mod Changes
 pub mod Batches
 mod Loops

@@ -1,5 +1,5 @@
 -- Reading an entry from left to right, with the first fault that is met.
-use Rattle.std.specs.Prelude.{◌≡◌, ⊤, ℕ, List, Option, Some, None, Result, Ok, Err, ◌==◌, if◌then◌else◌, codes, nat_eq}
+use Rattle.std.specs.Prelude.{◌≡◌, ⊤, ℕ, ◌-◌, ◌≤◌, List, length, drop, Option, Some, None, Result, Ok, Err, ◌==◌, if◌then◌else◌, codes, nat_eq}
 use Rattle.std.specs.List.{starts_with}
 use Rattle.std.specs.declared.io.ErrorKind.TheVariants.{UnexpectedEof}
 use Rattle.fjall_base.specs.declared.error.Error.{Error}
@@ -15,6 +15,10 @@ use Rattle.fjall_base.specs.declared.error.CompressionType.TheVariants as compre
 use Rattle.fjall_base.specs.Fields as fields
 use Rattle.fjall_base.specs.Results.{◌>>=◌}
 use Rattle.fjall_journal.specs.Spelling.{trailer}
+
+-- the bytes are what is left of the text behind some place
+abbrev pub IsRestOf : List ℕ → List ℕ → Type 0
+IsRestOf text bytes = (length bytes ≤ length text) × (drop (length text - length bytes) text ≡ bytes)
 
 -- why no entry stands at the front
 pub data Fault : Type 0 where

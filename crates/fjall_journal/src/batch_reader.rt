@@ -5,35 +5,36 @@ ghost use Rattle.fjall_journal.specs.Reader.{Reading, Next};
 
 use crate::batch::{Batch, Stop, Tail};
 use crate::parsing::batch_of;
+use bytes::Bytes;
 use fjall_base::{Error, Result};
 use std::alloc::Global;
 use std::marker::Model;
 
-/// The whole batches of a journal's text, in order, and then once the damage behind them, if there is one. Where memory
-/// runs out, the reader is as it was, and the next call tries again.
+/// The whole batches of a journal's text, in order, and then once the damage behind them, if there is one. Their keys and
+/// values are parts of the text. Where memory runs out, the reader is as it was, and the next call tries again.
 #[derive(Drop)]
 pub struct JournalBatchReader<'a> {
     alloc: Global,
-    text: &'a [u8],
+    text: &'a Bytes,
     rest: &'a [u8],
     over: bool,
     tail: Tail,
 }
 
 impl<'a> Model for JournalBatchReader<'a> {
-    ghost use Rattle.std.specs.Prelude.{◌≤◌, length};
     ghost use Rattle.fjall_journal.specs.Reader.{Reading};
+    ghost use Rattle.fjall_journal.specs.Reading.{IsRestOf};
 
     ghost Value = { Reading };
 
     ghost view = { λ r. record { text = r.text.now; rest = r.rest.now; over = r.over; tail = r.tail } };
 
-    ghost invariant = { λ r. length r.rest.now ≤ length r.text.now };
+    ghost invariant = { λ r. IsRestOf r.text.now r.rest.now };
 }
 
 impl<'a> JournalBatchReader<'a> {
     /// A reader at the beginning of the text.
-    pub fn new(alloc: Global, text: &'a [u8]) -> JournalBatchReader<'a>
+    pub fn new(alloc: Global, text: &'a Bytes) -> JournalBatchReader<'a>
         ensures text { result.text ≡ text.now }
         ensures rest { result.rest ≡ text.now }
         ensures over { result.over ≡ false }
@@ -41,7 +42,7 @@ impl<'a> JournalBatchReader<'a> {
         JournalBatchReader {
             alloc,
             text,
-            rest: text,
+            rest: text.as_slice(),
             over: false,
             tail: Tail::Clean,
         }
@@ -71,7 +72,7 @@ impl<'a> Iterator for JournalBatchReader<'a> {
         if self.over {
             return None;
         }
-        match batch_of(self.alloc, self.rest) {
+        match batch_of(self.alloc, self.text, self.rest) {
             Ok((batch, after)) => {
                 self.rest = after;
                 Some(Ok(batch))

@@ -6,6 +6,7 @@ ghost use Rattle.fjall_journal.specs.Reader.{Next};
 
 use crate::batch::{Batch, Tail};
 use crate::batch_reader::JournalBatchReader;
+use bytes::Bytes;
 use fjall_base::{Error, Result};
 use std::alloc::Global;
 
@@ -28,7 +29,7 @@ pub fn next_batch(reader: &mut JournalBatchReader<'_>) -> Option<Result<Batch>>
     reader.next()
 }
 
-/// Reads a journal's text. Only memory may be missing: a damage is no error here, but a tail.
+/// Reads a journal's text, which is copied once. Only memory may be missing: a damage is no error here, but a tail.
 pub fn read_journal(alloc: Global, text: &[u8]) -> Result<Contents>
     // The batches stand at the front, up to the end, and no batch stands there.
     ensures whole { IfOk result (λ c. (bs : List Written) × (map view c.batches.items ≡ map shown bs) × IsWhole text.now bs c.end) }
@@ -39,7 +40,8 @@ pub fn read_journal(alloc: Global, text: &[u8]) -> Result<Contents>
     ensures cause { IsOkUnless result Error.OutOfMemory }
 {
     let mut batches = Vec::new(alloc);
-    let mut reader = JournalBatchReader::new(alloc, text);
+    let shared = Bytes::copy_from_slice(alloc, text)?;
+    let mut reader = JournalBatchReader::new(alloc, &shared);
     loop {
         match next_batch(&mut reader) {
             Some(Ok(batch)) => batches.push(batch)?,

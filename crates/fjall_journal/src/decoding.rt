@@ -1,11 +1,13 @@
-//! An entry at the front of some bytes.
+//! An entry at the front of some bytes. The key and the value of an item are parts of the text that the bytes stand in: none of
+//! their bytes is copied.
 
 ghost use Rattle.std.specs.Prelude.{drop, ℕ, IfOk, Ok};
 ghost use Rattle.fjall_journal.specs.declared.entry.Entry.{Entry};
 ghost use Rattle.fjall_journal.specs.Spelling.{StandsFirst};
-ghost use Rattle.fjall_journal.specs.Reading.{Gives, compression_of, start_at, item_at, end_at, clear_at, entry_at};
+ghost use Rattle.fjall_journal.specs.Reading.{Gives, IsRestOf, bytes_at, compression_of, start_at, item_at, end_at, clear_at, entry_at};
 
 use crate::entry::{Entry, MAGIC_BYTES, Tag, ValueType};
+use bytes::Bytes;
 use fjall_base::{CompressionType, Error, Result, Slice, bytes_of, u8_of, u16_of, u32_of, u64_of};
 use std::alloc::Global;
 use std::io::ErrorKind;
@@ -35,8 +37,23 @@ fn start_of(bytes: &[u8]) -> Result<(Entry, &[u8])>
     Ok((Entry::Start { item_count, seqno }, rest))
 }
 
+/// That many bytes at the front, as a part of the text whose rest this is, and the bytes after them.
+fn part_of<'a>(text: &Bytes, bytes: &'a [u8], len: usize) -> Result<(Slice, &'a [u8])>
+    requires { IsRestOf text.now bytes.now }
+    ensures gives { Gives (λ x. (x.0, x.1.now)) result (bytes_at len bytes.now) }
+    ensures rest { IfOk result (λ x. IsRestOf text.now x.1.now) }
+{
+    if bytes.len() < len {
+        return Err(SHORT);
+    }
+    let at = text.len() - bytes.len();
+    let part = text.slice(at..at + len)?;
+    Ok((Slice::from(part), &bytes[len..]))
+}
+
 #[tactic(auto, unfolding(crate::specs::Reading::item_at))]
-fn item_of(alloc: Global, bytes: &[u8]) -> Result<(Entry, &[u8])>
+fn item_of<'a>(text: &Bytes, bytes: &'a [u8]) -> Result<(Entry, &'a [u8])>
+    requires { IsRestOf text.now bytes.now }
     ensures { Gives (λ x. (x.0, x.1.now)) result (item_at bytes.now) }
 {
     let Some((type_byte, rest)) = u8_of(bytes) else {
@@ -65,16 +82,12 @@ fn item_of(alloc: Global, bytes: &[u8]) -> Result<(Entry, &[u8])>
     if stored_len != value_len {
         return Err(Error::InvalidTag(("ValueLength", 0)));
     }
-    let Some((key, rest)) = bytes_of(rest, usize::from(key_len)) else {
-        return Err(SHORT);
-    };
-    let Some((value, rest)) = bytes_of(rest, value_len as usize) else {
-        return Err(SHORT);
-    };
+    let (key, rest) = part_of(text, rest, usize::from(key_len))?;
+    let (value, rest) = part_of(text, rest, value_len as usize)?;
     let item = Entry::Item {
         keyspace_id,
-        key: Slice::new(alloc, key)?,
-        value: Slice::new(alloc, value)?,
+        key,
+        value,
         value_type,
         compression,
     };
@@ -110,7 +123,8 @@ fn clear_of(bytes: &[u8]) -> Result<(Entry, &[u8])>
 }
 
 #[tactic(auto, unfolding(crate::specs::Reading::entry_at))]
-pub(crate) fn entry_of(alloc: Global, bytes: &[u8]) -> Result<(Entry, &[u8])>
+pub(crate) fn entry_of<'a>(text: &Bytes, bytes: &'a [u8]) -> Result<(Entry, &'a [u8])>
+    requires { IsRestOf text.now bytes.now }
     ensures { Gives (λ x. (x.0, x.1.now)) result (entry_at bytes.now) }
 {
     let Some((tag, rest)) = u8_of(bytes) else {
@@ -118,14 +132,14 @@ pub(crate) fn entry_of(alloc: Global, bytes: &[u8]) -> Result<(Entry, &[u8])>
     };
     match Tag::try_from(tag)? {
         Tag::Start => start_of(rest),
-        Tag::Item => item_of(alloc, rest),
+        Tag::Item => item_of(text, rest),
         Tag::End => end_of(rest),
         Tag::Clear => clear_of(rest),
     }
 }
 
 impl Entry {
-    /// The entry at the front of the bytes, and how many of them it takes.
+    /// The entry at the front of the bytes, and how many of them it takes. The bytes are copied once.
     pub fn decode_from(alloc: Global, bytes: &[u8]) -> Result<(Entry, usize)>
         // What is answered stands at the front.
         ensures found { IfOk result (λ x. StandsFirst bytes.now x.0 x.1) }
@@ -134,7 +148,8 @@ impl Entry {
         // Which fault it is.
         ensures fault { Gives (λ x. (x.0, drop x.1 bytes.now)) result (entry_at bytes.now) }
     {
-        let (entry, rest) = entry_of(alloc, bytes)?;
+        let text = Bytes::copy_from_slice(alloc, bytes)?;
+        let (entry, rest) = entry_of(&text, text.as_slice())?;
         Ok((entry, bytes.len() - rest.len()))
     }
 }

@@ -1,4 +1,5 @@
 pub mod Stamps
+pub mod Tails
 pub mod Places
 pub mod Ranges
 pub mod Entries

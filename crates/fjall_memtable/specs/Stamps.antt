@@ -1,11 +1,12 @@
 -- Versions of keys in their order, and keys in two parts.
-use Rattle.std.specs.Prelude.{◌≡◌, ℕ, zero, suc, List, [], ◌∷◌, ◌++◌, length, take, drop}
+use Rattle.std.specs.Prelude.{◌≡◌, ℕ, List, ◌++◌, length, take, drop}
 use Rattle.std.specs.Int.{w64, to_be_bytes}
 use Rattle.std.specs.Ordering.{nat_cmp, on, flip_args, then_cmp}
 use Rattle.std.specs.Cmp.{IsTotalOrder}
 use Rattle.std.proofs.lemmas.Cmp.{nat_cmp_total, nat_list_cmp_total, on_total, then_total, back_total}
 use Rattle.std.specs.declared.cmp.Ordering.{Ordering}
 use Rattle.fjall_base.specs.Pairs.{byte_order}
+use Rattle.fjall_table.specs.Padded.{padded}
 
 -- a key, and the number of a change
 pub record Stamp : Type 0 where
@@ -19,12 +20,6 @@ stamp_cmp = then_cmp (on (λ s. s.key) byte_order) (flip_args (on (λ s. s.numbe
 -- this orders all stamps
 pub stamp_total : IsTotalOrder stamp_cmp
 stamp_total = then_total (on_total (λ s. s.key) nat_list_cmp_total) (back_total (on_total (λ s. s.number) nat_cmp_total))
-
--- the first n bytes, with zeros past the end
-abbrev pub padded : ℕ → List ℕ → List ℕ
-padded zero bytes = []
-padded (suc n) [] = 0 ∷ padded n []
-padded (suc n) (b ∷ bytes) = b ∷ padded n bytes
 
 -- sixteen bytes as two numbers, the greatest first
 abbrev pub front_bytes : ℕ → ℕ → List ℕ

@@ -12,6 +12,7 @@ mod parts_laws;
 mod place;
 mod shared;
 mod sorted_laws;
+mod tail;
 mod version_key;
 mod versions;
 

@@ -7,11 +7,15 @@ ghost use Rattle.std.specs.Cmp.Lexicographic.{slice_cmp};
 ghost use Rattle.std.specs.Ordering.{nat_cmp, eq_by_cmp, as_partial_cmp};
 ghost use Rattle.std.proofs.lemmas.Cmp.{eq_by_cmp_equiv};
 ghost use Rattle.fjall_base.specs.Pairs.{byte_order};
-ghost use Rattle.fjall_memtable.specs.Stamps.{stamp_cmp, stamp_total, padded, front_bytes};
+ghost use Rattle.fjall_table.specs.Padded.{padded};
+ghost use Rattle.fjall_memtable.specs.Stamps.{stamp_cmp, stamp_total, front_bytes};
 
+use crate::tail::Tail;
+use fjall_table::front_of;
 use std::alloc::{AllocError, Global};
 use std::cmp::Ordering;
 use std::marker::Model;
+use std::mem::size_of;
 
 /// A key of any length and the number of a change. The key's first sixteen bytes stand in place, as two words with zeros
 /// past its end, so that most comparisons read no other memory; what stands behind them takes memory of its own.
@@ -19,33 +23,22 @@ use std::marker::Model;
 pub struct VersionKey {
     first: u64,
     second: u64,
-    rest: Vec<u8>,
-    front_len: u8,
+    tail: Tail,
     number: u64,
 }
 
+// Each entry of a memtable has one.
+const _: () = prove!(size_of::<VersionKey>() == 40);
+
 impl Model for VersionKey {
     ghost use Rattle.fjall_memtable.specs.Stamps.{Stamp, front_bytes, key_from, AreParts};
+    ghost use Rattle.fjall_memtable.specs.Tails.{rest_of, front_len_of};
 
     ghost Value = { Stamp };
 
-    ghost view = { λ k. record { key = key_from (front_bytes k.first k.second) k.rest.items k.front_len; number = k.number } };
+    ghost view = { λ k. record { key = key_from (front_bytes k.first k.second) (rest_of k.tail) (front_len_of k.tail); number = k.number } };
 
-    ghost invariant = { λ k. AreParts (key_from (front_bytes k.first k.second) k.rest.items k.front_len) (front_bytes k.first k.second) k.rest.items k.front_len };
-}
-
-/// The first sixteen bytes, with zeros past the end.
-fn front_of(key: &[u8]) -> [u8; 16]
-    ensures { result ≡ padded 16 key.now }
-{
-    match key.first_chunk::<16>() {
-        Some(front) => *front,
-        None => {
-            let mut front = [0u8; 16];
-            front[..key.len()].copy_from_slice(key);
-            front
-        }
-    }
+    ghost invariant = { λ k. AreParts (key_from (front_bytes k.first k.second) (rest_of k.tail) (front_len_of k.tail)) (front_bytes k.first k.second) (rest_of k.tail) (front_len_of k.tail) };
 }
 
 /// The number that eight bytes spell, the greatest first.
@@ -62,7 +55,7 @@ fn word_of(bytes: &[u8]) -> u64
 fn words_of(key: &[u8]) -> (u64, u64)
     ensures { front_bytes result.0 result.1 ≡ padded 16 key.now }
 {
-    let front = front_of(key);
+    let front = front_of(key).to_be_bytes();
     let (high, low) = front.split_at(8);
     (word_of(high), word_of(low))
 }
@@ -95,16 +88,12 @@ impl VersionKey {
         ensures key { IfOk result (λ k. k.key ≡ key.now) }
         ensures number { IfOk result (λ k. k.number ≡ number) }
     {
-        let (front_len, rest) = match key.get(16..) {
-            Some(rest) => (16, Vec::from_slice(alloc, rest)?),
-            None => (key.len() as u8, Vec::new(alloc)),
-        };
+        let tail = Tail::new(alloc, key)?;
         let (first, second) = words_of(key);
         Ok(VersionKey {
             first,
             second,
-            rest,
-            front_len,
+            tail,
             number,
         })
     }
@@ -116,10 +105,7 @@ impl VersionKey {
         match compare_fronts(self.first, self.second, other.first, other.second) {
             Ordering::Less => Ordering::Less,
             Ordering::Greater => Ordering::Greater,
-            Ordering::Equal => {
-                let rests = self.rest.as_slice().cmp(other.rest.as_slice());
-                rests.then(self.front_len.cmp(&other.front_len))
-            }
+            Ordering::Equal => self.tail.compare(&other.tail),
         }
     }
 

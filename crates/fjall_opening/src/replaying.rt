@@ -21,6 +21,7 @@ ghost use Rattle.fjall_trees.specs.Views.{forest_of};
 ghost use Rattle.fjall_opening.specs.Replaying.{AreAt, ArePast, IsHeldBy, IsReplayed, IsTextOf, IsUnderway, MayGoOn, MayTake, made_of, tell_up_to};
 
 use crate::sizes::is_fit;
+use bytes::Bytes;
 use fjall_base::{Disk, Error, Result};
 use fjall_contents::{Persisted, check_batches};
 use fjall_files::journal_name;
@@ -57,13 +58,14 @@ pub(crate) struct Progress {
 }
 
 // The first bytes of a text, up to an end, where there is one.
-fn part_of(text: &[u8], end: Option<usize>) -> &[u8]
-    ensures { MatchOption end (result.now ≡ text.now) (λ n. result.now ≡ take n text.now) }
+fn part_of(text: Bytes, end: Option<usize>) -> Bytes
+    ensures { MatchOption end (result ≡ text) (λ n. result ≡ take n text) }
 {
-    match end {
-        Some(end) => text.get(..end).unwrap_or(text),
-        None => text,
+    let mut part = text;
+    if let Some(end) = end {
+        part.truncate(end);
     }
+    part
 }
 
 impl<'a> Replay<'a> {
@@ -141,7 +143,7 @@ impl<'a> Replay<'a> {
     }
 
     // Takes the batches of a text that was read before. Of another text some batches or none.
-    fn replay_text(&self, alloc: Global, progress: &mut Progress, text: &[u8]) -> Result<()>
+    fn replay_text(&self, alloc: Global, progress: &mut Progress, text: &Bytes) -> Result<()>
         requires { MayGoOn self.now progress.old }
         ensures ok { (batches : List Written) (loaded : Forest) (front : List Shown) → AllByRecursion IsWritten batches → text.now ≡ flat_map batch_text batches
             → IsUnderway self.now loaded front progress.old → OnOk result (IsUnderway self.now loaded (front ++ map shown batches) progress.new) }
@@ -186,8 +188,9 @@ impl<'a> Replay<'a> {
         ensures listed { IfErr result IsOpeningRefusal }
     {
         let name = journal_name(alloc, id)?;
-        let text = read_text(alloc, disk, &name)?;
-        self.replay_text(alloc, progress, part_of(&text, end))
+        let text = Bytes::from_vec(read_text(alloc, disk, &name)?)?;
+        let batches = part_of(text, end);
+        self.replay_text(alloc, progress, &batches)
     }
 
     // Takes the batches of sealed journals, one after another.
@@ -243,8 +246,8 @@ impl<'a> Replay<'a> {
     /// keyspace's persisted number. The last one is active, and its whole batches end there. Behind each of the sealed ones what it
     /// made is sealed, so that a flush takes it; what the active one made isn't.
     ///
-    /// One journal's text at a time is in memory, and one of its batches. The checks of the batches are passed over: they were taken
-    /// when the journals were read.
+    /// One journal's text at a time is in memory, and one of its batches, whose keys and values are parts of it: the trees copy
+    /// them. The checks of the batches are passed over: they were taken when the journals were read.
     pub(crate) fn replay_journals<D: Disk>(
         &self,
         alloc: Global,

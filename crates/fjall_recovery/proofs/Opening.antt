@@ -1,5 +1,5 @@
 -- Homes that were read, as trees over their tables.
-use Rattle.std.proofs.Common.{◌≡◌, ℕ, zero, suc, ◌+◌, ◌<◌, ◌≤◌, ◌^◌, ◌==◌, max, Bool, true, false, cond, List, [], ◌∷◌, ◌++◌, length, take, get_or, map, All, AllPairs, Option, None, Some, find, is_some, slice_get, unwrap_or, add-one, refl, sym, ◌∙◌, ap, subst, arith}
+use Rattle.std.proofs.Common.{◌≡◌, ℕ, zero, suc, ◌+◌, ◌<◌, ◌≤◌, ◌^◌, ◌==◌, max, Bool, true, false, cond, List, [], ◌∷◌, ◌++◌, length, take, get_or, map, All, AllPairs, Option, None, Some, find, is_some, unwrap_or, add-one, refl, sym, ◌∙◌, ap, subst, arith}
 use Rattle.std.specs.Cmp.{nat_cmp_total}
 use Rattle.std.specs.FinMap.{get, get-insert, insert}
 use Rattle.std.specs.Ordering.{eq_by_cmp, nat_cmp}
@@ -12,8 +12,8 @@ use Rattle.std.proofs.lemmas.List.{get_or_default, map-append}
 use Rattle.std.proofs.Math.Seq.{take-suc}
 use Rattle.std.proofs.lemmas.List.Elements.{All-cons, All-head, All-map, All-nil, All-tail, All-weaker}
 use Rattle.fjall_base.specs.Disk.{Image, Meaning}
-use Rattle.fjall_table_reader.specs.Readers.{AreRead, Reader, Reads, none_kept, unread}
-use Rattle.fjall_table_reader.proofs.Readers.{but_none}
+use Rattle.fjall_table_reader.specs.Readers.{AreRead, Reader, Reads, unread}
+use Rattle.fjall_table_reader.proofs.Readers.{but_none, none_got}
 use Rattle.fjall_contents.specs.Contents.{is_beyond}
 use Rattle.fjall_files.specs.Calls.{seen}
 use Rattle.fjall_files.specs.Names.{table_name}
@@ -70,12 +70,6 @@ readers_infos image id [] (r ∷ readers) of = absurd of
 readers_infos image id (t ∷ tables) [] of = absurd of
 readers_infos image id (t ∷ tables) (r ∷ readers) of = λ i. (of.0.is i).info ∷ readers_infos image id tables readers of.1 i
 
--- none of its blocks is kept
-none_got : (hs : List Handle) (at : ℕ) (vs : List Entry) → slice_get (none_kept hs) at ≡ Some (Some vs) → ⊥
-none_got [] at vs e = absurd cc
-none_got (h ∷ hs) zero vs e = absurd cc
-none_got (h ∷ hs) (suc at) vs e = none_got hs at vs e
-
 -- one reads the table that its file is but for wrong blocks
 one_reads : (disk : Meaning) (id : ℕ) (t : TableInfo) (reader : Reader) (entries : List Entry) → IsReaderOf (seen disk) id t reader
     → HaveEntriesBut (seen disk) id (t ∷ []) (entries ∷ []) → Reads disk reader entries
@@ -88,7 +82,7 @@ one_reads disk id t reader entries of have =
       reads = record {
         table = but.2;
         index = (one_index (bytes_in (seen disk name)) of.handles (handles_of 0 but.0) t.entry_count t.entry_count of.holds.is.index but.2.index).0;
-        kept = λ at vs e. absurd (none_got of.handles at vs e);
+        kept = (λ at vs e. absurd (none_got of.handles at vs e), λ at vs e. absurd (none_got of.handles at vs e));
       };
     })
 

@@ -14,6 +14,7 @@ ghost use Rattle.fjall_files.specs.Calls.{seen, AllServed};
 
 use crate::file::read_text;
 use crate::look::{Look, look_through};
+use bytes::Bytes;
 use fjall_base::{Disk, Error, Result};
 use fjall_files::journal_name;
 use fjall_journal::Tail;
@@ -70,7 +71,7 @@ pub(crate) fn read_one<D: Disk>(alloc: Global, disk: &mut D, id: u64, least: u64
     ensures only { IfErr result (IsDue (λ error. ⊥)) }
 {
     let name = journal_name(alloc, id)?;
-    let text = read_text(alloc, disk, &name)?;
+    let text = Bytes::from_vec(read_text(alloc, disk, &name)?)?;
     look_through(alloc, &text, least)
 }
 

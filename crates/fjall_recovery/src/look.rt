@@ -4,6 +4,7 @@ ghost use Rattle.std.specs.Prelude.{IfOk, IsOkUnless, ℕ, List, [], ◌∷◌, 
 ghost use Rattle.fjall_journal.specs.Batches.{Shown, view};
 ghost use Rattle.fjall_recovery.specs.Looks.{AreChecked, IsLook};
 
+use bytes::Bytes;
 use fjall_base::{Error, Result};
 use fjall_contents::check_batches;
 use fjall_journal::{Batch, JournalBatchReader, Tail, next_batch};
@@ -33,7 +34,7 @@ fn checked_with(checked: Result<u64>, batch: &Batch) -> Result<u64>
 
 /// Looks through a journal's text, whose first batch may have that number or a greater one. One batch at a time is in memory.
 /// Only memory may be missing.
-pub(crate) fn look_through(alloc: Global, text: &[u8], least: u64) -> Result<Look>
+pub(crate) fn look_through(alloc: Global, text: &Bytes, least: u64) -> Result<Look>
     ensures looks { IfOk result (IsLook text.now least) }
     ensures only { IsOkUnless result Error.OutOfMemory }
 {

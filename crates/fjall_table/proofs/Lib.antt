@@ -11,3 +11,5 @@ pub mod TableReading
 pub mod Lookups
 pub mod TableBlocks
 pub mod TableScans
+pub mod Fronts
+mod Copies

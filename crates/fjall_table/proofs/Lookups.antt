@@ -1,5 +1,5 @@
 -- Binary search in an ordered list, and the tests that find the versions of a key.
-use Rattle.std.proofs.Common.{if◌then◌else◌, ◌≡◌, ◌≢◌, ℕ, zero, suc, ◌-◌, ◌<◌, ◌≤◌, Bool, true, false, not, ◌&&◌, nat_le, nat_lt, List, [], ◌∷◌, length, get_or, map, filter, IsTrue, refl, sym, ap, subst, ◌∙◌, arith, ◌⊎◌, inl, inr}
+use Rattle.std.proofs.Common.{if◌then◌else◌, ◌≡◌, ◌≢◌, ℕ, zero, suc, ◌<◌, ◌≤◌, Bool, true, false, not, ◌&&◌, nat_le, nat_lt, List, [], ◌∷◌, length, get_or, map, filter, IsTrue, refl, sym, ap, subst, ◌∙◌, arith, ◌⊎◌, inl, inr}
 use Rattle.std.specs.List.Sorted.{IsPartitionedBy, IsPartitionPoint}
 use Rattle.std.specs.Str.{bytes_eq}
 use Rattle.std.specs.Ordering.{is_lt, is_le, is_gt}
@@ -11,7 +11,7 @@ use Rattle.std.proofs.lemmas.Bool.{cases_Bool, cases_lt, leb-true, le-leb, lt-le
 use Rattle.std.proofs.lemmas.Slice.Eq.{bytes_eq-Decides}
 use Rattle.std.proofs.lemmas.Cmp.{nat_list_cmp_total, upto, tied_itself}
 use Rattle.fjall_base.specs.Pairs.{byte_order}
-use Rattle.fjall_table.specs.Blocks.{Entry, seen, StandsBefore, IsBefore, IsOrdered}
+use Rattle.fjall_table.specs.Blocks.{Entry, StandsBefore, IsBefore, IsOrdered}
 use Rattle.fjall_table.specs.Tables.{Handle, Ascend}
 use Rattle.fjall_table.specs.TableReading.{is_ahead}
 

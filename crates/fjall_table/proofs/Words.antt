@@ -12,13 +12,13 @@ use Rattle.std.proofs.lemmas.Cmp.{nat_cmp_total, tied_itself}
 
 -- ---- `nat_cmp`, by how its arguments lie
 
-less : (x y : ℕ) → x < y → nat_cmp x y ≡ Less
+pub less : (x y : ℕ) → x < y → nat_cmp x y ≡ Less
 less x y h = sym (nat_cmp_is x y Less h)
 
-greater : (x y : ℕ) → y < x → nat_cmp x y ≡ Greater
+pub greater : (x y : ℕ) → y < x → nat_cmp x y ≡ Greater
 greater x y h = sym (nat_cmp_is x y Greater h)
 
-same : (x : ℕ) → nat_cmp x x ≡ Equal
+pub same : (x : ℕ) → nat_cmp x x ≡ Equal
 same x = tied_itself nat_cmp_total x
 
 cmp_add : (p v w : ℕ) → nat_cmp (p + v) (p + w) ≡ nat_cmp v w
@@ -30,11 +30,11 @@ cmp_add p v w =
 
 -- ---- the number that bytes spell, the greatest first
 
-abbrev value : List ℕ → ℕ
+abbrev pub value : List ℕ → ℕ
 value [] = 0
 value (x ∷ xs) = x * 256 ^ length xs + value xs
 
-abbrev Bytes : List ℕ → Type 0
+abbrev pub Bytes : List ℕ → Type 0
 Bytes xs = (i : ℕ) → get_or xs i 0 < 256
 
 rest_bytes : (x : ℕ) (xs : List ℕ) → Bytes (x ∷ xs) → Bytes xs
@@ -46,7 +46,7 @@ below_power x v p q lt small is = let m = mul-le-mul_right p (le_255 x lt) in om
     le_255 : (x : ℕ) → x < 256 → x ≤ 255
     le_255 x lt = omega arith
 
-value_small : (xs : List ℕ) → Bytes xs → value xs < 256 ^ length xs
+pub value_small : (xs : List ℕ) → Bytes xs → value xs < 256 ^ length xs
 value_small [] b = omega arith
 value_small (x ∷ xs) b = below_power x (value xs) (256 ^ length xs) (256 ^ suc (length xs)) (b 0) (value_small xs (rest_bytes x xs b)) (omega arith)
 
@@ -56,7 +56,7 @@ first_decides x y p v w lt small = let m = mul-le-mul_right p (le x y lt) in ome
     le : (x y : ℕ) → x < y → suc x ≤ y
     le x y lt = omega arith
 
-value_order : (xs ys : List ℕ) → length xs ≡ length ys → Bytes xs → Bytes ys → nat_cmp (value xs) (value ys) ≡ slice_cmp nat_cmp xs ys
+pub value_order : (xs ys : List ℕ) → length xs ≡ length ys → Bytes xs → Bytes ys → nat_cmp (value xs) (value ys) ≡ slice_cmp nat_cmp xs ys
 value_order [] [] e bx by = refl
 value_order [] (y ∷ ys) e bx by = absurd (omega arith)
 value_order (x ∷ xs) [] e bx by = absurd (omega arith)
@@ -94,7 +94,7 @@ worth : (k x : ℕ) → byte_worth k x ≡ x * 256 ^ k
 worth zero x = omega arith
 worth (suc k) x = refl
 
-value_is : (n : ℕ) (xs : List ℕ) → length xs ≡ suc n → sum_through (λ i. byte_worth (n - i) (slice_index xs i)) n ≡ value xs
+pub value_is : (n : ℕ) (xs : List ℕ) → length xs ≡ suc n → sum_through (λ i. byte_worth (n - i) (slice_index xs i)) n ≡ value xs
 value_is n [] e = absurd (omega arith)
 value_is zero (x ∷ []) e = omega arith
 value_is zero (x ∷ y ∷ xs) e = absurd (omega arith)
@@ -125,7 +125,7 @@ fronts_order xs ys long other_long bx by =
 
 -- ---- keys in two parts
 
-then_assoc : (o p q : Ordering) → ordering_then (ordering_then o p) q ≡ ordering_then o (ordering_then p q)
+pub then_assoc : (o p q : Ordering) → ordering_then (ordering_then o p) q ≡ ordering_then o (ordering_then p q)
 then_assoc Less p q = refl
 then_assoc Equal p q = refl
 then_assoc Greater p q = refl

@@ -4,4 +4,5 @@ pub mod Blocks
 pub mod Tables
 pub mod Writing
 pub mod TableReading
+pub mod Padded
 pub mod Owned

@@ -1,7 +1,6 @@
 //! Comparisons of keys, byte by byte, a beginning first.
 
-ghost use Rattle.std.specs.Prelude.{◌≡◌, length};
-ghost use Rattle.std.specs.Ordering.{is_lt, is_le};
+ghost use Rattle.std.specs.Prelude.{◌≡◌};
 ghost use Rattle.fjall_base.specs.Pairs.{byte_order};
 
 use std::cmp::Ordering;
@@ -55,18 +54,4 @@ pub(crate) fn compare(key: &[u8], other: &[u8]) -> Ordering
         }
     }
     compare_by_words(key, other)
-}
-
-#[inline(always)]
-pub(crate) fn is_below(key: &[u8], other: &[u8]) -> bool
-    ensures { result ≡ is_lt (byte_order key.now other.now) }
-{
-    compare(key, other).is_lt()
-}
-
-#[inline(always)]
-pub(crate) fn is_at_most(key: &[u8], other: &[u8]) -> bool
-    ensures { result ≡ is_le (byte_order key.now other.now) }
-{
-    compare(key, other).is_le()
 }

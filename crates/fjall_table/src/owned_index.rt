@@ -1,39 +1,19 @@
 //! The index of a table that was copied out of the bytes that it was read from.
 
-ghost use Rattle.std.specs.Prelude.{◌≡◌, map, IfOk, IfErr, IsOkUnless};
+ghost use Rattle.std.specs.Prelude.{◌≡◌, ◌≤◌, length, map, take, drop, IfOk, IfErr, OnOk, IsOkUnless};
 ghost use Rattle.fjall_base.specs.declared.error.StorageError.TheVariants.{TableDamaged};
 ghost use Rattle.fjall_table.specs.Reading.{DamagedWhere};
 ghost use Rattle.fjall_table.specs.Tables.{index_text, IsIndex};
 ghost use Rattle.fjall_table.specs.TableReading.{handle_of, IsNoIndex};
-ghost use Rattle.fjall_table.specs.Owned.{owned_handle};
+ghost use Rattle.fjall_table.specs.Owned.{owned_handle, keys_text};
 
 use crate::index::{BlockHandle, Index};
+use crate::owned_handle::OwnedHandle;
+use bytes::Bytes;
 use fjall_base::{Error, Result, Slice};
 use std::alloc::Global;
 
-/// Where a data block stands, and a copy of the key of its first entry.
-#[derive(Drop)]
-pub struct OwnedHandle {
-    /// In bytes from the start of the file.
-    pub offset: u64,
-    /// How many bytes the framed block has.
-    pub len: u64,
-    /// It has 1 to 65,535 bytes.
-    pub first_key: Slice,
-}
-
 impl OwnedHandle {
-    fn new(alloc: Global, handle: &BlockHandle<'_>) -> Result<OwnedHandle>
-        ensures ok { IfOk result (λ h. owned_handle h ≡ handle_of handle.now) }
-        ensures only { IsOkUnless result Error.OutOfMemory }
-    {
-        Ok(OwnedHandle {
-            offset: handle.offset,
-            len: handle.len,
-            first_key: Slice::new(alloc, handle.first_key)?,
-        })
-    }
-
     /// The same handle, whose key is a part of this one.
     pub fn borrowed(&self) -> BlockHandle<'_>
         ensures { handle_of result ≡ owned_handle self.now }
@@ -46,13 +26,45 @@ impl OwnedHandle {
     }
 }
 
-fn copy_handles(alloc: Global, handles: &[BlockHandle<'_>]) -> Result<Vec<OwnedHandle>>
+// All first keys, one behind another.
+fn keys_of(alloc: Global, handles: &[BlockHandle<'_>]) -> Result<Vec<u8>>
+    ensures text { IfOk result (λ text. text.items ≡ keys_text (map handle_of handles.now)) }
+    ensures only { IsOkUnless result Error.OutOfMemory }
+{
+    let mut text = Vec::new(alloc);
+    for handle in handles {
+        text.extend_from_slice(handle.first_key)?;
+    }
+    Ok(text)
+}
+
+// So many bytes off the front, as a part of the same text.
+fn take_key(rest: &mut Bytes, len: usize) -> Result<Slice>
+    requires { len ≤ length rest.old }
+    ensures key { IfOk result (λ key. key ≡ take len rest.old) }
+    ensures rest { OnOk result (rest.new ≡ drop len rest.old) }
+    ensures only { IsOkUnless result Error.OutOfMemory }
+{
+    let key = rest.slice(0..len)?;
+    rest.advance(len);
+    Ok(Slice::from(key))
+}
+
+// The same handles, whose keys are parts of one text.
+fn cut_handles(
+    alloc: Global,
+    text: Vec<u8>,
+    handles: &[BlockHandle<'_>],
+) -> Result<Vec<OwnedHandle>>
+    requires { text.items ≡ keys_text (map handle_of handles.now) }
     ensures ok { IfOk result (λ hs. map owned_handle hs.items ≡ map handle_of handles.now) }
     ensures only { IsOkUnless result Error.OutOfMemory }
 {
-    let mut copies = Vec::new(alloc);
+    let mut rest = Bytes::from_vec(text)?;
+    let mut copies = Vec::with_capacity(alloc, handles.len())?;
     for handle in handles {
-        copies.push(OwnedHandle::new(alloc, handle)?)?;
+        let first_key = take_key(&mut rest, handle.first_key.len())?;
+        copies.push(OwnedHandle::new(handle.offset, handle.len, first_key))?;
     }
     Ok(copies)
 }
@@ -68,14 +80,15 @@ pub struct OwnedIndex {
 }
 
 impl OwnedIndex {
-    /// A copy of an index.
+    /// A copy of an index, whose first keys stand in one text.
     pub fn copy(alloc: Global, index: &Index<'_>) -> Result<OwnedIndex>
         ensures index { IfOk result (λ i. map owned_handle i.handles.items ≡ map handle_of index.now.handles.items) }
         ensures over { IfOk result (λ i. i.data_len ≡ index.now.data_len) }
         ensures only { IsOkUnless result Error.OutOfMemory }
     {
+        let text = keys_of(alloc, index.handles())?;
         Ok(OwnedIndex {
-            handles: copy_handles(alloc, index.handles())?,
+            handles: cut_handles(alloc, text, index.handles())?,
             data_len: index.data_len,
         })
     }

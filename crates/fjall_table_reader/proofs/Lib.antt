@@ -3,6 +3,7 @@ pub mod FileScans
 mod Aheads
 mod Places
 mod Searches
+mod Fronted
 mod Spans
 pub mod Readers
 pub mod Several

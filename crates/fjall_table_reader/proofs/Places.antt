@@ -1,18 +1,19 @@
 -- Entries and their places in a text.
-use Rattle.std.proofs.Common.{◌≡◌, ℕ, zero, suc, get_or, ◌+◌, ◌<◌, ◌≤◌, ◌^◌, Result, Ok, Err, IfOk, Vec, Global, List, [], ◌∷◌, ◌++◌, length, take, drop, map, is_some, cond, Option, Some, None, refl, sym, ap, subst, ◌∙◌, append_assoc, add-one, slice_get, arith}
+use Rattle.std.proofs.Common.{◌≡◌, ℕ, zero, suc, get_or, ◌+◌, ◌<◌, ◌≤◌, ◌^◌, List, [], ◌∷◌, ◌++◌, length, take, drop, map, is_some, cond, Option, Some, None, refl, sym, ap, subst, ◌∙◌, append_assoc, add-one, slice_get, arith}
 use Rattle.std.specs.List.{AllByRecursion}
-use Rattle.std.proofs.lemmas.List.{length-append, take_at, drop_at}
+use Rattle.std.specs.Int.{w128, to_be_bytes}
+use Rattle.std.proofs.lemmas.List.{length-append, length-map, take_at, drop_at}
 use Rattle.std.proofs.lemmas.List.Concat.{flat_map-cons}
 use Rattle.byteorder.specs.Endian.{little_bytes}
 use Rattle.fjall_base.proofs.Codecs.{length-little}
 use Rattle.fjall_table.specs.Blocks.{Entry, IsBlock, IsOrdered, entry_header, entry_text, payload_of, block_text, type_byte, value_bytes}
 use Rattle.fjall_table.specs.Frame.{headed}
 use Rattle.fjall_base.specs.Check.{check}
-use Rattle.fjall_base.specs.declared.error.Error.{Error}
+use Rattle.fjall_table.specs.Padded.{padded}
 use Rattle.fjall_table.specs.TableReading.{IsBlockFrom}
 use Rattle.fjall_table.proofs.TableBlocks.{drop_got}
 use Rattle.fjall_table_reader.specs.declared.place.EntryPlace.{EntryPlace}
-use Rattle.fjall_table_reader.specs.Places.{ArePlaced, end_of, entries_in, entry_in, key_at, place_of, places_from}
+use Rattle.fjall_table_reader.specs.Places.{AreFronts, ArePlaced, end_of, entries_in, entry_in, key_at, place_of, places_from}
 
 -- fifteen bytes stand before a key
 header_len : (a b c d : ℕ) → length (entry_header a b c d) ≡ 15
@@ -103,12 +104,14 @@ block_entries text vs e =
     ∙ ap (λ (n : ℕ). entries_in (head ++ (payload_of vs ++ check (headed 8 (payload_of vs)))) (places_from n vs)) (sym (length-little 8 (length (payload_of vs))))
     ∙ read_all head (check (headed 8 (payload_of vs))) vs
 
-pub block_placed : (text : List ℕ) (vs : List Entry) → IsBlock vs → text ≡ block_text vs → ArePlaced text (places_from 8 vs)
-block_placed text vs is e = record {
+pub block_placed : (text : List ℕ) (vs : List Entry) (fronts : List ℕ) → IsBlock vs → text ≡ block_text vs → AreFronts fronts vs → ArePlaced text (places_from 8 vs) fronts
+block_placed text vs fronts is e are = record {
   some = let s = is.some in let l = places_len 8 vs in omega arith;
+  count = omega (arith, ap length are, places_len 8 vs, length-map fronts (to_be_bytes w128), length-map vs (λ (e : Entry). padded 16 e.key));
   fits = fits_all 8 (length text) vs (let w = payload_within vs in let l = ap length e in omega arith);
   ordered = let read = block_entries text vs e in subst IsOrdered (sym read) is.ordered;
   block = e ∙ ap block_text (sym (block_entries text vs e));
+  spelled = are ∙ ap (map (λ (e : Entry). padded 16 e.key)) (sym (block_entries text vs e));
 }
 
 -- ---- a loop over entries
@@ -118,7 +121,7 @@ pub record Placing (from : ℕ) (es : List Entry) (places : List EntryPlace) (ne
   pub all : places ++ places_from next (drop n es) ≡ places_from from es
   pub end : next + length (payload_of (drop n es)) ≡ from + length (payload_of es)
 
-drop_here : (es : List Entry) (n : ℕ) (e : Entry) → slice_get es n ≡ Some e → drop n es ≡ e ∷ drop (n + 1) es
+pub drop_here : (es : List Entry) (n : ℕ) (e : Entry) → slice_get es n ≡ Some e → drop n es ≡ e ∷ drop (n + 1) es
 drop_here es n e h = drop_got es n e h ∙ ap (λ (k : ℕ). e ∷ drop k es) (sym (add-one n))
 
 pub room_for : (from : ℕ) (es : List Entry) (places : List EntryPlace) (next n : ℕ) (e : Entry) → Placing from es places next n → slice_get es n ≡ Some e → end_of (place_of next e) ≤ from + length (payload_of es)
@@ -151,10 +154,8 @@ pub room_less : (from : ℕ) (es : List Entry) (places : List EntryPlace) (next 
 room_less from es places next n e p h lt = omega (arith, room_for from es places next n e p h, lt)
 
 -- what was decoded is the block that the text is of
-pub places_block : (key text : List ℕ) (vs : List Entry) (r : Result (Vec EntryPlace Global) Error) → IsBlockFrom key text vs → IfOk r (λ ps. ps.items ≡ places_from 8 vs) → IfOk r (λ ps. IsBlockFrom key text (entries_in text ps.items))
-places_block key text vs (Ok ps) is at = subst (λ (ws : List Entry). IsBlockFrom key text ws) (sym (ap (entries_in text) at ∙ block_entries text vs is.text)) is
-places_block key text vs (Err e) is at = tt
+pub places_block : (key text : List ℕ) (vs : List Entry) (ps : List EntryPlace) → IsBlockFrom key text vs → ps ≡ places_from 8 vs → IsBlockFrom key text (entries_in text ps)
+places_block key text vs ps is at = subst (λ (ws : List Entry). IsBlockFrom key text ws) (sym (ap (entries_in text) at ∙ block_entries text vs is.text)) is
 
-pub places_placed : (key text : List ℕ) (vs : List Entry) (r : Result (Vec EntryPlace Global) Error) → IsBlockFrom key text vs → IfOk r (λ ps. ps.items ≡ places_from 8 vs) → IfOk r (λ ps. ArePlaced text ps.items)
-places_placed key text vs (Ok ps) is at = subst (λ (qs : List EntryPlace). ArePlaced text qs) (sym at) (block_placed text vs is.is is.text)
-places_placed key text vs (Err e) is at = tt
+pub places_placed : (key text : List ℕ) (vs : List Entry) (ps : List EntryPlace) (fronts : List ℕ) → IsBlockFrom key text vs → ps ≡ places_from 8 vs → AreFronts fronts vs → ArePlaced text ps fronts
+places_placed key text vs ps fronts is at are = subst (λ (qs : List EntryPlace). ArePlaced text qs fronts) (sym at) (block_placed text vs fronts is.is is.text are)

@@ -1,5 +1,5 @@
 -- Readers of tables: what they keep, and what they find.
-use Rattle.std.proofs.Common.{◌≡◌, ℕ, zero, suc, ◌+◌, ◌-◌, ◌<◌, ◌≤◌, ◌^◌, min, Bool, IsTrue, List, [], ◌∷◌, ◌++◌, length, take, drop, map, set, slice_get, Option, Some, None, IfSome, refl, sym, ap, subst, ◌∙◌, arith, ◌⊎◌, inl, inr, ◌&&◌, true, false, get_or, replicate, nat_lt}
+use Rattle.std.proofs.Common.{◌≡◌, ℕ, zero, suc, ◌+◌, ◌-◌, ◌<◌, ◌≤◌, ◌^◌, min, Bool, IsTrue, List, [], ◌∷◌, ◌++◌, length, take, drop, map, set, slice_get, Option, Some, None, IfSome, refl, sym, ap, subst, ◌∙◌, arith, ◌⊎◌, inl, inr, ◌&&◌, true, false, get_or, replicate, nat_lt, unwrap_or}
 use Rattle.std.specs.List.{sum_by}
 use Rattle.std.proofs.lemmas.List.{append-nil, length-map, length-set}
 use Rattle.std.proofs.lemmas.List.Sums.{sum_by-cons}
@@ -19,7 +19,9 @@ use Rattle.std.proofs.lemmas.Slice.Eq.{bytes_eq-Decides}
 use Rattle.fjall_table.proofs.TableReading.{got, got_map}
 use Rattle.fjall_table.proofs.Lookups.{fails, wanted}
 use Rattle.fjall_table.proofs.TableBlocks.{blocks_in, entries_joined, more_taken, one_index, parts_of, read_is, some_at, stands_at, table_has}
-use Rattle.fjall_table_reader.specs.Readers.{HoldsAWrongBlock, HoldsAWrongBlockFor, IsCountedReader, IsReader, IsSameTable, IsTableBut, LooksOn, Reader, Reads, ReadsBlocks, SomeTableIsWrong, SomeTableIsWrongFor, block_size, keeping, none_kept, size_at, unread}
+use Rattle.fjall_table_reader.specs.Finds.{IsFound, entry_found}
+use Rattle.fjall_table_reader.specs.declared.found.Found.{Found}
+use Rattle.fjall_table_reader.specs.Readers.{AreOf, HoldsAWrongBlock, HoldsAWrongBlockFor, IsCountedReader, IsSameTable, IsTableBut, LooksOn, Reader, Reads, ReadsBlocks, SomeTableIsWrong, SomeTableIsWrongFor, aged, block_size, keeping, none_kept, renewing, size_at, unread}
 use Rattle.fjall_table_reader.proofs.Spans.{block_of, versions_before, versions_behind}
 
 -- ---- a table all of whose blocks are right
@@ -94,15 +96,37 @@ set_got (x ∷ xs) zero y (suc j) z e = inr e
 set_got (x ∷ xs) (suc i) y zero z e = inr e
 set_got (x ∷ xs) (suc i) y (suc j) z e = elim (set_got xs i y j z e) [ inl h ↦ inl (ap suc h.0, h.1) | inr h ↦ inr h ]
 
+set_of : (blocks : List (List Entry)) (kept : List (Option (List Entry))) (at : ℕ) (o : Option (List Entry)) → AreOf blocks kept → ((vs : List Entry) → o ≡ Some vs → slice_get blocks at ≡ Some vs) → AreOf blocks (set kept at o)
+set_of blocks kept at o are is j vs e = elim (set_got kept at o j (just vs) e) [
+  | inl h ↦ ap (slice_get blocks) (sym h.0) ∙ is vs h.1
+  | inr h ↦ are j vs h
+]
+
+-- a block of the table more
 pub kept_too : (disk : Meaning) (t : Reader) (blocks : List (List Entry)) (at : ℕ) (block : List Entry) → ReadsBlocks disk t blocks → slice_get blocks at ≡ Some block → ReadsBlocks disk (keeping at block t) blocks
 kept_too disk t blocks at block r here = record {
   table = r.table;
   index = r.index;
-  kept = λ j vs e. elim (set_got t.kept at (just block) j (just vs) e) [
-    | inl h ↦ ap (slice_get blocks) (sym h.0) ∙ here ∙ ap (λ (v : List Entry). just v) (some_is block vs h.1)
-    | inr h ↦ r.kept j vs h
-  ];
+  kept = (set_of blocks t.recent at (just block) r.kept.0 (λ vs e. here ∙ ap (λ (v : List Entry). just v) (some_is block vs e)), r.kept.1);
 }
+
+older_here : (o : Option (Option (List Entry))) (vs : List Entry) → unwrap_or o None ≡ Some vs → o ≡ Some (Some vs)
+older_here None vs e = absurd cc
+older_here (Some o) vs e = ap (λ (p : Option (List Entry)). just p) e
+
+-- an older one that is recent from then on
+pub renewed_reads : (disk : Meaning) (t u : Reader) (blocks : List (List Entry)) (at : ℕ) → u ≡ renewing at t → ReadsBlocks disk t blocks → ReadsBlocks disk u blocks
+renewed_reads disk t u blocks at is r = subst (λ (v : Reader). ReadsBlocks disk v blocks) (sym is) (record {
+  table = r.table;
+  index = r.index;
+  kept = (
+    set_of blocks t.recent at (unwrap_or (slice_get t.older at) None) r.kept.0 (λ vs e. r.kept.1 at vs (older_here (slice_get t.older at) vs e)),
+    set_of blocks t.older at None r.kept.1 (λ vs e. absurd cc),
+  );
+})
+
+pub renewed_same : (t u : Reader) (at : ℕ) → u ≡ renewing at t → IsSameTable t u
+renewed_same t u at is = record { name = ap (λ (v : Reader). v.name) is; info = ap (λ (v : Reader). v.info) is; handles = ap (λ (v : Reader). v.handles) is }
 
 -- ---- what a look-up goes through
 
@@ -202,26 +226,60 @@ pub none_size : (hs : List Handle) → sum_by size_at (none_kept hs) ≡ 0
 none_size [] = refl
 none_size (h ∷ hs) = (let none : Option (List Entry) = None in omega (arith, sum_by-cons size_at none (none_kept hs), none_size hs))
 
--- a block more, where none was kept
-set_size : (ks : List (Option (List Entry))) (at : ℕ) (block : List Entry) → slice_get ks at ≡ Some None → sum_by size_at (set ks at (Some block)) ≡ sum_by size_at ks + block_size block
-set_size [] at block none = absurd cc
-set_size (k ∷ ks) zero block none = omega (arith, sum_by-cons size_at (just block) ks, sum_by-cons size_at k ks, ap size_at (some_is k None none))
-set_size (k ∷ ks) (suc at) block none = omega (arith, sum_by-cons size_at k (set ks at (Some block)), sum_by-cons size_at k ks, set_size ks at block none)
+-- another at a place, where none was kept
+set_size : (ks : List (Option (List Entry))) (at : ℕ) (o : Option (List Entry)) → slice_get ks at ≡ Some None → sum_by size_at (set ks at o) ≡ sum_by size_at ks + size_at o
+set_size [] at o none = absurd cc
+set_size (k ∷ ks) zero o none = omega (arith, sum_by-cons size_at o ks, sum_by-cons size_at k ks, ap size_at (some_is k None none))
+set_size (k ∷ ks) (suc at) o none = omega (arith, sum_by-cons size_at k (set ks at o), sum_by-cons size_at k ks, set_size ks at o none)
 
-pub counted_more : (kept_bytes total at : ℕ) (block : List Entry) (t : Reader) → IsCountedReader kept_bytes t → slice_get t.kept at ≡ Some None
-    → total ≡ min (kept_bytes + min (block_size block) (2 ^ 64 - 1)) (2 ^ 64 - 1) → IsCountedReader total (keeping at block t)
-counted_more kept_bytes total at block t is none e = record {
-  reader = record { count = length-set t.kept at (just block) ∙ is.reader.count; ascend = is.reader.ascend };
-  bytes = omega (arith, is.bytes, set_size t.kept at block none, e);
+-- none at a place any longer
+unset_size : (ks : List (Option (List Entry))) (at : ℕ) → sum_by size_at (set ks at None) + size_at (unwrap_or (slice_get ks at) None) ≡ sum_by size_at ks
+unset_size [] at = refl
+unset_size (k ∷ ks) zero = (let none : Option (List Entry) = None in omega (arith, sum_by-cons size_at none ks, sum_by-cons size_at k ks))
+unset_size (k ∷ ks) (suc at) = omega (arith, sum_by-cons size_at k (set ks at None), sum_by-cons size_at k ks, unset_size ks at)
+
+pub counted_more : (recent_bytes kept_bytes recent total at : ℕ) (block : List Entry) (t : Reader) → IsCountedReader recent_bytes kept_bytes t → slice_get t.recent at ≡ Some None
+    → recent ≡ min (recent_bytes + min (block_size block) (2 ^ 64 - 1)) (2 ^ 64 - 1) → total ≡ min (kept_bytes + min (block_size block) (2 ^ 64 - 1)) (2 ^ 64 - 1)
+    → IsCountedReader recent total (keeping at block t)
+counted_more recent_bytes kept_bytes recent total at block t is none r e = record {
+  reader = record { recent = length-set t.recent at (just block) ∙ is.reader.recent; older = is.reader.older; ascend = is.reader.ascend };
+  recent = omega (arith, is.recent, set_size t.recent at (just block) none, r);
+  bytes = omega (arith, is.bytes, set_size t.recent at (just block) none, e);
+}
+
+pub counted_renewed : (recent_bytes kept_bytes recent at : ℕ) (t : Reader) → IsCountedReader recent_bytes kept_bytes t → slice_get t.recent at ≡ Some None
+    → recent ≡ min (recent_bytes + min (size_at (unwrap_or (slice_get t.older at) None)) (2 ^ 64 - 1)) (2 ^ 64 - 1) → IsCountedReader recent kept_bytes (renewing at t)
+counted_renewed recent_bytes kept_bytes recent at t is none r =
+    let o = unwrap_or (slice_get t.older at) None in
+    record {
+      reader = record { recent = length-set t.recent at o ∙ is.reader.recent; older = length-set t.older at None ∙ is.reader.older; ascend = is.reader.ascend };
+      recent = omega (arith, is.recent, set_size t.recent at o none, r);
+      bytes = omega (arith, is.bytes, set_size t.recent at o none, unset_size t.older at);
+    }
+
+pub counted_aged : (recent_bytes kept_bytes : ℕ) (t : Reader) → IsCountedReader recent_bytes kept_bytes t → IsCountedReader 0 recent_bytes (aged t)
+counted_aged recent_bytes kept_bytes t is = record {
+  reader = record { recent = length-map t.handles (λ h. let o : Option (List Entry) = None in o); older = is.reader.recent; ascend = is.reader.ascend };
+  recent = omega (arith, none_size t.handles);
+  bytes = omega (arith, none_size t.handles, is.recent);
 }
 
 -- ---- what is kept at a place
 
-pub kept_here : {A : Type 0} (f : A → List Entry) (t : Reader) (items : List (Option A)) (at : ℕ) (o p : Option A) → map (option_map f) items ≡ t.kept → length t.kept ≡ length t.handles → at < length t.handles → o ≡ get_or items at o → o ≡ p → slice_get t.kept at ≡ Some (option_map f p)
-kept_here f t items at o p view count lt here is =
+pub kept_here : {A : Type 0} (f : A → List Entry) (ks : List (Option (List Entry))) (items : List (Option A)) (at : ℕ) (o : Option A) → map (option_map f) items ≡ ks → at < length ks → o ≡ get_or items at o → slice_get ks at ≡ Some (option_map f o)
+kept_here f ks items at o view lt here =
     ap (λ (k : List (Option (List Entry))). slice_get k at) (sym view)
-    ∙ got_map (option_map f) items at o (got items at o (omega (arith, lt, count, ap length view, length-map items (option_map f))) here)
-    ∙ ap (λ (q : Option _). just (option_map f q)) is
+    ∙ got_map (option_map f) items at o (got items at o (omega (arith, lt, ap length view, length-map items (option_map f))) here)
+
+pub set_there : {A : Type 0} (xs : List A) (at : ℕ) (x : A) → at < length xs → slice_get (set xs at x) at ≡ Some x
+set_there [] at x lt = absurd (omega arith)
+set_there (y ∷ xs) zero x lt = refl
+set_there (y ∷ xs) (suc at) x lt = set_there xs at x (omega arith)
+
+pub some_within : {A : Type 0} (xs : List A) (at : ℕ) (x : A) → slice_get xs at ≡ Some x → at < length xs
+some_within [] at x e = absurd cc
+some_within (y ∷ xs) zero x e = omega arith
+some_within (y ∷ xs) (suc at) x e = (let lt = some_within xs at x e in omega arith)
 
 pub none_is : {A : Type 0} (f : A → List Entry) (hs : List Handle) (n : ℕ) → n ≡ length hs → map (option_map f) (replicate n None) ≡ none_kept hs
 none_is f hs n e = ap (λ (k : ℕ). map (option_map f) (replicate k None)) e ∙ go hs
@@ -230,7 +288,7 @@ none_is f hs n e = ap (λ (k : ℕ). map (option_map f) (replicate k None)) e �
     go [] = refl
     go (h ∷ hs) = ap (λ (k : List (Option (List Entry))). None ∷ k) (go hs)
 
-none_got : (hs : List Handle) (at : ℕ) (vs : List Entry) → slice_get (none_kept hs) at ≡ Some (Some vs) → ⊥
+pub none_got : (hs : List Handle) (at : ℕ) (vs : List Entry) → slice_get (none_kept hs) at ≡ Some (Some vs) → ⊥
 none_got [] at vs e = absurd cc
 none_got (h ∷ hs) zero vs e = absurd cc
 none_got (h ∷ hs) (suc at) vs e = none_got hs at vs e
@@ -245,7 +303,10 @@ reads_new disk t entries is holds table =
       reads = record {
         table = b.2;
         index = (one_index (bytes_in (entry_at disk t.name)) t.handles (handles_of 0 b.0) t.info.entry_count t.info.entry_count holds.is.index b.2.index).0;
-        kept = λ at vs e. absurd (none_got t.handles at vs (ap (λ (u : Reader). slice_get u.kept at) (sym is) ∙ e));
+        kept = (
+          λ at vs e. absurd (none_got t.handles at vs (ap (λ (u : Reader). slice_get u.recent at) (sym is) ∙ e)),
+          λ at vs e. absurd (none_got t.handles at vs (ap (λ (u : Reader). slice_get u.older at) (sym is) ∙ e)),
+        );
       };
     }
 
@@ -265,10 +326,20 @@ key_found key instant (x ∷ xs) e h =
     left true c t = refl
     left false c t = absurd cc
 
--- a reader that keeps nothing is one
-pub is_unread : (name : disk.Name) (info : TableInfo) (handles : List Handle) → Ascend handles → IsReader (unread name info handles)
-is_unread name info handles up = record { count = length-map handles (λ h. let o : Option (List Entry) = None in o); ascend = up }
+-- what was found at the place of the first version of a key is that version
+pub found_is : (key : List ℕ) (instant : ℕ) (es : List Entry) (at : ℕ) (f : Found) → slice_get (versions_at key instant es) 0 ≡ slice_get es at → at < length es
+    → IfSome (slice_get es at) (λ e. entry_found e.key f ≡ e) → Some (entry_found key f) ≡ slice_get (versions_at key instant es) 0
+found_is key instant es at f is lt found =
+    let g = some_at es at lt in
+    let first = is ∙ g.1 in
+    ap (λ (k : List ℕ). just (entry_found k f)) (sym (key_found key instant es g.0 first)) ∙ ap (λ (e : Entry). just e) (subst (λ (o : Option Entry). IfSome o (λ e. entry_found e.key f ≡ e)) g.1 found) ∙ sym first
 
--- and counts for nothing
-pub unread_counted : (name : disk.Name) (info : TableInfo) (handles : List Handle) → Ascend handles → IsCountedReader 0 (unread name info handles)
-unread_counted name info handles up = record { reader = is_unread name info handles up; bytes = omega (arith, none_size handles) }
+-- the entry that was found
+pub found_entry : (key : List ℕ) (found : Option Found) (f : Found) (o : Option Entry) → IsFound key found o → found ≡ Some f → o ≡ Some (entry_found key f)
+found_entry key found f o is e = sym is ∙ ap (option_map (entry_found key)) e
+
+-- a reader that keeps nothing is one, and counts for nothing
+pub unread_counted : (name : disk.Name) (info : TableInfo) (handles : List Handle) → Ascend handles → IsCountedReader 0 0 (unread name info handles)
+unread_counted name info handles up =
+    let len = length-map handles (λ h. let o : Option (List Entry) = None in o) in
+    record { reader = record { recent = len; older = len; ascend = up }; recent = omega (arith, none_size handles); bytes = omega (arith, none_size handles) }

@@ -1,35 +1,34 @@
 -- Lists of readers, one of which changes.
-use Rattle.std.proofs.Common.{◌≡◌, ℕ, zero, suc, ◌+◌, ◌<◌, ◌≤◌, Bool, IsTrue, List, [], ◌∷◌, length, set, slice_get, get_or, Some, refl, sym, ap, subst, ◌∙◌, add-one, arith}
+use Rattle.std.proofs.Common.{◌≡◌, ℕ, zero, suc, ◌+◌, ◌<◌, ◌≤◌, Bool, IsTrue, List, [], ◌∷◌, length, map, set, slice_get, get_or, Some, refl, sym, ap, subst, ◌∙◌, add-one, arith}
 use Rattle.std.proofs.lemmas.List.Sums.{sum_by-cons}
 use Rattle.fjall_base.specs.Disk.{Meaning}
 use Rattle.fjall_base.proofs.Codecs.{some_is}
 use Rattle.fjall_table.specs.Blocks.{Entry, IsOrdered}
-use Rattle.fjall_table.specs.Tables.{Handle}
-use Rattle.fjall_table_reader.specs.Readers.{AreRead, AreSameTables, IsSameTable, LooksOn, Reader, Reads, all_unread, kept_size, kept_sizes, none_kept, unread}
-use Rattle.fjall_table_reader.proofs.Readers.{none_size, reads_on, same_again, same_none}
+use Rattle.fjall_table_reader.specs.Readers.{AreRead, AreSameTables, IsSameTable, LooksOn, Reader, Reads, aged, all_aged, all_unread, kept_size, kept_sizes, unread}
+use Rattle.fjall_table_reader.proofs.Readers.{none_got, none_size, reads_on, same_again, same_none}
 
--- ---- the first ones with no block kept
+-- ---- the first ones changed alike
 
-abbrev pub unread_to : ℕ → List Reader → List Reader
-unread_to zero ts = ts
-unread_to (suc n) [] = []
-unread_to (suc n) (t ∷ ts) = unread t.name t.info t.handles ∷ unread_to n ts
+abbrev pub first_changed : (Reader → Reader) → ℕ → List Reader → List Reader
+first_changed f zero ts = ts
+first_changed f (suc n) [] = []
+first_changed f (suc n) (t ∷ ts) = f t ∷ first_changed f n ts
 
 -- one more
-pub unread_more : (n : ℕ) (ts : List Reader) (t u d : Reader) → n < length ts → t ≡ get_or (unread_to n ts) n d → u ≡ unread t.name t.info t.handles → set (unread_to n ts) n u ≡ unread_to (n + 1) ts
-unread_more n ts t u d lt is e = next n ts lt is ∙ ap (λ (k : ℕ). unread_to k ts) (sym (add-one n))
+pub changed_more : (f : Reader → Reader) (n : ℕ) (ts : List Reader) (t u d : Reader) → n < length ts → t ≡ get_or (first_changed f n ts) n d → u ≡ f t → set (first_changed f n ts) n u ≡ first_changed f (n + 1) ts
+changed_more f n ts t u d lt is e = next n ts lt is ∙ ap (λ (k : ℕ). first_changed f k ts) (sym (add-one n))
   where
-    next : (n : ℕ) (ts : List Reader) → n < length ts → t ≡ get_or (unread_to n ts) n d → set (unread_to n ts) n u ≡ unread_to (suc n) ts
+    next : (n : ℕ) (ts : List Reader) → n < length ts → t ≡ get_or (first_changed f n ts) n d → set (first_changed f n ts) n u ≡ first_changed f (suc n) ts
     next n [] lt is = absurd (omega arith)
-    next zero (x ∷ ts) lt is = ap (λ (y : Reader). y ∷ ts) (e ∙ ap (λ (y : Reader). unread y.name y.info y.handles) is)
-    next (suc n) (x ∷ ts) lt is = ap (λ (ys : List Reader). unread x.name x.info x.handles ∷ ys) (next n ts (omega arith) is)
+    next zero (x ∷ ts) lt is = ap (λ (y : Reader). y ∷ ts) (e ∙ ap f is)
+    next (suc n) (x ∷ ts) lt is = ap (λ (ys : List Reader). f x ∷ ys) (next n ts (omega arith) is)
 
 -- all of them
-pub unread_all : (n : ℕ) (ts : List Reader) → length ts ≤ n → unread_to n ts ≡ all_unread ts
-unread_all zero [] le = refl
-unread_all zero (t ∷ ts) le = absurd (omega arith)
-unread_all (suc n) [] le = refl
-unread_all (suc n) (t ∷ ts) le = ap (λ (ys : List Reader). unread t.name t.info t.handles ∷ ys) (unread_all n ts (omega arith))
+pub changed_all : (f : Reader → Reader) (n : ℕ) (ts : List Reader) → length ts ≤ n → first_changed f n ts ≡ map f ts
+changed_all f zero [] le = refl
+changed_all f zero (t ∷ ts) le = absurd (omega arith)
+changed_all f (suc n) [] le = refl
+changed_all f (suc n) (t ∷ ts) le = ap (λ (ys : List Reader). f t ∷ ys) (changed_all f n ts (omega arith))
 
 -- ---- places
 
@@ -97,16 +96,11 @@ same_set (x ∷ old) (y ∷ new) (suc at) u v same is next = (same.0, same_set o
 
 -- ---- readers that keep nothing
 
-none_got : (hs : List Handle) (at : ℕ) (vs : List Entry) → slice_get (none_kept hs) at ≡ Some (Some vs) → ⊥
-none_got [] at vs e = absurd cc
-none_got (h ∷ hs) zero vs e = absurd cc
-none_got (h ∷ hs) (suc at) vs e = none_got hs at vs e
-
 unread_reads : (disk : Meaning) (t : Reader) (es : List Entry) → Reads disk t es → Reads disk (unread t.name t.info t.handles) es
 unread_reads disk t es r = record {
   blocks = r.blocks;
   all = r.all;
-  reads = record { table = r.reads.table; index = r.reads.index; kept = λ at vs e. absurd (none_got t.handles at vs e) };
+  reads = record { table = r.reads.table; index = r.reads.index; kept = (λ at vs e. absurd (none_got t.handles at vs e), λ at vs e. absurd (none_got t.handles at vs e)) };
 }
 
 -- read what they read before
@@ -127,3 +121,26 @@ all_unread_same (t ∷ old) (u ∷ new) same = (record { name = same.0.name; inf
 pub all_unread_size : (ts : List Reader) → kept_sizes (all_unread ts) ≡ 0
 all_unread_size [] = refl
 all_unread_size (t ∷ ts) = omega (arith, sum_by-cons kept_size (unread t.name t.info t.handles) (all_unread ts), none_size t.handles, all_unread_size ts)
+
+-- ---- readers whose older blocks go
+
+-- they read what they read before
+pub all_aged_read : (disk : Meaning) (ts : List Reader) (ess : List (List Entry)) → AreRead disk ts ess → AreRead disk (all_aged ts) ess
+all_aged_read disk [] [] r = tt
+all_aged_read disk [] (es ∷ ess) r = r
+all_aged_read disk (t ∷ ts) [] r = r
+all_aged_read disk (t ∷ ts) (es ∷ ess) r = (aged_reads t es r.0, all_aged_read disk ts ess r.1)
+  where
+    aged_reads : (t : Reader) (es : List Entry) → Reads disk t es → Reads disk (aged t) es
+    aged_reads t es r = record {
+      blocks = r.blocks;
+      all = r.all;
+      reads = record { table = r.reads.table; index = r.reads.index; kept = (λ at vs e. absurd (none_got t.handles at vs e), r.reads.kept.0) };
+    }
+
+-- and are the same tables
+pub all_aged_same : (old new : List Reader) → AreSameTables old new → AreSameTables old (all_aged new)
+all_aged_same [] [] same = tt
+all_aged_same [] (u ∷ new) same = same
+all_aged_same (t ∷ old) [] same = same
+all_aged_same (t ∷ old) (u ∷ new) same = (record { name = same.0.name; info = same.0.info; handles = same.0.handles }, all_aged_same old new same.1)

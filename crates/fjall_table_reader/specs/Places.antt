@@ -1,7 +1,9 @@
 -- Entries by where their keys and values stand in a text.
 use Rattle.std.specs.Prelude.{◌≡◌, ℕ, ◌+◌, ◌≤◌, ◌<◌, List, [], ◌∷◌, Option, Some, None, length, take, drop, map, is_some, if◌then◌else◌}
 use Rattle.std.specs.List.{AllByRecursion}
+use Rattle.std.specs.Int.{w128, to_be_bytes}
 use Rattle.fjall_table.specs.Blocks.{Entry, IsOrdered, block_text, value_bytes}
+use Rattle.fjall_table.specs.Padded.{padded}
 use Rattle.fjall_table_reader.specs.declared.place.EntryPlace.{EntryPlace}
 
 -- the key that stands there, and the value behind it
@@ -22,12 +24,19 @@ entry_in text p = record { key = key_at text p; number = p.number; value = value
 abbrev pub entries_in : List ℕ → List EntryPlace → List Entry
 entries_in text places = map (entry_in text) places
 
--- The places are those of entries in order, one at least; each ends within the text, which is the block of these entries.
-pub record ArePlaced (text : List ℕ) (places : List EntryPlace) : Type 0 where
+-- each of these numbers spells the first sixteen bytes of the entry's key, with zeros past its end
+abbrev pub AreFronts : List ℕ → List Entry → Type 0
+AreFronts fronts entries = map (to_be_bytes w128) fronts ≡ map (λ e. padded 16 e.key) entries
+
+-- The places are those of entries in order, one at least; each ends within the text, which is the block of these entries. The
+-- fronts are those of their keys.
+pub record ArePlaced (text : List ℕ) (places : List EntryPlace) (fronts : List ℕ) : Type 0 where
   pub some : 0 < length places
+  pub count : length fronts ≡ length places
   pub fits : AllByRecursion (λ p. end_of p ≤ length text) places
   pub ordered : IsOrdered (entries_in text places)
   pub block : text ≡ block_text (entries_in text places)
+  pub spelled : AreFronts fronts (entries_in text places)
 
 -- the place of an entry whose text begins there: its key stands behind fifteen bytes
 abbrev pub place_of : ℕ → Entry → EntryPlace

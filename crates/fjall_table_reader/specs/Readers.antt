@@ -1,5 +1,5 @@
 -- Opened tables some of whose blocks are kept in memory, and what they read on a disk.
-use Rattle.std.specs.Prelude.{◌≡◌, ℕ, ◌+◌, ◌-◌, ◌*◌, ◌<◌, ◌≤◌, ◌^◌, Bool, IsTrue, List, [], ◌∷◌, Option, Some, None, length, map, min, set, slice_get}
+use Rattle.std.specs.Prelude.{◌≡◌, ℕ, ◌+◌, ◌-◌, ◌*◌, ◌<◌, ◌≤◌, ◌^◌, Bool, IsTrue, List, [], ◌∷◌, Option, Some, None, length, map, min, set, slice_get, unwrap_or}
 use Rattle.std.specs.List.{sum_by}
 use Rattle.fjall_base.specs.Disk as disk
 use Rattle.fjall_base.specs.Disk.{IsFile, Name, Meaning, Took}
@@ -10,12 +10,14 @@ use Rattle.fjall_table.specs.Tables.{Handle, entries_of, handles_of, AreBlocks, 
 use Rattle.fjall_table.specs.TableReading.{blocks_below, blocks_up_to}
 use Rattle.fjall_table_reader.specs.Files.{AllServed, HoldsBlock, HoldsNoBlock, bytes_in, entry_at}
 
--- a table by its name and by what its record and its index say, and the entries of each block that is kept
+-- a table by its name and by what its record and its index say, and the entries of each block that is kept: of the recent
+-- ones, which were used since the last ageing, and of the older ones
 pub record Reader : Type 0 where
   pub name : Name
   pub info : TableInfo
   pub handles : List Handle
-  pub kept : List (Option (List Entry))
+  pub recent : List (Option (List Entry))
+  pub older : List (Option (List Entry))
 
 -- no block of these is kept
 abbrev pub none_kept : List Handle → List (Option (List Entry))
@@ -23,33 +25,52 @@ none_kept handles = map (λ h. None) handles
 
 -- the reader of a table with no block kept
 abbrev pub unread : Name → TableInfo → List Handle → Reader
-unread name info handles = record { name = name; info = info; handles = handles; kept = none_kept handles }
+unread name info handles = record { name = name; info = info; handles = handles; recent = none_kept handles; older = none_kept handles }
 
--- the same with this block kept too
+-- the same with this block among the recent ones
 abbrev pub keeping : ℕ → List Entry → Reader → Reader
-keeping at block t = record { name = t.name; info = t.info; handles = t.handles; kept = set t.kept at (Some block) }
+keeping at block t = record { name = t.name; info = t.info; handles = t.handles; recent = set t.recent at (Some block); older = t.older }
 
--- There is a place for each block, and the index's keys ascend.
+-- the same with what is kept among the older ones at a place among the recent ones
+abbrev pub renewing : ℕ → Reader → Reader
+renewing at t = record { name = t.name; info = t.info; handles = t.handles; recent = set t.recent at (unwrap_or (slice_get t.older at) None); older = set t.older at None }
+
+-- the same with no older block, and those that are recent older
+abbrev pub aged : Reader → Reader
+aged t = record { name = t.name; info = t.info; handles = t.handles; recent = none_kept t.handles; older = t.recent }
+
+-- a block is among the recent ones at that place
+abbrev pub IsRecent : ℕ → Reader → Type 0
+IsRecent at t = (vs : List Entry) × (slice_get t.recent at ≡ Some (Some vs))
+
+-- There are two places for each block, and the index's keys ascend.
 pub record IsReader (t : Reader) : Type 0 where
-  pub count : length t.kept ≡ length t.handles
+  pub recent : length t.recent ≡ length t.handles
+  pub older : length t.older ≡ length t.handles
   pub ascend : Ascend t.handles
 
--- for how many bytes of memory a block counts: those of its text, and 32 for each entry
+-- for how many bytes of memory a block counts: those of its text, and 40 for each entry
 abbrev pub block_size : List Entry → ℕ
-block_size entries = length (block_text entries) + 32 * length entries
+block_size entries = length (block_text entries) + 40 * length entries
 
 -- the same of a place that may keep none
 abbrev pub size_at : Option (List Entry) → ℕ
 size_at None = 0
 size_at (Some entries) = block_size entries
 
+-- for how many bytes a reader's recent blocks count
+abbrev pub recent_size : Reader → ℕ
+recent_size t = sum_by size_at t.recent
+
 -- for how many bytes all blocks count that a reader keeps
 abbrev pub kept_size : Reader → ℕ
-kept_size t = sum_by size_at t.kept
+kept_size t = recent_size t + sum_by size_at t.older
 
--- It is a reader, and this count is of what it keeps: the greatest u64 where that is too small.
-pub record IsCountedReader (kept_bytes : ℕ) (t : Reader) : Type 0 where
+-- It is a reader, and these counts are of its recent blocks and of all that it keeps: the greatest u64 where that is too
+-- small.
+pub record IsCountedReader (recent_bytes kept_bytes : ℕ) (t : Reader) : Type 0 where
   pub reader : IsReader t
+  pub recent : recent_bytes ≡ min (recent_size t) (2 ^ 64 - 1)
   pub bytes : kept_bytes ≡ min (kept_size t) (2 ^ 64 - 1)
 
 -- A table's file some of whose blocks may be wrong: its length, its footer and its index are those of the table that has
@@ -62,12 +83,16 @@ pub record IsTableBut (entry : disk.DiskEntry) (info : TableInfo) (blocks : List
   pub index : HasIndex (bytes_in entry) (handles_of 0 blocks) info.entry_count
   pub right : (at : ℕ) (h : Handle) (block vs : List Entry) → slice_get (handles_of 0 blocks) at ≡ Some h → slice_get blocks at ≡ Some block → HoldsBlock entry vs h → vs ≡ block
 
+-- each block that is kept at a place is the table's block there
+abbrev pub AreOf : List (List Entry) → List (Option (List Entry)) → Type 0
+AreOf blocks kept = (at : ℕ) (vs : List Entry) → slice_get kept at ≡ Some (Some vs) → slice_get blocks at ≡ Some vs
+
 -- On this disk the reader reads the table that has these blocks: its file is that table but for wrong blocks, its index is
 -- the table's, and each block that is kept is the table's.
 pub record ReadsBlocks (disk : Meaning) (t : Reader) (blocks : List (List Entry)) : Type 0 where
   pub table : IsTableBut (entry_at disk t.name) t.info blocks
   pub index : t.handles ≡ handles_of 0 blocks
-  pub kept : (at : ℕ) (vs : List Entry) → slice_get t.kept at ≡ Some (Some vs) → slice_get blocks at ≡ Some vs
+  pub kept : AreOf blocks t.recent × AreOf blocks t.older
 
 -- On this disk the reader reads the table of these entries.
 pub record Reads (disk : Meaning) (t : Reader) (entries : List Entry) : Type 0 where
@@ -127,6 +152,14 @@ SomeTableIsWrongFor key disk tables = (at : ℕ) × (t : Reader) × (slice_get t
 -- for how many bytes all blocks count that the tables' readers keep
 abbrev pub kept_sizes : List Reader → ℕ
 kept_sizes tables = sum_by kept_size tables
+
+-- for how many bytes all recent blocks of the tables' readers count
+abbrev pub recent_sizes : List Reader → ℕ
+recent_sizes tables = sum_by recent_size tables
+
+-- the tables with no older block, and those that are recent older
+abbrev pub all_aged : List Reader → List Reader
+all_aged tables = map aged tables
 
 -- the tables with no block kept
 abbrev pub all_unread : List Reader → List Reader

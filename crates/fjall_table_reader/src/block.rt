@@ -1,21 +1,25 @@
 //! A data block in one buffer, checked and decoded.
 
-ghost use Rattle.std.specs.Prelude.{◌≡◌, ◌-◌, ◌<◌, ◌≤◌, ◌^◌, length, min, slice_get, take, drop, filter, Some, None, IfOk, IfErr, IfSome};
-ghost use Rattle.std.specs.Option.{option_map};
+ghost use Rattle.std.specs.Prelude.{◌≡◌, ◌-◌, ◌<◌, ◌≤◌, ◌^◌, length, min, option_and_then, slice_get, take, drop, filter, Some, None, map, IfOk, IfErr, IfSome, IsOkUnless};
+ghost use Rattle.std.specs.Int.{w128, to_be_bytes};
 ghost use Rattle.std.specs.Range.Bound.{bound_map};
 ghost use Rattle.fjall_base.specs.declared.error.StorageError.TheVariants.{TableDamaged};
 ghost use Rattle.fjall_base.specs.Pairs.{key_range};
 ghost use Rattle.fjall_table.specs.Reading.{DamagedWhere};
 ghost use Rattle.fjall_table.specs.Blocks.{seen, IsOrdered};
+ghost use Rattle.fjall_table.specs.Padded.{padded};
 ghost use Rattle.fjall_table.specs.Tables.{entries_within, versions_at};
 ghost use Rattle.fjall_table.specs.TableReading.{IsBlockFrom, IsNoBlockFrom};
 ghost use Rattle.fjall_table_reader.specs.Ahead.{before_start, stands_ahead, up_to_end};
-ghost use Rattle.fjall_table_reader.specs.Places.{entries_in, ArePlaced};
+ghost use Rattle.fjall_table_reader.specs.Finds.{IsFound, entry_found};
+ghost use Rattle.fjall_table_reader.specs.Places.{entries_in, AreFronts, ArePlaced};
 ghost use Rattle.fjall_table_reader.specs.Readers.{block_size};
 
+use crate::found::Found;
 use crate::place::{EntryPlace, places_of};
-use fjall_base::{KeyBounds, Result};
-use fjall_table::{BlockHandle, TableEntry};
+use bytes::Bytes;
+use fjall_base::{Error, KeyBounds, Result};
+use fjall_table::{BlockHandle, TableEntry, compare_numbers, front_of};
 use std::alloc::Global;
 use std::marker::Model;
 use std::ops::{Bound, Range};
@@ -23,15 +27,17 @@ use std::ops::{Bound, Range};
 /// How many bytes stand before a block's first entry: the length of its payload.
 const LENGTH_LEN: usize = 8;
 
-/// For how many bytes a place of an entry counts.
-const PLACE_BYTES: u64 = 32;
+/// For how many bytes an entry counts beside its text: its place, and its key's front.
+const ENTRY_BYTES: u64 = 40;
 
 /// A data block that was checked and decoded, in one buffer: reading an entry checks nothing again. Contracts see it as
 /// its entries.
 #[derive(Drop)]
 pub struct Block {
-    text: Vec<u8>,
+    text: Bytes,
     places: Vec<EntryPlace>,
+    /// The fronts of the entries' keys, by which a search passes most entries without a look at the text.
+    fronts: Vec<u128>,
 }
 
 impl Model for Block {
@@ -41,9 +47,9 @@ impl Model for Block {
 
     ghost Value = { List Entry };
 
-    ghost view = { λ b. entries_in b.text.items b.places.items };
+    ghost view = { λ b. entries_in b.text b.places.items };
 
-    ghost invariant = { λ b. ArePlaced b.text.items b.places.items };
+    ghost invariant = { λ b. ArePlaced b.text b.places.items b.fronts.items };
 }
 
 /// A version of a key, to be compared with others.
@@ -75,10 +81,12 @@ impl Block {
         ensures block { IfOk result (IsBlockFrom handle.now.first_key.now framed.items) }
         ensures damaged { IfErr result (DamagedWhere TableDamaged (IsNoBlockFrom handle.now.first_key.now framed.items)) }
     {
-        let places = read_places(alloc, handle, &framed)?;
+        let (places, fronts) = read_places(alloc, handle, &framed)?;
+        let text = Bytes::from_vec(framed)?;
         Ok(Block {
-            text: framed,
+            text,
             places,
+            fronts,
         })
     }
 
@@ -91,13 +99,13 @@ impl Block {
         self.places.len()
     }
 
-    /// For how many bytes of memory it counts: those of its text, and 32 for each entry; the greatest u64 where that is too
+    /// For how many bytes of memory it counts: those of its text, and 40 for each entry; the greatest u64 where that is too
     /// small.
     pub fn size(&self) -> u64
         ensures { result ≡ min (block_size self.now) (2 ^ 64 - 1) }
     {
         (self.places.len() as u64)
-            .saturating_mul(PLACE_BYTES)
+            .saturating_mul(ENTRY_BYTES)
             .saturating_add(self.text.len() as u64)
     }
 
@@ -114,19 +122,46 @@ impl Block {
         }
     }
 
-    /// The newest version of a key that is numbered below an instant, by binary search; None where no version is.
-    pub fn newest(&self, key: &[u8], instant: u64) -> Option<TableEntry<'_>>
-        ensures { option_map seen result ≡ slice_get (versions_at key.now instant self.now) 0 }
+    /// An entry without its key. Its value is a part of the block's text, and keeps it. It is refused for want of memory
+    /// alone.
+    pub fn found(&self, at: usize) -> Result<Found>
+        requires { at < length self.now }
+        ensures found { IfOk result (λ f. IfSome (slice_get self.now at) (λ e. entry_found e.key f ≡ e)) }
+        ensures only { IsOkUnless result Error.OutOfMemory }
+    {
+        let place = &self.places[at];
+        let value = place.shared_value(&self.text)?;
+        Ok(Found {
+            number: place.number,
+            value,
+        })
+    }
+
+    /// Where the newest version of a key stands that is numbered below an instant, by binary search; None where no version
+    /// is.
+    pub fn newest(&self, key: &[u8], instant: u64) -> Option<usize>
+        ensures version { slice_get (versions_at key.now instant self.now) 0 ≡ option_and_then (slice_get self.now) result }
+        ensures within { IfSome result (λ at. at < length self.now) }
     {
         let at = self.count_ahead(key, Some(instant));
         if at >= self.len() {
             return None;
         }
-        let entry = self.entry(at);
-        if entry.key != key {
+        if self.entry(at).key != key {
             return None;
         }
-        Some(entry)
+        Some(at)
+    }
+
+    /// That version, as `found` gives it.
+    pub(crate) fn find(&self, key: &[u8], instant: u64) -> Result<Option<Found>>
+        ensures found { IfOk result (λ f. IsFound key.now f (slice_get (versions_at key.now instant self.now) 0)) }
+        ensures only { IsOkUnless result Error.OutOfMemory }
+    {
+        let Some(at) = self.newest(key, instant) else {
+            return Ok(None);
+        };
+        Ok(Some(self.found(at)?))
     }
 
     /// The numbers of the entries whose keys lie between the bounds, by two binary searches; reversed bounds have none
@@ -164,12 +199,17 @@ impl Block {
         }
     }
 
-    /// Whether an entry stands before all those of a key that are numbered below an instant; with no instant, before all
-    /// of the key.
-    fn is_ahead(&self, at: usize, key: &[u8], instant: Option<u64>) -> bool
-        requires { at < length self.now }
+    /// Whether an entry stands before all those of a key with this front that are numbered below an instant; with no instant,
+    /// before all of the key.
+    fn is_ahead(&self, at: usize, front: u128, key: &[u8], instant: Option<u64>) -> bool
+        requires within { at < length self.now }
+        requires front { to_be_bytes w128 front ≡ padded 16 key.now }
         ensures { IfSome (slice_get self.now at) (λ e. result ≡ stands_ahead key.now instant e) }
     {
+        let order = compare_numbers(self.fronts[at], front);
+        if order.is_ne() {
+            return order.is_lt();
+        }
         stands_ahead(&self.entry(at), key, instant)
     }
 
@@ -178,11 +218,12 @@ impl Block {
         ensures count { result ≡ length (filter (stands_ahead key.now instant) self.now) }
         ensures ordered { IsOrdered self.now }
     {
+        let front = front_of(key);
         let mut low = 0;
         let mut high = self.len();
         while low < high {
             let middle = low + (high - low) / 2;
-            if self.is_ahead(middle, key, instant) {
+            if self.is_ahead(middle, front, key, instant) {
                 low = middle + 1;
             } else {
                 high = middle;
@@ -192,12 +233,30 @@ impl Block {
     }
 }
 
-/// Where the entries of a block stand in its bytes.
-fn read_places(alloc: Global, handle: &BlockHandle<'_>, framed: &[u8]) -> Result<Vec<EntryPlace>>
-    ensures block { IfOk result (λ ps. IsBlockFrom handle.now.first_key.now framed.now (entries_in framed.now ps.items)) }
-    ensures placed { IfOk result (λ ps. ArePlaced framed.now ps.items) }
+/// The fronts of the keys of entries.
+fn fronts_of(alloc: Global, entries: &[TableEntry<'_>]) -> Result<Vec<u128>>
+    ensures fronts { IfOk result (λ fronts. AreFronts fronts.items (map seen entries.now)) }
+    ensures only { IsOkUnless result Error.OutOfMemory }
+{
+    let mut fronts = Vec::with_capacity(alloc, entries.len())?;
+    for entry in entries {
+        fronts.push(front_of(entry.key))?;
+    }
+    Ok(fronts)
+}
+
+/// Where the entries of a block stand in its bytes, and the fronts of their keys.
+fn read_places(
+    alloc: Global,
+    handle: &BlockHandle<'_>,
+    framed: &[u8],
+) -> Result<(Vec<EntryPlace>, Vec<u128>)>
+    ensures block { IfOk result (λ found. IsBlockFrom handle.now.first_key.now framed.now (entries_in framed.now found.0.items)) }
+    ensures placed { IfOk result (λ found. ArePlaced framed.now found.0.items found.1.items) }
     ensures damaged { IfErr result (DamagedWhere TableDamaged (IsNoBlockFrom handle.now.first_key.now framed.now)) }
 {
     let entries = handle.read(alloc, framed)?;
-    places_of(alloc, LENGTH_LEN, &entries)
+    let fronts = fronts_of(alloc, &entries)?;
+    let places = places_of(alloc, LENGTH_LEN, &entries)?;
+    Ok((places, fronts))
 }

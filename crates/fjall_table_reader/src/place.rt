@@ -6,7 +6,8 @@ ghost use Rattle.std.specs.Option.{option_map};
 ghost use Rattle.fjall_table.specs.Blocks.{seen, payload_of, IsEntry};
 ghost use Rattle.fjall_table_reader.specs.Places.{places_from};
 
-use fjall_base::{Error, Result};
+use bytes::Bytes;
+use fjall_base::{Error, Result, Slice, UserValue};
 use fjall_table::TableEntry;
 use std::alloc::Global;
 
@@ -71,6 +72,20 @@ impl EntryPlace {
         }
         let start = self.at + self.key_len as usize;
         Some(&text[start..start + self.value_len as usize])
+    }
+
+    /// The same as a part of the text that keeps it: nothing is copied. It is refused for want of memory alone.
+    pub(crate) fn shared_value(&self, text: &Bytes) -> Result<Option<UserValue>>
+        requires { end_of self.now ≤ length text.now }
+        ensures value { IfOk result (λ v. v ≡ value_at text.now self.now) }
+        ensures only { IsOkUnless result Error.OutOfMemory }
+    {
+        let Some(value) = self.value_in(text.as_slice()) else {
+            return Ok(None);
+        };
+        let start = self.at + self.key_len as usize;
+        let value = text.slice(start..start + value.len())?;
+        Ok(Some(Slice::from(value)))
     }
 }
 

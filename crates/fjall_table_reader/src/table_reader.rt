@@ -1,6 +1,7 @@
 //! An opened table with the blocks of it that are kept in memory.
 
-ghost use Rattle.std.specs.Prelude.{◌≡◌, ◌-◌, ◌<◌, ◌≤◌, ◌^◌, ⊤, List, min, length, slice_get, take, drop, replicate, Some, None, IfOk, IfErr, IfSome, IsOkUnless, IsTrue};
+ghost use Rattle.std.specs.Prelude.{◌≡◌, ◌-◌, ◌<◌, ◌≤◌, ◌^◌, ⊤, List, min, length, slice_get, take, drop, replicate, Some, None, IfOk, IfErr, IfSome, IsFalse, IsOkUnless, IsTrue, OnOk};
+ghost use Rattle.std.specs.Option.{option_map};
 ghost use Rattle.std.specs.Range.Bound.{bound_map};
 ghost use Rattle.fjall_base.specs.Disk.{Meaning};
 ghost use Rattle.fjall_base.specs.Pairs.{key_range};
@@ -8,7 +9,7 @@ ghost use Rattle.fjall_table.specs.Blocks.{Entry};
 ghost use Rattle.fjall_table.specs.Tables.{AreBlocks, Ascend, entries_of, entries_within, handles_of, versions_at};
 ghost use Rattle.fjall_table_reader.specs.Files.{HoldsNoBlock, HoldsTable, IsRefused, IsTableOf, bytes_in, entry_at, file_of, handles_in, name_of};
 ghost use Rattle.fjall_table_reader.specs.Finds.{IsFound};
-ghost use Rattle.fjall_table_reader.specs.Readers.{HoldsAWrongBlockFor, IsSameTable, LooksOn, Reads, ReadsBlocks, keeping, kept_size, unread};
+ghost use Rattle.fjall_table_reader.specs.Readers.{HoldsAWrongBlockFor, IsRecent, IsSameTable, LooksOn, Reads, ReadsBlocks, aged, keeping, kept_size, recent_size, renewing, size_at, unread};
 ghost use Rattle.fjall_table_reader.specs.Spans.{first_block, last_block};
 
 use crate::block::Block;
@@ -19,14 +20,21 @@ use fjall_base::{Disk, Error, KeyBounds, Result};
 use fjall_table::TableInfo;
 use std::alloc::Global;
 use std::marker::Model;
+use std::mem;
 use std::ops::{Bound, Range};
 use std::sync::Arc;
 
-/// An opened table. A block that was read is kept until `drop_blocks`, and isn't read again.
+/// A place for each block of a table, where it may be kept.
+type Blocks = Vec<Option<Arc<Block, Global>>>;
+
+/// An opened table. A block that was read is kept, and isn't read again: among the recent ones until `let_older_go`, then
+/// among the older ones until the next. One that is used again meanwhile is recent again.
 #[derive(Drop)]
 pub struct TableReader {
     file: TableFile,
-    blocks: Vec<Option<Arc<Block, Global>>>,
+    recent: Blocks,
+    older: Blocks,
+    recent_bytes: u64,
     kept_bytes: u64,
 }
 
@@ -38,13 +46,13 @@ impl Model for TableReader {
 
     ghost Value = { Reader };
 
-    ghost view = { λ t. record { name = name_of t.file; info = t.file.info; handles = handles_in t.file; kept = map (option_map (λ b. b.value)) t.blocks.items } };
+    ghost view = { λ t. record { name = name_of t.file; info = t.file.info; handles = handles_in t.file; recent = map (option_map (λ b. b.value)) t.recent.items; older = map (option_map (λ b. b.value)) t.older.items } };
 
-    ghost invariant = { λ t. IsCountedReader t.kept_bytes (record { name = name_of t.file; info = t.file.info; handles = handles_in t.file; kept = map (option_map (λ b. b.value)) t.blocks.items }) };
+    ghost invariant = { λ t. IsCountedReader t.recent_bytes t.kept_bytes (record { name = name_of t.file; info = t.file.info; handles = handles_in t.file; recent = map (option_map (λ b. b.value)) t.recent.items; older = map (option_map (λ b. b.value)) t.older.items }) };
 }
 
 /// A place for each block, none of which is kept.
-fn no_blocks(alloc: Global, count: usize) -> Result<Vec<Option<Arc<Block, Global>>>>
+fn no_blocks(alloc: Global, count: usize) -> Result<Blocks>
     ensures none { IfOk result (λ blocks. blocks.items ≡ replicate count None) }
     ensures only { IsOkUnless result Error.OutOfMemory }
 {
@@ -56,11 +64,21 @@ fn no_blocks(alloc: Global, count: usize) -> Result<Vec<Option<Arc<Block, Global
 }
 
 /// Keeps none of these.
-fn clear(blocks: &mut Vec<Option<Arc<Block, Global>>>)
+fn clear(blocks: &mut Blocks)
     ensures { blocks.new.items ≡ replicate (length blocks.old.items) None }
 {
     for at in 0..blocks.len() {
         blocks[at] = None;
+    }
+}
+
+/// For how many bytes of memory a place counts, which may keep no block.
+fn size_at(place: &Option<Arc<Block, Global>>) -> u64
+    ensures { result ≡ min (size_at (option_map (λ b. b.value) place.now)) (2 ^ 64 - 1) }
+{
+    match place {
+        Some(block) => block.size(),
+        None => 0,
     }
 }
 
@@ -72,10 +90,13 @@ impl TableReader {
         ensures reads { (disk : Meaning) (entries : List Entry) → HoldsTable (file_of disk file) file.info (handles_in file) → IsTableOf file.info (bytes_in (file_of disk file)) entries
             → IfOk result (λ t. Reads disk t entries) }
     {
-        let blocks = no_blocks(alloc, file.block_count())?;
+        let recent = no_blocks(alloc, file.block_count())?;
+        let older = no_blocks(alloc, file.block_count())?;
         Ok(TableReader {
             file,
-            blocks,
+            recent,
+            older,
+            recent_bytes: 0,
             kept_bytes: 0,
         })
     }
@@ -91,7 +112,7 @@ impl TableReader {
     pub fn block_count(&self) -> usize
         ensures { result ≡ length self.now.handles }
     {
-        self.blocks.len()
+        self.recent.len()
     }
 
     /// For how many bytes of memory the kept blocks count, each as `Block::size`; the greatest u64 where that is too small.
@@ -101,12 +122,31 @@ impl TableReader {
         self.kept_bytes
     }
 
+    /// The same of those that were used since `let_older_go`.
+    pub fn recent_bytes(&self) -> u64
+        ensures { result ≡ min (recent_size self.now) (2 ^ 64 - 1) }
+    {
+        self.recent_bytes
+    }
+
     /// Keeps no block any longer.
     pub fn drop_blocks(&mut self)
         ensures { self.new ≡ unread self.old.name self.old.info self.old.handles }
     {
-        clear(&mut self.blocks);
+        clear(&mut self.recent);
+        clear(&mut self.older);
+        self.recent_bytes = 0;
         self.kept_bytes = 0;
+    }
+
+    /// Keeps no older block any longer; the recent ones are the older ones from now on.
+    pub fn let_older_go(&mut self)
+        ensures { self.new ≡ aged self.old }
+    {
+        mem::swap(&mut self.recent, &mut self.older);
+        clear(&mut self.recent);
+        self.kept_bytes = self.recent_bytes;
+        self.recent_bytes = 0;
     }
 
     /// A block, counted from 0 on. One that is kept is answered without a call of the disk; another is read, checked,
@@ -127,21 +167,88 @@ impl TableReader {
         ensures disk { LooksOn D.honest (D.meaning disk.old) (D.meaning disk.new) }
         ensures listed { IfErr result (IsRefused ⊤ (D.meaning disk.old).faults (D.meaning disk.new).faults) }
     {
-        if let Some(block) = &self.blocks[at] {
-            return Ok(Arc::try_clone(block)?);
-        }
-        let block = Arc::new(alloc, read_block(&self.file, alloc, disk, at)?)?;
-        self.keep(at, Arc::try_clone(&block)?);
-        Ok(block)
+        self.load(alloc, disk, at)?;
+        Ok(Arc::try_clone(self.recent_block(at))?)
     }
 
-    /// Keeps a block, where none is kept yet.
+    /// Puts a block among the recent ones: an older one, or one that it reads where none is kept.
+    fn load<D: Disk>(&mut self, alloc: Global, disk: &mut D, at: usize) -> Result<()>
+        requires { at < length self.old.handles }
+        ensures recent { OnOk result (IsRecent at self.new) }
+        ensures reads { IsTrue D.honest → (blocks : List (List Entry)) → ReadsBlocks (D.meaning disk.old) self.old blocks → ReadsBlocks (D.meaning disk.new) self.new blocks }
+        ensures refused { IsTrue D.honest → (blocks : List (List Entry)) → ReadsBlocks (D.meaning disk.old) self.old blocks
+            → IfErr result (IsRefused (IfSome (slice_get self.old.handles at) (HoldsNoBlock (entry_at (D.meaning disk.old) self.old.name)))
+            (D.meaning disk.old).faults (D.meaning disk.new).faults) }
+        ensures table { IsSameTable self.old self.new }
+        ensures disk { LooksOn D.honest (D.meaning disk.old) (D.meaning disk.new) }
+        ensures listed { IfErr result (IsRefused ⊤ (D.meaning disk.old).faults (D.meaning disk.new).faults) }
+    {
+        if self.is_recent(at) {
+            return Ok(());
+        }
+        self.renew(at);
+        if self.is_recent(at) {
+            return Ok(());
+        }
+        self.read(alloc, disk, at)
+    }
+
+    /// Reads a block of which none is recent, and keeps it.
+    fn read<D: Disk>(&mut self, alloc: Global, disk: &mut D, at: usize) -> Result<()>
+        requires { slice_get self.old.recent at ≡ Some None }
+        ensures recent { OnOk result (IsRecent at self.new) }
+        ensures reads { IsTrue D.honest → (blocks : List (List Entry)) → ReadsBlocks (D.meaning disk.old) self.old blocks → ReadsBlocks (D.meaning disk.new) self.new blocks }
+        ensures refused { IsTrue D.honest → (blocks : List (List Entry)) → ReadsBlocks (D.meaning disk.old) self.old blocks
+            → IfErr result (IsRefused (IfSome (slice_get self.old.handles at) (HoldsNoBlock (entry_at (D.meaning disk.old) self.old.name)))
+            (D.meaning disk.old).faults (D.meaning disk.new).faults) }
+        ensures table { IsSameTable self.old self.new }
+        ensures disk { LooksOn D.honest (D.meaning disk.old) (D.meaning disk.new) }
+        ensures listed { IfErr result (IsRefused ⊤ (D.meaning disk.old).faults (D.meaning disk.new).faults) }
+    {
+        let block = Arc::new(alloc, read_block(&self.file, alloc, disk, at)?)?;
+        self.keep(at, block);
+        Ok(())
+    }
+
+    /// Whether a block is among the recent ones.
+    fn is_recent(&self, at: usize) -> bool
+        requires { at < length self.now.handles }
+        ensures recent { IsTrue result → IsRecent at self.now }
+        ensures none { IsFalse result → slice_get self.now.recent at ≡ Some None }
+    {
+        self.recent[at].is_some()
+    }
+
+    /// A recent block.
+    fn recent_block(&self, at: usize) -> &Arc<Block, Global>
+        requires { IsRecent at self.now }
+        ensures { slice_get self.now.recent at ≡ Some (Some result.now.value) }
+    {
+        let Some(block) = &self.recent[at] else {
+            unreachable!()
+        };
+        block
+    }
+
+    /// Puts an older block among the recent ones, where it isn't yet; without an older one it changes nothing.
+    fn renew(&mut self, at: usize)
+        requires { slice_get self.old.recent at ≡ Some None }
+        ensures { self.new ≡ renewing at self.old }
+    {
+        let block = self.older[at].take();
+        self.recent_bytes = self.recent_bytes.saturating_add(size_at(&block));
+        self.recent[at] = block;
+    }
+
+    /// Keeps a block among the recent ones, where none is yet.
     fn keep(&mut self, at: usize, block: Arc<Block, Global>)
-        requires { slice_get self.old.kept at ≡ Some None }
+        requires { slice_get self.old.recent at ≡ Some None }
         ensures { self.new ≡ keeping at block.value self.old }
     {
-        self.kept_bytes = self.kept_bytes.saturating_add(block.size());
-        self.blocks[at] = Some(block);
+        let size = block.size();
+        self.recent_bytes = self.recent_bytes.saturating_add(size);
+        self.kept_bytes = self.kept_bytes.saturating_add(size);
+        self.recent[at] = Some(block);
     }
 
     /// The numbers of the blocks that may hold keys between the bounds.
@@ -176,8 +283,8 @@ impl TableReader {
         }
     }
 
-    /// The newest version of a key that is numbered below an instant, with a copy of its value; None where no version is.
-    /// Of the blocks that may hold the key, it looks at the first, and at the next ones until it is found. One of these
+    /// The newest version of a key that is numbered below an instant; None where no version is. Its value is a part of its
+    /// block's text. Of the blocks that may hold the key, it looks at the first, and at the next ones until it is found. One of these
     /// that is damaged is `Storage(TableDamaged)`.
     pub fn find<D: Disk>(
         &mut self,
@@ -197,9 +304,9 @@ impl TableReader {
     {
         let span = self.file.span(key);
         for at in span.start..span.end {
-            let block = self.block(alloc, disk, at)?;
-            if let Some(entry) = block.newest(key, instant) {
-                return Ok(Some(Found::new(alloc, &entry)?));
+            self.load(alloc, disk, at)?;
+            if let Some(found) = self.recent_block(at).find(key, instant)? {
+                return Ok(Some(found));
             }
         }
         Ok(None)

@@ -9,7 +9,7 @@ use Rattle.fjall_table.specs.declared.level.Level.TheVariants.{L0, L1}
 use Rattle.fjall_table.specs.Blocks.{Entry}
 use Rattle.fjall_views.specs.Jobs.{AreBelow, OnceEach}
 use Rattle.fjall_memtable.specs.Sorted.{flat}
-use Rattle.fjall_table_reader.specs.Readers.{AreRead, AreSameTables, Reader, all_unread}
+use Rattle.fjall_table_reader.specs.Readers.{AreRead, AreSameTables, Reader, all_aged, all_unread}
 use Rattle.fjall_memtable.specs.Parts.{Ascends, HeldPart, Memory, clears_in, parts_of, rotated, versions_in, with_active, with_clear, with_version}
 
 -- A flush that is out: its number, its watermark, and how many sealed parts it was begun with, the oldest ones.
@@ -76,6 +76,10 @@ sealed_off shape = with_memory (rotated shape.memory) shape
 -- the shape with no block kept
 abbrev pub unread_shape : Shape → Shape
 unread_shape shape = record shape { tables = all_unread shape.tables }
+
+-- the shape with no older block kept, and those that are recent older
+abbrev pub aged_shape : Shape → Shape
+aged_shape shape = record shape { tables = all_aged shape.tables }
 
 -- what is left of the value that a version gave, where all that is numbered below a bound is cleared
 abbrev pub value_from : ℕ → Option Entry → Option (List ℕ)

@@ -7,14 +7,17 @@ ghost use Rattle.fjall_table.specs.Blocks.{Entry};
 ghost use Rattle.fjall_table_reader.specs.Files.{IsRefused};
 ghost use Rattle.fjall_views.specs.Views.{newest, value_at};
 ghost use Rattle.fjall_memtable.specs.SortedPages.{barrier};
-ghost use Rattle.fjall_table_reader.specs.Readers.{LooksOn, SomeTableIsWrongFor, kept_sizes};
+ghost use Rattle.fjall_table_reader.specs.Readers.{LooksOn, SomeTableIsWrongFor, kept_sizes, recent_sizes};
 ghost use Rattle.fjall_memtable.specs.Entries.{size_of, version, IsAbsent};
 ghost use Rattle.fjall_memtable.specs.Parts.{AreApart, Ascends, IsHeld, empty_from, holds_nothing, parts_of, versions_in};
 ghost use Rattle.fjall_memtable.specs.Memories.{memory_of};
 ghost use Rattle.fjall_tree.specs.Out.{IsFlushOf, IsMergeOf};
-ghost use Rattle.fjall_tree.specs.Trees.{IsSameShape, IsShape, ReadsAll, clears_of, emptied, is_l0, sealed_off, shape_prop, unread_shape, versions_of, written};
+ghost use Rattle.fjall_tree.specs.Trees.{IsSameShape, IsShape, ReadsAll, aged_shape, clears_of, emptied, is_l0, sealed_off, shape_prop, unread_shape, versions_of, written};
 
-use crate::counts::{bytes_kept, bytes_on_disk, count_of_l0, drop_all_blocks, entries_in};
+use crate::counts::{
+    bytes_kept, bytes_on_disk, bytes_recent, count_of_l0, drop_all_blocks, entries_in,
+    let_all_older_go,
+};
 use crate::out::{FlushOut, MergeOut};
 use crate::search::{greatest_below, newest_in, value_found, value_of};
 use fjall_base::{Disk, Error, UserValue};
@@ -235,6 +238,21 @@ impl Tree {
         ensures { result ≡ min (kept_sizes (shape_of self.now).tables) (2 ^ 64 - 1) }
     {
         bytes_kept(self.tables.as_slice())
+    }
+
+    /// The same of those that were used since `let_older_go`.
+    pub fn recent_bytes(&self) -> u64
+        ensures { result ≡ min (recent_sizes (shape_of self.now).tables) (2 ^ 64 - 1) }
+    {
+        bytes_recent(self.tables.as_slice())
+    }
+
+    /// Keeps no older block of any table any longer; the recent ones are the older ones from now on.
+    pub fn let_older_go(&mut self)
+        ensures shape { shape_of self.new ≡ aged_shape (shape_of self.old) }
+        ensures reads { (disk : Meaning) (entries : List (List Entry)) → ReadsAll disk (shape_of self.old) entries → ReadsAll disk (shape_of self.new) entries }
+    {
+        let_all_older_go(self.tables.as_mut_slice());
     }
 
     /// Keeps no block of any table any longer.

@@ -1,5 +1,6 @@
 //! Worked rows of the format, and calls of each public function.
 
+use bytes::Bytes;
 use fjall_base::{CompressionType, Disk, Error, JournalRecoveryError, Result, Slice};
 use fjall_journal::{
     Batch, BatchItem, Entry, JOURNAL_BUFFER_BYTES, JournalBatchReader, Op, PersistMode,
@@ -310,6 +311,7 @@ type AllTold = (Told, usize, Told, Told, usize, Tail);
 fn told(alloc: Global, behind: &[u8]) -> Result<AllTold> {
     let mut text = Vec::from_slice(alloc, ONE)?;
     text.extend_from_slice(behind)?;
+    let text = Bytes::from_vec(text)?;
     let mut reader = JournalBatchReader::new(alloc, &text);
     let first = next_number(&mut reader);
     let first_end = reader.end();

@@ -14,6 +14,7 @@ loop-preserved c = record {
   so_far = rw (c.in_ok-put_change.ensures.items, c.in_ok-put_change.ensures.clears)
       (goes_on (c.loop.items.items, c.loop.clears.items) c.args.count c.loop.counter c.loop.rest.now c.in_ok-change.change c.in_ok-change.after.now (changes_at c.args.count c.args.bytes.now) c.loop-test.true c.in_ok-change.ensures.gives c.loop.invariant.so_far);
   shorter = omega (arith, c.in_ok-change.ensures.shorter, c.loop.invariant.shorter);
+  left = c.in_ok-change.ensures.rest;
 }
 
 pub returns-clause-gives : goal.returns-clause-gives

@@ -1,6 +1,6 @@
 use Rattle.std.proofs.Common.{List, get_or, set, ap, ◌∙◌}
-use Rattle.fjall_table_reader.specs.Readers.{Reader}
-use Rattle.fjall_table_reader.proofs.Several.{unread_all, unread_more}
+use Rattle.fjall_table_reader.specs.Readers.{Reader, unread}
+use Rattle.fjall_table_reader.proofs.Several.{changed_all, changed_more}
 use Rattle.fjall_tree.proofs.counts.drop_all_blocks.Goals as goal
 
 pub loop-at-preserved : goal.loop-at-preserved
@@ -8,7 +8,7 @@ loop-at-preserved c =
     let at = c.loop-at.at in
     let d = c.index-tables-at.result in
     ap (λ (ts : List Reader). set ts at c.drop_blocks.new.self) c.loop-at.invariant
-    ∙ unread_more at c.args.tables.now (get_or c.loop-at.tables at d) c.drop_blocks.new.self d c.loop-at-test.true (ap (λ (ts : List Reader). get_or ts at d) c.loop-at.invariant) c.drop_blocks.ensures
+    ∙ changed_more (λ (t : Reader). unread t.name t.info t.handles) at c.args.tables.now (get_or c.loop-at.tables at d) c.drop_blocks.new.self d c.loop-at-test.true (ap (λ (ts : List Reader). get_or ts at d) c.loop-at.invariant) c.drop_blocks.ensures
 
 pub returns : goal.returns
-returns c = c.loop-at.invariant ∙ unread_all c.loop-at.at c.args.tables.now c.loop-at-test.false
+returns c = c.loop-at.invariant ∙ changed_all (λ (t : Reader). unread t.name t.info t.handles) c.loop-at.at c.args.tables.now c.loop-at-test.false

@@ -1,7 +1,7 @@
 use Rattle.std.proofs.Common.{List, map, subst, sym}
 use Rattle.fjall_table.specs.Owned.{owned_handle}
 use Rattle.fjall_table.specs.Tables.{Ascend}
-use Rattle.fjall_table.specs.declared.owned_index.OwnedHandle.{OwnedHandle}
+use Rattle.fjall_table.specs.declared.owned_handle.OwnedHandle.{OwnedHandle}
 use Rattle.fjall_table.proofs.Indexes.{is_index}
 use Rattle.fjall_table_reader.proofs.table_file.TableFile.span.Goals as goal
 

@@ -1,9 +1,10 @@
 use Rattle.std.proofs.Common.{◌∙◌, ◌<◌, arith, length, refl}
 use Rattle.std.proofs.lemmas.List.{length-map, length-set}
 use Rattle.std.proofs.lemmas.Option.{slice_get_read}
+use Rattle.fjall_tree.specs.Trees.{unread_shape}
 use Rattle.fjall_trees.specs.Lists.{planted}
 use Rattle.fjall_trees.specs.Views.{forest_of}
-use Rattle.fjall_trees.proofs.Bounded.{unread_all, unread_more}
+use Rattle.fjall_trees.proofs.Bounded.{changed_all, changed_more}
 use Rattle.fjall_trees.proofs.Places.{set_forest}
 use Rattle.fjall_trees.proofs.trees.Trees.drop_blocks.Goals as goal
 
@@ -23,7 +24,7 @@ loop-place-preserved c =
     let lt : n < length t.trees.items = omega (arith, c.loop-place-test.true, c.len-place-end.ensures, c.loop-place.invariant.count, c.args.self.now.trees.ok.0) in
     let here = slice_get_read t.trees.items (length t.trees.items) n k refl lt c.index_mut.ensures.value in
     record {
-      unread = unread_more (forest_of c.args.self.now) t.trees.items n k c.drop_blocks.new.self c.loop-place.invariant.unread here c.drop_blocks.ensures.shape;
+      changed = changed_more unread_shape (forest_of c.args.self.now) t.trees.items n k c.drop_blocks.new.self c.loop-place.invariant.changed here c.drop_blocks.ensures.shape;
       count = length-set t.trees.items n (record { id = k.id; tree = c.drop_blocks.new.self }) ∙ c.loop-place.invariant.count;
       bound = c.loop-place.invariant.bound;
     }
@@ -31,5 +32,5 @@ loop-place-preserved c =
 pub returns-clause-trees : goal.returns-clause-trees
 returns-clause-trees c =
     let ks = c.args.self.now.trees.items in
-    c.loop-place.invariant.unread
-    ∙ unread_all c.loop-place.place (forest_of c.args.self.now) (omega (arith, c.loop-place-test.false, c.len-place-end.ensures, c.args.self.now.trees.ok.0, length-map ks planted))
+    c.loop-place.invariant.changed
+    ∙ changed_all unread_shape c.loop-place.place (forest_of c.args.self.now) (omega (arith, c.loop-place-test.false, c.len-place-end.ensures, c.args.self.now.trees.ok.0, length-map ks planted))
