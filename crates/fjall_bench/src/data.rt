@@ -55,8 +55,8 @@ pub fn at_random(alloc: Global, count: u64, seed: u128) -> Result<Vec<u64>, Allo
     Ok(numbers)
 }
 
-// The record of a number, which begins with it.
-fn record_of(number: u64) -> [u8; RECORD_LEN] {
+/// The record of a number, which begins with it.
+pub fn record_of(number: u64) -> [u8; RECORD_LEN] {
     let mut record = [0x76; RECORD_LEN];
     record[..8].copy_from_slice(&number.to_be_bytes());
     record

@@ -7,6 +7,7 @@ mod clock;
 mod data;
 mod database;
 mod indexed;
+mod limits;
 mod reads;
 mod report;
 mod rows;

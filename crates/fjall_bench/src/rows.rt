@@ -45,6 +45,10 @@ pub enum Action {
     Reopen,
     /// The digest of a record of each number is taken, beside the database.
     Digest,
+    /// A record of each number is appended to a file of the closed database's disk.
+    Append,
+    /// Each number's pair is inserted into a memtable, beside the database.
+    FillMemtable,
 }
 
 /// Which numbers a workload has, and in which order.
@@ -129,8 +133,21 @@ const BATCHES: [Workload; 1] = [Workload(
 
 const SYNCED: [Workload; 1] = [Workload("one sync a write", Action::InsertSynced, Choice::Synced)];
 
-// What the machine can do at best.
-const LIMITS: [Workload; 1] = [Workload("digest 150 bytes", Action::Digest, Choice::Ordered)];
+// What the machine can do at best: an insert takes a digest, an append and an insertion into a memtable.
+const LIMITS: [Workload; 4] = [
+    Workload("digest 150 bytes", Action::Digest, Choice::Ordered),
+    Workload("append 150 bytes", Action::Append, Choice::Ordered),
+    Workload(
+        "fill a memtable in order",
+        Action::FillMemtable,
+        Choice::Ordered,
+    ),
+    Workload(
+        "fill a memtable at random",
+        Action::FillMemtable,
+        Choice::Shuffled,
+    ),
+];
 
 const FILL: [Workload; 1] = [Workload("fill at random", Action::Insert, Choice::Shuffled)];
 

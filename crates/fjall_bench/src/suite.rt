@@ -3,6 +3,7 @@
 use crate::clock::{Spent, Stopwatch};
 use crate::data::count_digests;
 use crate::database::{closed, flush, merge, opened};
+use crate::limits::{append_each, fill_memtable};
 use crate::reads::{count_hits, count_misses, count_ranges, scan};
 use crate::report::{HEAD, Row};
 use crate::rows::{Action, GROUPS, Group, Workload};
@@ -110,8 +111,8 @@ fn run_workload<D: Disk + Drop>(
     let count = numbers.len() as u64;
     let mut core = core;
     let mut done = count;
-    if matches!(action, Action::Close | Action::Reopen) {
-        core = restart(rt, alloc, core, workload, count)?;
+    if matches!(action, Action::Close | Action::Reopen | Action::Append) {
+        core = restart(rt, alloc, core, workload, numbers)?;
     } else {
         let watch = Stopwatch::start(rt)?;
         done = serve(alloc, &mut core, id, action, numbers)?;
@@ -124,24 +125,30 @@ fn run_workload<D: Disk + Drop>(
     Ok(core)
 }
 
-// Closes a database and opens it again, one of which is measured.
+// Closes a database, goes on with its disk, and opens it again, one of which is measured.
 fn restart<D: Disk + Drop>(
     rt: &HostRuntime,
     alloc: Global,
     core: Box<Engine<D>>,
     workload: &Workload,
-    count: u64,
+    numbers: &[u64],
 ) -> Result<Box<Engine<D>>> {
     let watch = Stopwatch::start(rt)?;
-    let disk = closed(core)?;
+    let mut disk = closed(core)?;
     let closing = watch.spent(rt)?;
+    let watch = Stopwatch::start(rt)?;
+    if let Action::Append = workload.1 {
+        append_each(&mut disk, numbers)?;
+    }
+    let appending = watch.spent(rt)?;
     let watch = Stopwatch::start(rt)?;
     let core = opened(alloc, disk)?;
     let spent = match workload.1 {
         Action::Close => closing,
+        Action::Append => appending,
         _ => watch.spent(rt)?,
     };
-    tell(rt, workload, count, spent)?;
+    tell(rt, workload, numbers.len() as u64, spent)?;
     Ok(core)
 }
 
@@ -160,6 +167,7 @@ fn serve<D: Disk>(
         Action::ScanBack => return scan(core, id, true),
         Action::ReadRanges => return count_ranges(alloc, core, id, numbers),
         Action::Digest => return Ok(count_digests(numbers)),
+        Action::FillMemtable => return fill_memtable(alloc, numbers),
         Action::InsertBatches => write_batches(alloc, core, id, numbers)?,
         Action::Flush => flush(alloc, core, id)?,
         Action::Merge => merge(alloc, core, id)?,
@@ -173,6 +181,8 @@ fn tell(rt: &HostRuntime, workload: &Workload, count: u64, spent: Spent) -> Resu
     let row = Row {
         engine: match workload.1 {
             Action::Digest => "sha2 alone",
+            Action::Append => "disk alone",
+            Action::FillMemtable => "memtable alone",
             _ => "pothvilai",
         },
         workload: workload.0,
