@@ -1,15 +1,16 @@
 //! The blocks of a table in memory, as a run.
 
-ghost use Rattle.std.specs.Prelude.{◌≡◌, drop, slice_get};
+ghost use Rattle.std.specs.Prelude.{◌≡◌, drop, slice_get, IfOk};
 ghost use Rattle.std.specs.Option.{option_map};
 ghost use Rattle.fjall_table.specs.Blocks.{seen};
 ghost use Rattle.fjall_memtable.specs.Sorted.{flat};
+ghost use Rattle.fjall_runs.specs.Keyed.{keyed_in};
 ghost use Rattle.fjall_jobs.specs.Blocks.{IsLeft, entries_in, still_left};
 
-use fjall_runs::Run;
+use fjall_runs::{OwnedVersion, Run};
 use fjall_table::TableEntry;
 use fjall_table_reader::Block;
-use std::alloc::Global;
+use std::alloc::{AllocError, Global};
 use std::marker::Model;
 use std::sync::Arc;
 
@@ -61,6 +62,15 @@ impl<'a> Run for BlocksRun<'a> {
     {
         let block = self.blocks.first()?;
         Some(block.entry(block.len() - self.left))
+    }
+
+    fn first_owned(&self, _alloc: Global) -> Result<Option<OwnedVersion>, AllocError>
+        ensures { IfOk result (λ version. version ≡ option_map keyed_in (slice_get self.now 0)) }
+    {
+        let Some(block) = self.blocks.first() else {
+            return Ok(None);
+        };
+        Ok(Some(block.pair(block.len() - self.left)?))
     }
 
     fn pass(&mut self)

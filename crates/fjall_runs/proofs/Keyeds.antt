@@ -1,45 +1,23 @@
--- Pairs in the making, in one text.
-use Rattle.std.proofs.Common.{◌≡◌, ℕ, ◌+◌, ◌-◌, ◌<◌, ◌≤◌, Bool, true, false, not, Option, Some, List, [], ◌∷◌, ◌++◌, None, length, take, drop, refl, sym, ap, ◌∙◌, arith, length-append, length-drop}
-use Rattle.std.proofs.lemmas.List.{append-nil, take_all, take-append-drop}
+-- Pairs in the making, and the key that was set last.
+use Rattle.std.proofs.Common.{◌≡◌, ℕ, ◌<◌, ◌≤◌, Bool, true, false, not, Option, Some, List, [], ◌∷◌, ◌++◌, None, length, take, refl, ap, ◌∙◌, arith, length-append}
+use Rattle.std.proofs.lemmas.List.{take_all}
 use Rattle.std.specs.Prelude.{if◌then◌else◌, nat_lt}
+use Rattle.std.specs.List.{slice_get}
+use Rattle.std.specs.Option.{option_map}
 use Rattle.std.specs.Str.{bytes_eq}
 use Rattle.std.proofs.lemmas.Bool.Decides.{nat_tests}
 use Rattle.fjall_base.specs.Pairs.{Bytes}
 use Rattle.fjall_table.specs.Blocks.{Entry}
 use Rattle.fjall_memtable.specs.SortedPages.{found_with, is_another, pair_found, pair_in, pair_of, pairs_back}
-use Rattle.fjall_runs.specs.Texts.{pairs_in}
-use Rattle.fjall_runs.specs.Keyed.{IsKeyed, Keyed, found_in, last_in, pairs_of_last}
-use Rattle.fjall_runs.proofs.Texts.{more_pairs, pairs_len}
+use Rattle.fjall_runs.specs.Keyed.{found_in, keyed_in, pairs_of_last}
 
-none_last : (is_key : Bool) (start key_len : ℕ) (text : Bytes) → pairs_of_last (last_in is_key false start key_len text) ≡ []
-none_last true start key_len text = refl
-none_last false start key_len text = refl
+-- ---- the version that a run begins with
 
--- how many pairs there are, without and with that of the last key
-pub len_without : (lens : List (ℕ × ℕ)) (text : Bytes) (is_key : Bool) (start key_len : ℕ) → length lens ≡ length (pairs_in lens (take start text) ++ pairs_of_last (last_in is_key false start key_len text))
-len_without lens text is_key start key_len =
-    sym (ap (λ (pairs : List (Bytes × Bytes)). length (pairs_in lens (take start text) ++ pairs)) (none_last is_key start key_len text) ∙ ap length (append-nil (pairs_in lens (take start text))) ∙ pairs_len lens (take start text))
+pub begins : (left : List Entry) (v w : Entry) (rest : List Entry) → Some w ≡ slice_get left 0 → left ≡ v ∷ rest → w ≡ v
+begins left v w rest head is = cc (head ∙ ap (λ (es : List Entry). slice_get es 0) is)
 
-pub len_with : (lens : List (ℕ × ℕ)) (text : Bytes) (is_key : Bool) (start key_len : ℕ) → length lens + 1 ≡ length (pairs_in lens (take start text) ++ pairs_of_last (last_in is_key true start key_len text))
-len_with lens text is_key start key_len =
-    let n = pairs_len lens (take start text) in
-    let a = length-append (pairs_in lens (take start text)) (pairs_of_last (last_in is_key true start key_len text)) in
-    omega (arith, n, a)
-
--- the last key's pair is one of the pairs
-pub pair_settled : (lens : List (ℕ × ℕ)) (text : Bytes) (start key_len value_len : ℕ) → IsKeyed lens text start key_len → value_len ≡ length text - start - key_len
-    → pairs_in (lens ++ (key_len, value_len) ∷ []) (take (length text) text) ≡ pairs_in lens (take start text) ++ (take key_len (drop start text), drop key_len (drop start text)) ∷ []
-pair_settled lens text start key_len value_len k is =
-    let within = k.within in
-    let a = length-drop start text in
-    let b = length-drop key_len (drop start text) in
-    let all : take value_len (drop key_len (drop start text)) ≡ drop key_len (drop start text) = take_all value_len (drop key_len (drop start text)) (omega (arith, a, b, is, within)) in
-    ap (pairs_in (lens ++ (key_len, value_len) ∷ [])) (take_all (length text) text (omega arith) ∙ sym (take-append-drop start text))
-    ∙ more_pairs lens (key_len, value_len) (take start text) (drop start text) k.all
-    ∙ ap (λ (value : Bytes). pairs_in lens (take start text) ++ (take key_len (drop start text), value) ∷ []) all
-
-abbrev pub no_last : List (Bytes × Bytes) → Keyed
-no_last pairs = record { before = pairs; last = None }
+pub owned : (left : List Entry) (v : Entry) (rest : List Entry) (pair : Bytes × Option Bytes) → Some pair ≡ option_map keyed_in (slice_get left 0) → left ≡ v ∷ rest → pair ≡ (v.key, v.value)
+owned left v rest pair head is = cc (head ∙ ap (λ (es : List Entry). option_map keyed_in (slice_get es 0)) is)
 
 -- ---- from behind
 

@@ -1,5 +1,4 @@
 pub mod Heads
-mod Texts
 mod RunPaging
 mod Keyeds
 mod Parts

@@ -1,9 +1,8 @@
 -- Pairs that are settled, and the key that was set last.
-use Rattle.std.specs.Prelude.{ℕ, ◌+◌, ◌≤◌, Bool, if◌then◌else◌, List, [], ◌++◌, Option, Some, None, length, take, drop}
+use Rattle.std.specs.Prelude.{ℕ, List, [], ◌++◌, Option, Some, None}
 use Rattle.fjall_base.specs.Pairs.{Bytes}
 use Rattle.fjall_table.specs.Blocks.{Entry}
 use Rattle.fjall_memtable.specs.SortedPages.{pair_in}
-use Rattle.fjall_runs.specs.Texts.{AreAllOf}
 
 -- the pairs before the last key, and that key, with its value if it has one
 pub record Keyed : Type 0 where
@@ -33,13 +32,6 @@ abbrev pub found_in : ℕ → Option (Bytes × Option Bytes) → Option Entry
 found_in bound None = None
 found_in bound (Some last) = Some (record { key = last.0; number = bound; value = last.1 })
 
--- the last key in a text that begins there: with all behind it as its value, or without one, or none
-abbrev pub last_in : Bool → Bool → ℕ → ℕ → Bytes → Option (Bytes × Option Bytes)
-last_in is_key is_pair start key_len text =
-    if is_pair then Some (take key_len (drop start text), Some (drop key_len (drop start text)))
-    else (if is_key then Some (take key_len (drop start text), None) else None)
-
--- The settled pairs are all of the text up to the last key, which is within the text.
-pub record IsKeyed (lens : List (ℕ × ℕ)) (text : Bytes) (start key_len : ℕ) : Type 0 where
-  pub all : AreAllOf lens (take start text)
-  pub within : start + key_len ≤ length text
+-- the key and the value of an entry
+abbrev pub keyed_in : Entry → Bytes × Option Bytes
+keyed_in e = (e.key, e.value)

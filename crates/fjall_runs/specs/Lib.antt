@@ -1,5 +1,4 @@
 pub mod Heads
-pub mod Texts
 pub mod Keyed
 pub mod RunPages
 pub mod Parts

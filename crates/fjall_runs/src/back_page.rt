@@ -6,8 +6,9 @@ ghost use Rattle.fjall_memtable.specs.SortedPages.{is_another, pairs_back};
 ghost use Rattle.fjall_runs.specs.Keyed.{found_in};
 
 use crate::front_page::value_shown;
-use crate::keyed_text::KeyedText;
+use crate::keyed_pairs::KeyedPairs;
 use crate::keys::is_same;
+use crate::run::Run;
 use fjall_base::KvPair;
 use fjall_table::TableEntry;
 use std::alloc::{AllocError, Global};
@@ -15,17 +16,18 @@ use std::alloc::{AllocError, Global};
 /// A page that is made of versions in order, from behind, by one look at each.
 #[derive(Drop)]
 pub struct BackPage {
+    alloc: Global,
     instant: u64,
     bound: u64,
-    text: KeyedText,
+    pairs: KeyedPairs,
 }
 
 // Whether there is a last key, and the version is of another one.
 #[inline(always)]
-fn is_of_another(text: &KeyedText, version: &TableEntry<'_>, bound: u64) -> bool
-    ensures { result ≡ is_another (found_in bound text.now.last) (seen version.now) }
+fn is_of_another(pairs: &KeyedPairs, version: &TableEntry<'_>, bound: u64) -> bool
+    ensures { result ≡ is_another (found_in bound pairs.now.last) (seen version.now) }
 {
-    match text.last_key() {
+    match pairs.last_key() {
         Some(key) => !is_same(version.key, key),
         None => false,
     }
@@ -41,9 +43,10 @@ impl BackPage {
         ensures all { (versions : List Entry) → back_with result versions ≡ pairs_back instant bound None versions }
     {
         BackPage {
+            alloc,
             instant,
             bound,
-            text: KeyedText::new(alloc),
+            pairs: KeyedPairs::new(alloc),
         }
     }
 
@@ -51,7 +54,7 @@ impl BackPage {
     pub fn len(&self) -> usize
         ensures { result ≡ length (back_pairs self.now) }
     {
-        self.text.count_before()
+        self.pairs.count_before()
     }
 
     /// Whether it has no pair yet.
@@ -64,27 +67,33 @@ impl BackPage {
     // Settles the key whose newest version was found last, where a version is of another key.
     fn settle_before(&mut self, version: &TableEntry<'_>) -> Result<(), AllocError>
         ensures all { OnOk result ((versions : List Entry) → back_with self.new (seen version.now ∷ versions) ≡ back_with self.old (seen version.now ∷ versions)) }
-        ensures same { OnOk result (is_another (found_in self.new.bound self.new.text.last) (seen version.now) ≡ false) }
+        ensures same { OnOk result (is_another (found_in self.new.bound self.new.pairs.last) (seen version.now) ≡ false) }
         ensures few { OnOk result (length (back_pairs self.new) ≤ length (back_pairs self.old) + 1) }
     {
-        if !is_of_another(&self.text, version, self.bound) {
+        if !is_of_another(&self.pairs, version, self.bound) {
             return Ok(());
         }
-        self.text.settle()
+        self.pairs.settle()
     }
 
-    /// Looks at the next version from behind, and adds the pair of the key that it settles. It is refused for want of memory
-    /// alone; the page is of no more use then.
-    pub fn look(&mut self, version: &TableEntry<'_>) -> Result<(), AllocError>
-        ensures all { OnOk result ((versions : List Entry) → back_with self.new versions ≡ back_with self.old (seen version.now ∷ versions)) }
+    /// Looks at the first version of a run, which is the next one from behind, and adds the pair of the key that it settles. It is
+    /// refused for want of memory alone; the page is of no more use then.
+    pub fn look<R: Run>(&mut self, run: &R) -> Result<(), AllocError>
+        ensures all { OnOk result ((v : Entry) (rest versions : List Entry) → R.left run.now ≡ v ∷ rest → back_with self.new versions ≡ back_with self.old (v ∷ versions)) }
         ensures few { OnOk result (length (back_pairs self.new) ≤ length (back_pairs self.old) + 1) }
     {
-        self.settle_before(version)?;
-        if version.number >= self.instant {
+        let Some(version) = run.first() else {
+            return Ok(());
+        };
+        let number = version.number;
+        self.settle_before(&version)?;
+        if number >= self.instant {
             return Ok(());
         }
-        self.text
-            .set_last(version.key, value_shown(version, self.bound))?;
+        if let Some((key, value)) = run.first_owned(self.alloc)? {
+            self.pairs
+                .set_last(key, value_shown(value, number, self.bound));
+        }
         Ok(())
     }
 
@@ -94,11 +103,11 @@ impl BackPage {
         requires { length (back_pairs self) ≤ max }
         ensures { IfOk result (λ pairs. pairs.items ≡ reverse (take max (back_with self []))) }
     {
-        let BackPage { mut text, .. } = self;
-        if text.count_before() >= max {
-            return text.finish(true);
+        let BackPage { mut pairs, .. } = self;
+        if pairs.count_before() >= max {
+            return Ok(pairs.finish(true));
         }
-        text.settle()?;
-        text.finish(true)
+        pairs.settle()?;
+        Ok(pairs.finish(true))
     }
 }

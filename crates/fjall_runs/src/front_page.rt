@@ -1,42 +1,44 @@
 //! Pages from the start.
 
 ghost use Rattle.std.specs.Prelude.{◌≡◌, ◌≤◌, ◌+◌, ◌++◌, ◌∷◌, [], List, None, length, IfOk, OnOk, IsTrue, ◌↔◌};
-ghost use Rattle.std.specs.Option.{option_map};
+ghost use Rattle.fjall_base.specs.Pairs.{Bytes};
 ghost use Rattle.fjall_table.specs.Blocks.{Entry, seen};
 ghost use Rattle.fjall_memtable.specs.SortedPages.{is_settled, pair_in, pair_of, pairs_of};
 ghost use Rattle.fjall_runs.specs.Keyed.{key_of};
 
-use crate::keyed_text::KeyedText;
+use crate::keyed_pairs::KeyedPairs;
 use crate::keys::is_same;
-use fjall_base::KvPair;
+use crate::run::Run;
+use fjall_base::{KvPair, UserValue};
 use fjall_table::TableEntry;
 use std::alloc::{AllocError, Global};
 
 /// A page that is made of versions in order, from the start, by one look at each.
 #[derive(Drop)]
 pub struct FrontPage {
+    alloc: Global,
     instant: u64,
     bound: u64,
-    text: KeyedText,
+    pairs: KeyedPairs,
 }
 
-// The value of a key's newest version, where it has a pair.
+// What the newest version of a key shows of its value: none of it where the version is cleared.
 #[inline(always)]
-pub(crate) fn value_shown<'a>(version: &TableEntry<'a>, bound: u64) -> Option<&'a [u8]>
-    ensures { pair_in version.now.key.now (option_map (λ value. value.now) result) ≡ pair_of bound (seen version.now) }
+pub(crate) fn value_shown(value: Option<UserValue>, number: u64, bound: u64) -> Option<UserValue>
+    ensures { (key : Bytes) → pair_in key result ≡ pair_of bound (record { key = key; number = number; value = value }) }
 {
-    if version.number < bound {
+    if number < bound {
         return None;
     }
-    version.value
+    value
 }
 
 // Whether the version is of the last key.
 #[inline(always)]
-fn is_of(text: &KeyedText, version: &TableEntry<'_>) -> bool
-    ensures { result ≡ is_settled (key_of text.now.last) (seen version.now) }
+fn is_of(pairs: &KeyedPairs, version: &TableEntry<'_>) -> bool
+    ensures { result ≡ is_settled (key_of pairs.now.last) (seen version.now) }
 {
-    match text.last_key() {
+    match pairs.last_key() {
         Some(key) => is_same(version.key, key),
         None => false,
     }
@@ -52,9 +54,10 @@ impl FrontPage {
         ensures all { (versions : List Entry) → front_with result versions ≡ pairs_of instant bound None versions }
     {
         FrontPage {
+            alloc,
             instant,
             bound,
-            text: KeyedText::new(alloc),
+            pairs: KeyedPairs::new(alloc),
         }
     }
 
@@ -62,7 +65,7 @@ impl FrontPage {
     pub fn len(&self) -> usize
         ensures { result ≡ length (front_pairs self.now) }
     {
-        self.text.len()
+        self.pairs.len()
     }
 
     /// Whether it has no pair yet.
@@ -72,26 +75,33 @@ impl FrontPage {
         self.len() == 0
     }
 
-    /// Looks at the next version, and adds the pair that it makes. It is refused for want of memory alone; the page is of
-    /// no more use then.
-    pub fn look(&mut self, version: &TableEntry<'_>) -> Result<(), AllocError>
-        ensures all { OnOk result ((versions : List Entry) → front_with self.new versions ≡ front_with self.old (seen version.now ∷ versions)) }
+    /// Looks at the first version of a run, which is the next one, and adds the pair that it makes. It is refused for want of memory
+    /// alone; the page is of no more use then.
+    pub fn look<R: Run>(&mut self, run: &R) -> Result<(), AllocError>
+        ensures all { OnOk result ((v : Entry) (rest versions : List Entry) → R.left run.now ≡ v ∷ rest → front_with self.new versions ≡ front_with self.old (v ∷ versions)) }
         ensures few { OnOk result (length (front_pairs self.new) ≤ length (front_pairs self.old) + 1) }
     {
-        if is_of(&self.text, version) || version.number >= self.instant {
+        let Some(version) = run.first() else {
+            return Ok(());
+        };
+        let number = version.number;
+        if number >= self.instant || is_of(&self.pairs, &version) {
             return Ok(());
         }
-        self.text.settle()?;
-        self.text
-            .set_last(version.key, value_shown(version, self.bound))
+        self.pairs.settle()?;
+        if let Some((key, value)) = run.first_owned(self.alloc)? {
+            self.pairs
+                .set_last(key, value_shown(value, number, self.bound));
+        }
+        Ok(())
     }
 
     /// The pairs in order. It is refused for want of memory alone.
     pub fn finish(self) -> Result<Vec<KvPair>, AllocError>
         ensures { IfOk result (λ pairs. pairs.items ≡ front_pairs self) }
     {
-        let FrontPage { mut text, .. } = self;
-        text.settle()?;
-        text.finish(false)
+        let FrontPage { mut pairs, .. } = self;
+        pairs.settle()?;
+        Ok(pairs.finish(false))
     }
 }

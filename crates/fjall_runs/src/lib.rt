@@ -4,13 +4,12 @@
 
 mod back_page;
 mod front_page;
-mod keyed_text;
+mod keyed_pairs;
 mod keys;
 mod memtable_run;
 mod page_maker;
 mod page_run;
 mod pages;
-mod pair_text;
 mod run;
 mod run_pages;
 mod starts;
@@ -21,7 +20,6 @@ pub use front_page::FrontPage;
 pub use memtable_run::MemtableRun;
 pub use page_run::PageRun;
 pub use pages::{PageQuery, page};
-pub use pair_text::PairText;
-pub use run::{Run, first_of, first_two_of, next_two_of};
+pub use run::{OwnedVersion, Run, first_of, first_two_of, next_two_of};
 pub use run_pages::page_of_runs;
 pub use table_run::TableRun;

@@ -1,14 +1,17 @@
 //! The versions of a memtable, as a run.
 
-ghost use Rattle.std.specs.Prelude.{◌≡◌, drop, slice_get};
+ghost use Rattle.std.specs.Prelude.{◌≡◌, drop, slice_get, IfOk};
 ghost use Rattle.std.specs.Option.{option_map};
 ghost use Rattle.fjall_table.specs.Blocks.{seen};
 ghost use Rattle.fjall_memtable.specs.Sorted.{in_turn};
 ghost use Rattle.fjall_runs.specs.Heads.{with_head};
+ghost use Rattle.fjall_runs.specs.Keyed.{keyed_in};
 
-use crate::run::Run;
+use crate::run::{OwnedVersion, Run};
+use fjall_base::Slice;
 use fjall_memtable::Versions;
 use fjall_table::TableEntry;
+use std::alloc::{AllocError, Global};
 use std::marker::Model;
 
 /// The versions of a memtable in order, from the start or from behind. Contracts see what is left, the next one first.
@@ -59,6 +62,20 @@ impl<'a> Run for MemtableRun<'a> {
         ensures { option_map seen result ≡ slice_get self.now 0 }
     {
         self.head
+    }
+
+    fn first_owned(&self, alloc: Global) -> Result<Option<OwnedVersion>, AllocError>
+        ensures { IfOk result (λ version. version ≡ option_map keyed_in (slice_get self.now 0)) }
+    {
+        let Some(version) = &self.head else {
+            return Ok(None);
+        };
+        let key = Slice::new(alloc, version.key)?;
+        let value = match version.value {
+            Some(value) => Some(Slice::new(alloc, value)?),
+            None => None,
+        };
+        Ok(Some((key, value)))
     }
 
     fn pass(&mut self)

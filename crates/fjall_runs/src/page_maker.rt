@@ -2,7 +2,7 @@
 
 ghost use Rattle.std.specs.Prelude.{◌≡◌, ◌≤◌, ◌<◌, ◌+◌, ◌∷◌, [], List, None, Some, length, map, position, slice_set, take, IfOk, IfSome, OnOk};
 ghost use Rattle.fjall_base.specs.Pairs.{Bytes, KeyRange};
-ghost use Rattle.fjall_table.specs.Blocks.{Entry, seen};
+ghost use Rattle.fjall_table.specs.Blocks.{Entry};
 ghost use Rattle.fjall_memtable.specs.Sorted.{IsFirst, in_turn};
 ghost use Rattle.fjall_runs.specs.Runs.{ahead_of, all_of, is_dry, left_in};
 ghost use Rattle.fjall_runs.specs.Pages.{IsMade, goes_back, made, made_with, page_of};
@@ -11,9 +11,8 @@ ghost use Rattle.fjall_runs.specs.Leads.{Leading, UndryBut};
 use crate::back_page::BackPage;
 use crate::front_page::FrontPage;
 use crate::page_run::{PageRun, first_dry};
-use crate::run::{Run, first_two_of, next_two_of};
+use crate::run::{first_two_of, next_two_of};
 use fjall_base::KvPair;
-use fjall_table::TableEntry;
 use std::alloc::{AllocError, Global};
 
 /// A page that is made of versions in order, from the start or from behind, by one look at each.
@@ -46,16 +45,16 @@ impl PageMaker {
         }
     }
 
-    /// Looks at the next version.
+    /// Looks at the first version of a run.
     #[inline(always)]
-    fn look(&mut self, version: &TableEntry<'_>) -> Result<(), AllocError>
+    fn look(&mut self, run: &PageRun<'_>) -> Result<(), AllocError>
         ensures back { goes_back self.new ≡ goes_back self.old }
-        ensures all { OnOk result ((versions : List Entry) → made_with self.new versions ≡ made_with self.old (seen version.now ∷ versions)) }
+        ensures all { OnOk result ((v : Entry) (rest versions : List Entry) → left_in run.now ≡ v ∷ rest → made_with self.new versions ≡ made_with self.old (v ∷ versions)) }
         ensures few { OnOk result (length (made self.new) ≤ length (made self.old) + 1) }
     {
         match self {
-            PageMaker::Front(page) => page.look(version),
-            PageMaker::Back(page) => page.look(version),
+            PageMaker::Front(page) => page.look(run),
+            PageMaker::Back(page) => page.look(run),
         }
     }
 
@@ -68,10 +67,7 @@ impl PageMaker {
         ensures all { OnOk result ((v : Entry) (rest versions : List Entry) → left_in run.old ≡ v ∷ rest → made_with self.new versions ≡ made_with self.old (v ∷ versions)) }
         ensures few { OnOk result (length (made self.new) ≤ length (made self.old) + 1) }
     {
-        let Some(version) = run.first() else {
-            return Ok(());
-        };
-        self.look(&version)?;
+        self.look(run)?;
         run.skip();
         Ok(())
     }

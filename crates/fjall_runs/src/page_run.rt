@@ -1,21 +1,23 @@
 //! The runs that a page is made of.
 
-ghost use Rattle.std.specs.Prelude.{◌≡◌, ◌<◌, ⊤, ℕ, List, length, drop, slice_get, position, OnOk, IfErr, IsTrue};
+ghost use Rattle.std.specs.Prelude.{◌≡◌, ◌<◌, ⊤, ℕ, List, length, drop, slice_get, position, OnOk, IfErr, IfOk, IsTrue};
 ghost use Rattle.std.specs.Option.{option_map};
 ghost use Rattle.fjall_base.specs.Pairs.{key_range};
 ghost use Rattle.fjall_table.specs.Blocks.{Entry, seen};
 ghost use Rattle.fjall_table_reader.specs.Files.{IsRefused, entry_at};
 ghost use Rattle.fjall_table_reader.specs.Readers.{HoldsAWrongBlock, IsSameTable, LooksOn, ReadsBlocks};
+ghost use Rattle.fjall_runs.specs.Keyed.{keyed_in};
 ghost use Rattle.fjall_runs.specs.Runs.{ahead_of, is_dry, left_in, to_come};
 ghost use Rattle.fjall_runs.specs.Tables.{EndsWithinBlocks, all_in};
 
 use crate::memtable_run::MemtableRun;
-use crate::run::Run;
+use crate::run::{OwnedVersion, Run};
 use crate::table_run::TableRun;
 use fjall_base::{Disk, KeyBounds, Result};
 use fjall_table::TableEntry;
 use fjall_table_reader::TableReader;
-use std::alloc::Global;
+use std::alloc::{AllocError, Global};
+use std::result;
 
 /// Versions of a memtable or of a part of a table, in order from one end on.
 #[derive(Drop)]
@@ -83,6 +85,15 @@ impl<'a> Run for PageRun<'a> {
         match self {
             PageRun::Memory(run) => run.first(),
             PageRun::Table(run) => run.first(),
+        }
+    }
+
+    fn first_owned(&self, alloc: Global) -> result::Result<Option<OwnedVersion>, AllocError>
+        ensures { IfOk result (λ version. version ≡ option_map keyed_in (slice_get (left_in self.now) 0)) }
+    {
+        match self {
+            PageRun::Memory(run) => run.first_owned(alloc),
+            PageRun::Table(run) => run.first_owned(alloc),
         }
     }
 

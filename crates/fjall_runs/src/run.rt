@@ -1,12 +1,18 @@
 //! Runs of versions, and which of several comes first.
 
-ghost use Rattle.std.specs.Prelude.{◌≡◌, ◌↔◌, ◌<◌, ◌+◌, ◌++◌, ◌∷◌, [], ℕ, List, length, map, drop, slice_get, slice_set, Some, IfSome, IsTrue};
+ghost use Rattle.std.specs.Prelude.{◌≡◌, ◌↔◌, ◌<◌, ◌+◌, ◌++◌, ◌∷◌, [], ℕ, List, length, map, drop, slice_get, slice_set, Some, IfOk, IfSome, IsTrue};
 ghost use Rattle.std.specs.Option.{option_map};
 ghost use Rattle.fjall_table.specs.Blocks.{Entry, seen};
 ghost use Rattle.fjall_runs.specs.Heads.{ComesBefore, HasFirst, HasTwo};
+ghost use Rattle.fjall_runs.specs.Keyed.{keyed_in};
 ghost use Rattle.fjall_memtable.specs.Sorted.{IsFirst};
 
+use fjall_base::{UserKey, UserValue};
 use fjall_table::TableEntry;
+use std::alloc::{AllocError, Global};
+
+/// A version's key, and its value, or None where it removed the key.
+pub type OwnedVersion = (UserKey, Option<UserValue>);
 
 /// Versions in order, from one end on.
 pub trait Run {
@@ -15,6 +21,10 @@ pub trait Run {
     /// The version that comes first, or None where none is left.
     fn first(&self) -> Option<TableEntry<'_>>
         ensures { option_map seen result ≡ slice_get (left self.now) 0 };
+
+    /// The same, owned: as parts of its block's text, where it stands in one, and else as copies.
+    fn first_owned(&self, alloc: Global) -> Result<Option<OwnedVersion>, AllocError>
+        ensures { IfOk result (λ version. version ≡ option_map keyed_in (slice_get (left self.now) 0)) };
 
     /// Passes the first one over.
     fn pass(&mut self)

@@ -20,10 +20,7 @@ fn look_from_front<R: Run>(page: &mut FrontPage, run: &mut R) -> Result<(), Allo
     ensures all { OnOk result ((v : Entry) (rest versions : List Entry) → R.left run.old ≡ v ∷ rest → front_with page.new versions ≡ front_with page.old (v ∷ versions)) }
     ensures few { OnOk result (length (front_pairs page.new) ≤ length (front_pairs page.old) + 1) }
 {
-    let Some(version) = run.first() else {
-        return Ok(());
-    };
-    page.look(&version)?;
+    page.look(run)?;
     run.pass();
     Ok(())
 }
@@ -55,10 +52,7 @@ fn look_from_behind<R: Run>(page: &mut BackPage, run: &mut R) -> Result<(), Allo
     ensures all { OnOk result ((v : Entry) (rest versions : List Entry) → R.left run.old ≡ v ∷ rest → back_with page.new versions ≡ back_with page.old (v ∷ versions)) }
     ensures few { OnOk result (length (back_pairs page.new) ≤ length (back_pairs page.old) + 1) }
 {
-    let Some(version) = run.first() else {
-        return Ok(());
-    };
-    page.look(&version)?;
+    page.look(run)?;
     run.pass();
     Ok(())
 }

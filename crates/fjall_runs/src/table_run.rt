@@ -1,6 +1,6 @@
 //! The part of a table between two bounds, as a run.
 
-ghost use Rattle.std.specs.Prelude.{◌≡◌, ◌<◌, ◌≤◌, ◌↔◌, ⊤, [], List, drop, length, slice_get, OnOk, IfErr, IsTrue};
+ghost use Rattle.std.specs.Prelude.{◌≡◌, ◌<◌, ◌≤◌, ◌↔◌, ⊤, [], List, drop, length, slice_get, OnOk, IfErr, IfOk, IsTrue};
 ghost use Rattle.std.specs.Option.{option_map};
 ghost use Rattle.fjall_base.specs.Pairs.{key_range};
 ghost use Rattle.fjall_table.specs.Blocks.{Entry, seen};
@@ -8,14 +8,16 @@ ghost use Rattle.fjall_table.specs.Tables.{AreBlocks, entries_of, entries_within
 ghost use Rattle.fjall_table_reader.specs.Files.{IsRefused, entry_at};
 ghost use Rattle.fjall_table_reader.specs.Readers.{HoldsAWrongBlock, IsSameTable, LooksOn, ReadsBlocks};
 ghost use Rattle.fjall_memtable.specs.Sorted.{in_turn};
+ghost use Rattle.fjall_runs.specs.Keyed.{keyed_in};
 ghost use Rattle.fjall_runs.specs.Parts.{Ahead, IsDryPart, blocks_ahead, left_of, next_block, still_to_come, without_next};
 
-use crate::run::Run;
+use crate::run::{OwnedVersion, Run};
 use fjall_base::{Disk, KeyBounds, Result};
 use fjall_table::TableEntry;
 use fjall_table_reader::{Block, TableReader};
-use std::alloc::Global;
+use std::alloc::{AllocError, Global};
 use std::marker::Model;
+use std::result;
 use std::sync::Arc;
 
 /// The part of a table between two bounds, gone through from the start or from behind, with one block in memory at a time.
@@ -160,6 +162,19 @@ impl Run for TableRun {
             return Some(block.entry(self.end - 1));
         }
         Some(block.entry(self.start))
+    }
+
+    fn first_owned(&self, _alloc: Global) -> result::Result<Option<OwnedVersion>, AllocError>
+        ensures { IfOk result (λ version. version ≡ option_map keyed_in (slice_get (left_of self.now) 0)) }
+    {
+        let Some(block) = &self.block else {
+            return Ok(None);
+        };
+        if self.start == self.end {
+            return Ok(None);
+        }
+        let at = if self.back { self.end - 1 } else { self.start };
+        Ok(Some(block.pair(at)?))
     }
 
     fn pass(&mut self)

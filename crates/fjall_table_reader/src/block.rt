@@ -2,6 +2,7 @@
 
 ghost use Rattle.std.specs.Prelude.{◌≡◌, ◌-◌, ◌<◌, ◌≤◌, ◌^◌, length, min, option_and_then, slice_get, take, drop, filter, Some, None, map, IfOk, IfErr, IfSome, IsOkUnless};
 ghost use Rattle.std.specs.Int.{w128, to_be_bytes};
+ghost use Rattle.std.specs.Option.{option_map};
 ghost use Rattle.std.specs.Range.Bound.{bound_map};
 ghost use Rattle.fjall_base.specs.declared.error.StorageError.TheVariants.{TableDamaged};
 ghost use Rattle.fjall_base.specs.Pairs.{key_range};
@@ -18,11 +19,12 @@ ghost use Rattle.fjall_table_reader.specs.Readers.{block_size};
 use crate::found::Found;
 use crate::place::{EntryPlace, places_of};
 use bytes::Bytes;
-use fjall_base::{Error, KeyBounds, Result};
+use fjall_base::{Error, KeyBounds, Result, UserKey, UserValue};
 use fjall_table::{BlockHandle, TableEntry, compare_numbers, front_of};
-use std::alloc::Global;
+use std::alloc::{AllocError, Global};
 use std::marker::Model;
 use std::ops::{Bound, Range};
+use std::result;
 
 /// How many bytes stand before a block's first entry: the length of its payload.
 const LENGTH_LEN: usize = 8;
@@ -135,6 +137,17 @@ impl Block {
             number: place.number,
             value,
         })
+    }
+
+    /// The key of an entry and its value, where it has one. Both are parts of the block's text, and keep it.
+    pub fn pair(&self, at: usize) -> result::Result<(UserKey, Option<UserValue>), AllocError>
+        requires { at < length self.now }
+        ensures { IfOk result (λ pair. option_map (λ e. (e.key, e.value)) (slice_get self.now at) ≡ Some pair) }
+    {
+        let place = &self.places[at];
+        let key = place.shared_key(&self.text)?;
+        let value = place.shared_value(&self.text)?;
+        Ok((key, value))
     }
 
     /// Where the newest version of a key stands that is numbered below an instant, by binary search; None where no version

@@ -1,15 +1,15 @@
 //! Where an entry stands in the text of its block.
 
-ghost use Rattle.std.specs.Prelude.{◌≡◌, ◌+◌, ◌<◌, ◌≤◌, ◌^◌, length, map, IfOk, IsOkUnless};
+ghost use Rattle.std.specs.Prelude.{◌≡◌, ◌+◌, ◌<◌, ◌≤◌, ◌^◌, length, map, IfOk};
 ghost use Rattle.std.specs.List.{AllByRecursion};
 ghost use Rattle.std.specs.Option.{option_map};
 ghost use Rattle.fjall_table.specs.Blocks.{seen, payload_of, IsEntry};
 ghost use Rattle.fjall_table_reader.specs.Places.{places_from};
 
 use bytes::Bytes;
-use fjall_base::{Error, Result, Slice, UserValue};
+use fjall_base::{Slice, UserKey, UserValue};
 use fjall_table::TableEntry;
-use std::alloc::Global;
+use std::alloc::{AllocError, Global};
 
 /// Where a key begins in a block's text; the value stands right behind it.
 #[derive(Clone, Copy, Debug)]
@@ -74,11 +74,20 @@ impl EntryPlace {
         Some(&text[start..start + self.value_len as usize])
     }
 
-    /// The same as a part of the text that keeps it: nothing is copied. It is refused for want of memory alone.
-    pub(crate) fn shared_value(&self, text: &Bytes) -> Result<Option<UserValue>>
+    /// The key as a part of the text that keeps it: nothing is copied.
+    pub(crate) fn shared_key(&self, text: &Bytes) -> Result<UserKey, AllocError>
         requires { end_of self.now ≤ length text.now }
-        ensures value { IfOk result (λ v. v ≡ value_at text.now self.now) }
-        ensures only { IsOkUnless result Error.OutOfMemory }
+        ensures { IfOk result (λ k. k ≡ key_at text.now self.now) }
+    {
+        let key = self.key_in(text.as_slice());
+        let key = text.slice(self.at..self.at + key.len())?;
+        Ok(Slice::from(key))
+    }
+
+    /// The same of the value that stands behind it.
+    pub(crate) fn shared_value(&self, text: &Bytes) -> Result<Option<UserValue>, AllocError>
+        requires { end_of self.now ≤ length text.now }
+        ensures { IfOk result (λ v. v ≡ value_at text.now self.now) }
     {
         let Some(value) = self.value_in(text.as_slice()) else {
             return Ok(None);
@@ -94,11 +103,10 @@ pub(crate) fn places_of(
     alloc: Global,
     at: usize,
     entries: &[TableEntry<'_>],
-) -> Result<Vec<EntryPlace>>
+) -> Result<Vec<EntryPlace>, AllocError>
     requires entries { AllByRecursion IsEntry (map seen entries.now) }
     requires fits { at + length (payload_of (map seen entries.now)) < 2 ^ 64 }
-    ensures places { IfOk result (λ ps. ps.items ≡ places_from at (map seen entries.now)) }
-    ensures only { IsOkUnless result Error.OutOfMemory }
+    ensures { IfOk result (λ ps. ps.items ≡ places_from at (map seen entries.now)) }
 {
     let mut places = Vec::new(alloc);
     let mut next = at;

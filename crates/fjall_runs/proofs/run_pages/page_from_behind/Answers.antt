@@ -28,7 +28,7 @@ returns g c =
     let few = c.loop-runs.invariant.few in
     let ge : max ≤ length (back_pairs page) = omega (arith, len, test) in
     subst (λ (w : List (Bytes × Bytes)). IfOk c.finish-2.result (λ pairs. pairs.items ≡ reverse w))
-    (full_page max (back_pairs page) (pair_found page.bound (found_in page.bound page.text.last)) ge few ∙ sym (full_page max (back_pairs page) (pairs_back page.instant page.bound (found_in page.bound page.text.last) (reverse (sorted (flat runs)))) ge few) ∙ ap (take max) c.loop-runs.invariant.told) c.finish-2.ensures
+    (full_page max (back_pairs page) (pair_found page.bound (found_in page.bound page.pairs.last)) ge few ∙ sym (full_page max (back_pairs page) (pairs_back page.instant page.bound (found_in page.bound page.pairs.last) (reverse (sorted (flat runs)))) ge few) ∙ ap (take max) c.loop-runs.invariant.told) c.finish-2.ensures
 
 pub loop-runs-smaller : goal.loop-runs-smaller
 loop-runs-smaller g c =

@@ -27,7 +27,7 @@ returns g c =
     let test = c.loop-runs-test.false in
     let few = c.loop-runs.invariant.few in
     let ge : max ≤ length (front_pairs page) = omega (arith, len, test) in
-    subst (λ (w : List (Bytes × Bytes)). IfOk c.finish-2.result (λ pairs. pairs.items ≡ w)) (sym (full_page max (front_pairs page) (pairs_of page.instant page.bound (key_of page.text.last) (sorted (flat runs))) ge few) ∙ ap (take max) c.loop-runs.invariant.told) c.finish-2.ensures
+    subst (λ (w : List (Bytes × Bytes)). IfOk c.finish-2.result (λ pairs. pairs.items ≡ w)) (sym (full_page max (front_pairs page) (pairs_of page.instant page.bound (key_of page.pairs.last) (sorted (flat runs))) ge few) ∙ ap (take max) c.loop-runs.invariant.told) c.finish-2.ensures
 
 pub loop-runs-smaller : goal.loop-runs-smaller
 loop-runs-smaller g c =

@@ -1,4 +1,4 @@
-use Rattle.std.proofs.Common.{arith, map}
+use Rattle.std.proofs.Common.{arith}
 use Rattle.fjall_table.specs.Blocks.{seen}
 use Rattle.fjall_table_reader.proofs.Fronted.{fronting_more}
 use Rattle.fjall_table_reader.proofs.Places.{got_or}

@@ -1,5 +1,5 @@
 use Rattle.std.proofs.Common.{List, map, subst, sym}
-use Rattle.fjall_table.specs.Blocks.{Entry, seen}
+use Rattle.fjall_table.specs.Blocks.{seen}
 use Rattle.fjall_table.specs.TableReading.{IsBlockFrom}
 use Rattle.fjall_table.specs.declared.table_entry.TableEntry.{TableEntry}
 use Rattle.fjall_table_reader.specs.Places.{AreFronts}
@@ -11,7 +11,7 @@ returns-clause-block c =
     let key = c.args.handle.now.first_key.now in
     let text = c.args.framed.now in
     let is = subst (λ (vs : List TableEntry). IsBlockFrom key text (map seen vs)) (sym c.deref-2.ensures.value) c.in_ok-entries.ensures.block in
-    places_block key text (map seen c.deref-2.result.now) c.in_ok-places.places.items is c.in_ok-places.ensures.places
+    places_block key text (map seen c.deref-2.result.now) c.in_ok-places.places.items is c.in_ok-places.ensures
 
 pub returns-clause-placed : goal.returns-clause-placed
 returns-clause-placed c =
@@ -19,4 +19,4 @@ returns-clause-placed c =
     let text = c.args.framed.now in
     let is = subst (λ (vs : List TableEntry). IsBlockFrom key text (map seen vs)) (sym c.deref-2.ensures.value) c.in_ok-entries.ensures.block in
     let are = subst (λ (vs : List TableEntry). AreFronts c.in_ok-fronts.fronts.items (map seen vs)) (sym c.deref-2.ensures.value) (subst (λ (vs : List TableEntry). AreFronts c.in_ok-fronts.fronts.items (map seen vs)) c.deref.ensures.value c.in_ok-fronts.ensures.fronts) in
-    places_placed key text (map seen c.deref-2.result.now) c.in_ok-places.places.items c.in_ok-fronts.fronts.items is c.in_ok-places.ensures.places are
+    places_placed key text (map seen c.deref-2.result.now) c.in_ok-places.places.items c.in_ok-fronts.fronts.items is c.in_ok-places.ensures are

@@ -2,7 +2,7 @@ use Rattle.std.proofs.Common.{ap, map, sym, subst, ◌∙◌}
 use Rattle.std.specs.Option.{option_map}
 use Rattle.fjall_table_reader.specs.Files.{handles_in, name_of}
 use Rattle.fjall_table.proofs.Indexes.{is_index}
-use Rattle.fjall_table_reader.specs.Readers.{IsCountedReader, Reader, none_kept, unread}
+use Rattle.fjall_table_reader.specs.Readers.{IsCountedReader, Reader}
 use Rattle.fjall_table_reader.proofs.Readers.{none_is, reads_new, unread_counted}
 use Rattle.fjall_table_reader.proofs.table_reader.TableReader.new.Goals as goal
 
