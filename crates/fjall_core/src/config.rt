@@ -20,7 +20,7 @@ pub struct Config {
     /// What an opening does with a torn tail of the active journal.
     pub journal_recovery_mode: RecoveryMode,
     /// For how many bytes of memory the blocks of tables may count that reads leave there, of all keyspaces together. Where they
-    /// count for more behind a read, all of them go.
+    /// count for more behind a read, those that were used longest ago go first, and all of them where that isn't enough.
     pub kept_block_bytes: u64,
 }
 

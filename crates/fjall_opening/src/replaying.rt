@@ -58,7 +58,7 @@ pub(crate) struct Progress {
 }
 
 // The first bytes of a text, up to an end, where there is one.
-fn part_of(text: Bytes, end: Option<usize>) -> Bytes
+fn whole_part(text: Bytes, end: Option<usize>) -> Bytes
     ensures { MatchOption end (result ≡ text) (λ n. result ≡ take n text) }
 {
     let mut part = text;
@@ -189,7 +189,7 @@ impl<'a> Replay<'a> {
     {
         let name = journal_name(alloc, id)?;
         let text = Bytes::from_vec(read_text(alloc, disk, &name)?)?;
-        let batches = part_of(text, end);
+        let batches = whole_part(text, end);
         self.replay_text(alloc, progress, &batches)
     }
 

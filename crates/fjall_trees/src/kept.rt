@@ -32,7 +32,7 @@ impl Trees {
     }
 
     /// The same of the recent ones: those that were used since the older ones went last.
-    pub fn recent_bytes(&self) -> u64
+    fn recent_bytes(&self) -> u64
         ensures { result ≡ recent_bytes (forest_of self.now) }
     {
         let mut total = 0u64;
