@@ -1,8 +1,10 @@
 //! What an insertion takes at least, each part alone: the append of its batch, and a memtable's insertion. Its digest is taken
-//! where the data is.
+//! where the data is. And what a scan takes at least: its answers alone.
 
-use crate::data::{key_of, record_of, value_of};
-use fjall_base::{Disk, Result};
+use crate::data::{KEY_LEN, VALUE_LEN, key_of, record_of, value_of};
+use crate::reads::PAGE_PAIRS;
+use bytes::Bytes;
+use fjall_base::{Disk, KvPair, Result, Slice};
 use fjall_memtable::Memtable;
 use std::alloc::Global;
 
@@ -27,4 +29,25 @@ pub fn fill_memtable(alloc: Global, numbers: &[u64]) -> Result<u64> {
         number = number.saturating_add(1);
     }
     Ok(memtable.len() as u64)
+}
+
+// A page of so many pairs, whose keys and values are parts of one text.
+fn make_page(alloc: Global, numbers: &[u64]) -> Result<Vec<KvPair>> {
+    let text = Bytes::copy_from_slice(alloc, &record_of(0))?;
+    let mut pairs = Vec::new(alloc);
+    for _ in numbers {
+        let key = text.slice(0..KEY_LEN)?;
+        let value = text.slice(KEY_LEN..KEY_LEN + VALUE_LEN)?;
+        pairs.push((Slice::from(key), Slice::from(value)))?;
+    }
+    Ok(pairs)
+}
+
+/// Makes a pair for each number, as a scan answers them, a page after another, and says how many there were.
+pub fn make_pairs(alloc: Global, numbers: &[u64]) -> Result<u64> {
+    let mut made = 0u64;
+    for page in numbers.chunks(PAGE_PAIRS) {
+        made = made.saturating_add(make_page(alloc, page)?.len() as u64);
+    }
+    Ok(made)
 }

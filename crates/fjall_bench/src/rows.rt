@@ -49,6 +49,8 @@ pub enum Action {
     Append,
     /// Each number's pair is inserted into a memtable, beside the database.
     FillMemtable,
+    /// A pair is made for each number, of one text, beside the database.
+    MakePairs,
 }
 
 /// Which numbers a workload has, and in which order.
@@ -133,8 +135,8 @@ const BATCHES: [Workload; 1] = [Workload(
 
 const SYNCED: [Workload; 1] = [Workload("one sync a write", Action::InsertSynced, Choice::Synced)];
 
-// What the machine can do at best: an insert takes a digest, an append and an insertion into a memtable.
-const LIMITS: [Workload; 4] = [
+// What the machine can do at best: an insert takes a digest, an append and an insertion into a memtable, a scan its pairs.
+const LIMITS: [Workload; 5] = [
     Workload("digest 150 bytes", Action::Digest, Choice::Ordered),
     Workload("append 150 bytes", Action::Append, Choice::Ordered),
     Workload(
@@ -147,6 +149,7 @@ const LIMITS: [Workload; 4] = [
         Action::FillMemtable,
         Choice::Shuffled,
     ),
+    Workload("make pairs", Action::MakePairs, Choice::Ordered),
 ];
 
 const FILL: [Workload; 1] = [Workload("fill at random", Action::Insert, Choice::Shuffled)];

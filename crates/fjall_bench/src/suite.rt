@@ -3,7 +3,7 @@
 use crate::clock::{Spent, Stopwatch};
 use crate::data::count_digests;
 use crate::database::{closed, flush, merge, opened};
-use crate::limits::{append_each, fill_memtable};
+use crate::limits::{append_each, fill_memtable, make_pairs};
 use crate::reads::{count_hits, count_misses, count_ranges, scan};
 use crate::report::{HEAD, Row};
 use crate::rows::{Action, GROUPS, Group, Workload};
@@ -168,6 +168,7 @@ fn serve<D: Disk>(
         Action::ReadRanges => return count_ranges(alloc, core, id, numbers),
         Action::Digest => return Ok(count_digests(numbers)),
         Action::FillMemtable => return fill_memtable(alloc, numbers),
+        Action::MakePairs => return make_pairs(alloc, numbers),
         Action::InsertBatches => write_batches(alloc, core, id, numbers)?,
         Action::Flush => flush(alloc, core, id)?,
         Action::Merge => merge(alloc, core, id)?,
@@ -183,6 +184,7 @@ fn tell(rt: &HostRuntime, workload: &Workload, count: u64, spent: Spent) -> Resu
             Action::Digest => "sha2 alone",
             Action::Append => "disk alone",
             Action::FillMemtable => "memtable alone",
+            Action::MakePairs => "pairs alone",
             _ => "pothvilai",
         },
         workload: workload.0,
