@@ -2,6 +2,7 @@
 
 use anyhow::{Context, Result};
 use fjall_base::Disk;
+use fjall_files::MARKER_FILE;
 use fjall_folder::FolderReader;
 use fjall_inspect::{Report, check};
 use fjall_script::Status;
@@ -55,7 +56,7 @@ pub fn run(rt: &HostRuntime, arguments: &[String]) -> Result<Status> {
     let alloc = rt.alloc();
     let mut disk = FolderReader::open(rt, alloc, folder).context(format_args!("{folder}"))?;
     let report = check(alloc, &mut disk).context(format_args!("{folder}"))?;
-    let has_marker = disk.read(alloc, "version")?.is_some();
+    let has_marker = disk.read(alloc, MARKER_FILE)?.is_some();
     tell_faults(rt, &report)?;
     tell_mending(rt, &report, has_marker || report.refusal.is_some())?;
     Ok(if report.is_ok() {

@@ -2,6 +2,7 @@
 
 use anyhow::{Context, Result, bail};
 use fjall::{Database, Host, Keyspace, KeyspaceCreateOptions};
+use fjall_files::MARKER_FILE;
 use fjall_script::Status;
 use log::Log;
 use std::path::Path;
@@ -13,9 +14,6 @@ pub trait Machine: Threads + Wait + Log + Host + Copy + Drop {}
 
 impl<R: Threads + Wait + Log + Host + Copy + Drop> Machine for R {}
 
-/// The file by which a folder is known to have a database.
-const MARKER: &str = "version";
-
 /// Opens the database of a folder, which is made where it is missing.
 pub fn open_or_make<R: Machine + Send + 'static>(rt: &R, folder: &str) -> Result<Database> {
     let opened = Database::builder(rt.host().alloc(), folder)?.open(rt);
@@ -24,7 +22,7 @@ pub fn open_or_make<R: Machine + Send + 'static>(rt: &R, folder: &str) -> Result
 
 /// Opens the database that stands in a folder. Where none does that is told, and nothing is made.
 pub fn open<R: Machine + Send + 'static>(rt: &R, folder: &str) -> Result<Database> {
-    let marker = Path::new(folder).join(rt.host().alloc(), MARKER)?;
+    let marker = Path::new(folder).join(rt.host().alloc(), MARKER_FILE)?;
     if !marker.exists(rt.host()) {
         bail!("{folder}: no database stands there");
     }
