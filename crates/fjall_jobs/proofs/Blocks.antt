@@ -1,12 +1,10 @@
 -- Blocks of a table, gone through one entry after another.
-use Rattle.std.proofs.Common.{◌≡◌, ◌∙◌, ℕ, zero, suc, ◌-◌, ◌<◌, ◌≤◌, List, [], ◌∷◌, ◌++◌, None, Option, Some, Global, drop, length, slice_get, refl, ap, subst, sym, arith}
-use Rattle.std.specs.Option.{option_map}
+use Rattle.std.proofs.Common.{◌≡◌, ◌∙◌, ◌↔◌, ◌==◌, ℕ, zero, suc, ◌-◌, ◌<◌, ◌≤◌, Bool, IsTrue, List, [], ◌∷◌, ◌++◌, Some, Global, drop, length, slice_get, refl, ap, subst, sym, arith}
 use Rattle.std.specs.declared.sync.Arc.{Arc}
+use Rattle.std.proofs.lemmas.Bool.Decides.{nat_tests}
 use Rattle.std.proofs.Math.Seq.{drop-length}
-use Rattle.fjall_base.specs.Pairs.{Bytes}
 use Rattle.fjall_table.specs.Blocks.{Entry}
 use Rattle.fjall_memtable.specs.Sorted.{flat}
-use Rattle.fjall_runs.specs.Keyed.{keyed_in}
 use Rattle.fjall_jobs.specs.Blocks.{IsLeft, entries_in, still_left}
 
 -- what stands at a place is the first of what is left from there
@@ -31,15 +29,18 @@ first_left (x ∷ blocks) left b block n e here value len is =
     first_of_rest x.value (flat (entries_in blocks)) (length x.value - left) e
     (subst (λ (l : List Entry). slice_get l (length l - left) ≡ Some e) block_is (subst (λ (k : ℕ). slice_get block (k - left) ≡ Some e) len is))
 
-owned_of : (e target : Option Entry) (pair : Bytes × Option Bytes) → option_map keyed_in e ≡ Some pair → ((v : Entry) → e ≡ Some v → Some v ≡ target) → Some pair ≡ option_map keyed_in target
-owned_of None target pair is next = absurd cc
-owned_of (Some v) target pair is next = sym is ∙ ap (option_map keyed_in) (next v refl)
+some_left : (xs ys : List Entry) (k : ℕ) → k < length xs → drop k xs ++ ys ≡ [] → ⊥
+some_left [] ys k lt none = omega arith
+some_left (x ∷ xs) ys zero lt none = cc none
+some_left (x ∷ xs) ys (suc k) lt none = some_left xs ys k (omega arith) none
 
-pub owned_left : (blocks : List (Arc (List Entry) Global)) (left : ℕ) (b : Arc (List Entry) Global) (block : List Entry) (n : ℕ) (pair : Bytes × Option Bytes)
-    → Some b ≡ slice_get blocks 0 → block ≡ b.value → n ≡ length block → option_map keyed_in (slice_get block (n - left)) ≡ Some pair
-    → Some pair ≡ option_map keyed_in (slice_get (still_left left (entries_in blocks)) 0)
-owned_left blocks left b block n pair here value len is =
-    owned_of (slice_get block (n - left)) (slice_get (still_left left (entries_in blocks)) 0) pair is (λ v at. first_left blocks left b block n v here value len at)
+-- no entry is left just where no block is
+pub is_over : (blocks : List (Arc (List Entry) Global)) (left : ℕ) (empty : Bool) → empty ≡ (length blocks == 0) → IsLeft left (entries_in blocks) → IsTrue empty ↔ (still_left left (entries_in blocks) ≡ [])
+is_over [] left empty is are = (λ yes. refl, λ none. is)
+is_over (b ∷ blocks) left empty is are = (
+  λ yes. absurd (grind (arith, nat_tests, yes, is)),
+  λ none. absurd (some_left b.value (flat (entries_in blocks)) (length b.value - left) (omega (arith, are.0, are.1)) none),
+)
 
 -- passed within a block
 pub passed_within : (blocks : List (List Entry)) (left : ℕ) → IsLeft left blocks → 1 < left → still_left (left - 1) blocks ≡ drop 1 (still_left left blocks)

@@ -1,16 +1,15 @@
 //! The blocks of a table in memory, as a run.
 
-ghost use Rattle.std.specs.Prelude.{◌≡◌, drop, slice_get, IfOk};
+ghost use Rattle.std.specs.Prelude.{◌≡◌, ◌↔◌, [], drop, slice_get, IsTrue};
 ghost use Rattle.std.specs.Option.{option_map};
 ghost use Rattle.fjall_table.specs.Blocks.{seen};
 ghost use Rattle.fjall_memtable.specs.Sorted.{flat};
-ghost use Rattle.fjall_runs.specs.Keyed.{keyed_in};
 ghost use Rattle.fjall_jobs.specs.Blocks.{IsLeft, entries_in, still_left};
 
-use fjall_runs::{OwnedVersion, Run};
+use fjall_runs::Run;
 use fjall_table::TableEntry;
 use fjall_table_reader::Block;
-use std::alloc::{AllocError, Global};
+use std::alloc::Global;
 use std::marker::Model;
 use std::sync::Arc;
 
@@ -64,13 +63,10 @@ impl<'a> Run for BlocksRun<'a> {
         Some(block.entry(block.len() - self.left))
     }
 
-    fn first_owned(&self, _alloc: Global) -> Result<Option<OwnedVersion>, AllocError>
-        ensures { IfOk result (λ version. version ≡ option_map keyed_in (slice_get self.now 0)) }
+    fn is_empty(&self) -> bool
+        ensures { IsTrue result ↔ (self.now ≡ []) }
     {
-        let Some(block) = self.blocks.first() else {
-            return Ok(None);
-        };
-        Ok(Some(block.pair(block.len() - self.left)?))
+        self.blocks.is_empty()
     }
 
     fn pass(&mut self)

@@ -283,6 +283,11 @@ turned back runs at other run v two get head second =
     two_turned back runs at other v second.0 h.0 second.1 two (get ∙ ap Some h.1) second.2.here
 
 -- a run that has a version
+-- a run that isn't empty begins with a version
+pub headed_by : (run : List Entry) → (run ≡ [] → ⊥) → (v : Entry) × (Some v ≡ slice_get run 0)
+headed_by [] some = absurd (some refl)
+headed_by (v ∷ run) some = (v, refl)
+
 pub has_one : (runs : List (List Entry)) (at : ℕ) (run : List Entry) (v : Entry) → slice_get runs at ≡ Some run → Some v ≡ slice_get run 0 → (v : Entry) × (rest : List Entry) × (slice_get runs at ≡ Some (v ∷ rest))
 has_one runs at run v get head = let h = headed run v head in (v, h.0, get ∙ ap Some h.1)
 

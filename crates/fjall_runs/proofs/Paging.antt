@@ -8,7 +8,6 @@ use Rattle.fjall_base.specs.Pairs.{Bytes, KeyRange}
 use Rattle.fjall_table.specs.Blocks.{Entry}
 use Rattle.fjall_table.specs.Tables.{entries_of, entries_within}
 use Rattle.fjall_memtable.specs.Sorted.{IsFirst, IsUpToFirst, flat, in_turn}
-use Rattle.fjall_runs.proofs.RunPaging as runs
 use Rattle.fjall_runs.proofs.RunPaging.{made_more, made_all, set_run, got_run}
 use Rattle.fjall_runs.specs.declared.page_run.PageRun.{PageRun}
 use Rattle.fjall_runs.specs.declared.page_run.PageRun.TheVariants.{Memory, Table}
@@ -124,13 +123,6 @@ none_joined (run ∷ lefts) (b ∷ behinds) ready h = (ap (λ (r : List Entry). 
 
 -- ---- one version
 
--- as the crate below says it
-to_runs : (back : Bool) (rs : List (List Entry)) (whole : List (Bytes × Bytes)) (all : List Entry → List (Bytes × Bytes)) (made_yet : List (Bytes × Bytes)) (max : ℕ) → IsMade back rs whole all made_yet max → runs.IsMade back rs whole all made_yet max
-to_runs back rs whole all made_yet max is = record { ordered = is.ordered; once = is.once; told = is.told; few = is.few }
-
-of_runs : (back : Bool) (rs : List (List Entry)) (whole : List (Bytes × Bytes)) (all : List Entry → List (Bytes × Bytes)) (made_yet : List (Bytes × Bytes)) (max : ℕ) → runs.IsMade back rs whole all made_yet max → IsMade back rs whole all made_yet max
-of_runs back rs whole all made_yet max is = record { ordered = is.ordered; once = is.once; told = is.told; few = is.few }
-
 joined_more : (back : Bool) (lefts behinds others : List (List Entry)) (at : ℕ) (left rest_left : List Entry) (whole : List (Bytes × Bytes)) (all all_new : List Entry → List (Bytes × Bytes)) (made_yet made_new : List (Bytes × Bytes)) (max : ℕ)
     → IsMade back (joined lefts behinds) whole all made_yet max → Ready lefts behinds → IsFirst back lefts (Some at) → slice_get lefts at ≡ Some left → others ≡ slice_set lefts at rest_left
     → ((v : Entry) (rest : List Entry) → left ≡ v ∷ rest → rest_left ≡ rest)
@@ -144,9 +136,9 @@ joined_more back lefts behinds others at left rest_left whole all all_new made_y
     let j = joined_at lefts behinds at v rest first.2.here in
     let same : joined others behinds ≡ slice_set (joined lefts behinds) at (rest ++ j.more) = ap (λ (rs : List (List Entry)). joined rs behinds) (set ∙ ap (λ (run : List Entry). slice_set lefts at run) (passed v rest begins)) ∙ j.set in
     let up = All-from_recursion (IsUpToFirst back v) (joined lefts behinds) (up_to_all back v lefts behinds ready (recursion_from_All (IsUpToFirst back v) lefts first.2.first)) in
-    of_runs back (joined others behinds) whole all_new made_new max (made_more back (joined lefts behinds) (joined others behinds) at (v ∷ (rest ++ j.more)) (rest ++ j.more) whole all all_new made_yet made_new max
-    (to_runs back (joined lefts behinds) whole all made_yet max is) (v, rest ++ j.more, record { here = j.here; first = up }) j.here same
-    (λ w behind e. cc e) (λ w behind versions e. looked v rest versions begins ∙ ap (λ (u : Entry). all (u ∷ versions)) (head_of v w (rest ++ j.more) behind e)) few lt)
+    made_more back (joined lefts behinds) (joined others behinds) at (v ∷ (rest ++ j.more)) (rest ++ j.more) whole all all_new made_yet made_new max
+    is (v, rest ++ j.more, record { here = j.here; first = up }) j.here same
+    (λ w behind e. cc e) (λ w behind versions e. looked v rest versions begins ∙ ap (λ (u : Entry). all (u ∷ versions)) (head_of v w (rest ++ j.more) behind e)) few lt
   where
     head_of : (v w : Entry) (vs ws : List Entry) → v ∷ vs ≡ w ∷ ws → v ≡ w
     head_of v w vs ws e = cc e
@@ -154,7 +146,7 @@ joined_more back lefts behinds others at left rest_left whole all all_new made_y
 -- all was looked at
 pub joined_all : (back : Bool) (lefts behinds : List (List Entry)) (whole : List (Bytes × Bytes)) (all : List Entry → List (Bytes × Bytes)) (made_yet : List (Bytes × Bytes)) (max : ℕ) → IsMade back (joined lefts behinds) whole all made_yet max → Ready lefts behinds → IsFirst back lefts None → all [] ≡ whole
 joined_all back lefts behinds whole all made_yet max is ready none =
-    made_all back (joined lefts behinds) whole all made_yet max (to_runs back (joined lefts behinds) whole all made_yet max is)
+    made_all back (joined lefts behinds) whole all made_yet max is
     (All-from_recursion (λ run. run ≡ []) (joined lefts behinds) (none_joined lefts behinds ready (recursion_from_All (λ run. run ≡ []) lefts none)))
 
 -- ---- runs of a page

@@ -1,6 +1,6 @@
 -- Parts of tables that are gone through block by block.
 use Rattle.std.proofs.Common.{◌≡◌, ℕ, zero, suc, ◌+◌, ◌-◌, ◌<◌, ◌≤◌, Bool, IsTrue, true, false, List, [], ◌∷◌, ◌++◌, length, take, drop, reverse, slice_get, Some, refl, sym, ap, subst, ◌∙◌, ◌⊎◌, inl, inr, arith}
-use Rattle.std.proofs.lemmas.List.{reverse-append}
+use Rattle.std.proofs.lemmas.List.{length-reverse, length-take-le, reverse-append}
 use Rattle.std.proofs.lemmas.Option.{slice_get_past}
 use Rattle.std.proofs.lemmas.List.Elements.{filter-append}
 use Rattle.std.proofs.lemmas.List.Concat.{flat_map-cons}
@@ -141,6 +141,24 @@ fewer_by a lt = by a.back
 nothing_turned : (back : Bool) (held : List Entry) → held ≡ [] → in_turn back held ≡ []
 nothing_turned false held e = e
 nothing_turned true held e = ap (λ (es : List Entry). reverse es) e
+
+-- nothing stands between places that are the same, from either end, and something between others
+length_turned : (back : Bool) (held : List Entry) → length (in_turn back held) ≡ length held
+length_turned false held = refl
+length_turned true held = length-reverse held
+
+pub nothing_held : (back : Bool) (es : List Entry) (start end : ℕ) → start ≡ end → in_turn back (held_in es start end) ≡ []
+nothing_held back es start end same =
+    let none : end - start ≡ 0 = omega (arith, same) in
+    nothing_turned back (held_in es start end) (ap (λ (n : ℕ). take n (drop start es)) none)
+
+pub places_meet : (back : Bool) (es : List Entry) (start end : ℕ) → start ≤ end → end ≤ length es → in_turn back (held_in es start end) ≡ [] → start ≡ end
+places_meet back es start end le within none =
+    let left = length_left start es in
+    let held = length-take-le (end - start) (drop start es) (omega (arith, left, within)) in
+    let turned = length_turned back (held_in es start end) in
+    let zero : length (in_turn back (held_in es start end)) ≡ 0 = ap (λ (xs : List Entry). length xs) none in
+    omega (arith, held, turned, zero, le)
 
 -- what was dry holds the next block's entries now
 holds_more : (range : KeyRange) (blocks : List (List Entry)) (old new : TablePart) (b : List Entry) → IsDryPart old → slice_get blocks (next_block old.ahead) ≡ Some b

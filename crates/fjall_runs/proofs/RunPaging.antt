@@ -7,14 +7,8 @@ use Rattle.fjall_base.specs.Pairs.{Bytes}
 use Rattle.fjall_table.specs.Blocks.{Entry}
 use Rattle.fjall_views.specs.Jobs.{OnceEach}
 use Rattle.fjall_memtable.specs.Sorted.{IsFirst, IsInTurn, flat, in_turn, sorted}
+use Rattle.fjall_runs.specs.Pages.{IsMade}
 use Rattle.fjall_memtable.proofs.Taking.{first_taken, runs_in_turn, others_once}
-
--- The runs are in order, and what is made with all that is left in them is the whole.
-pub record IsMade (back : Bool) (runs : List (List Entry)) (whole : List (Bytes × Bytes)) (all : List Entry → List (Bytes × Bytes)) (made : List (Bytes × Bytes)) (max : ℕ) : Type 0 where
-  pub ordered : All (IsInTurn back) runs
-  pub once : OnceEach (flat runs)
-  pub told : all (in_turn back (sorted (flat runs))) ≡ whole
-  pub few : length made ≤ max
 
 -- ---- one version
 

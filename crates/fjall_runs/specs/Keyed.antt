@@ -19,13 +19,9 @@ abbrev pub pairs_of_last : Option (Bytes × Option Bytes) → List (Bytes × Byt
 pairs_of_last None = []
 pairs_of_last (Some last) = pair_in last.0 last.1
 
--- all pairs, that of the last key among them
-abbrev pub all_pairs : Keyed → List (Bytes × Bytes)
-all_pairs keyed = keyed.before ++ pairs_of_last keyed.last
-
--- the same pairs, none of which is the last key's
+-- all pairs, that of the last key among them, and no last key any more
 abbrev pub settled : Keyed → Keyed
-settled keyed = record { before = all_pairs keyed; last = None }
+settled keyed = record { before = keyed.before ++ pairs_of_last keyed.last; last = None }
 
 -- a version of the last key that is numbered by the bound, and so makes the key's pair
 abbrev pub found_in : ℕ → Option (Bytes × Option Bytes) → Option Entry

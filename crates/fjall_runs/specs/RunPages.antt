@@ -1,9 +1,10 @@
 -- Pages that are being made.
-use Rattle.std.specs.Prelude.{List, ◌++◌}
+use Rattle.std.specs.Prelude.{ℕ, ◌-◌, List, ◌++◌, Option, Some, None, length, slice_get}
+use Rattle.std.specs.Option.{option_map}
 use Rattle.fjall_base.specs.Pairs.{Bytes}
 use Rattle.fjall_table.specs.Blocks.{Entry}
 use Rattle.fjall_memtable.specs.SortedPages.{pairs_back, pairs_of}
-use Rattle.fjall_runs.specs.Keyed.{all_pairs, found_in, key_of}
+use Rattle.fjall_runs.specs.Keyed.{found_in}
 use Rattle.fjall_runs.specs.declared.front_page.FrontPage.{FrontPage}
 use Rattle.fjall_runs.specs.declared.back_page.BackPage.{BackPage}
 
@@ -11,11 +12,16 @@ use Rattle.fjall_runs.specs.declared.back_page.BackPage.{BackPage}
 
 -- the pairs so far
 abbrev pub front_pairs : FrontPage → List (Bytes × Bytes)
-front_pairs page = all_pairs page.pairs
+front_pairs page = page.pairs.items
+
+-- the key that was settled last: one that has no pair, or that of the last pair
+abbrev pub settled_key : Option Bytes → List (Bytes × Bytes) → Option Bytes
+settled_key (Some key) pairs = Some key
+settled_key None pairs = option_map (λ pair. pair.0) (slice_get pairs (length pairs - 1))
 
 -- all pairs of it, where these versions are still to be looked at
 abbrev pub front_with : FrontPage → List Entry → List (Bytes × Bytes)
-front_with page versions = all_pairs page.pairs ++ pairs_of page.instant page.bound (key_of page.pairs.last) versions
+front_with page versions = page.pairs.items ++ pairs_of page.instant page.bound (settled_key page.bare page.pairs.items) versions
 
 -- ---- from behind
 

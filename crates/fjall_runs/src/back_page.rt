@@ -8,7 +8,7 @@ ghost use Rattle.fjall_runs.specs.Keyed.{found_in};
 use crate::front_page::value_shown;
 use crate::keyed_pairs::KeyedPairs;
 use crate::keys::is_same;
-use crate::run::Run;
+use crate::run::PageVersions;
 use fjall_base::KvPair;
 use fjall_table::TableEntry;
 use std::alloc::{AllocError, Global};
@@ -76,10 +76,11 @@ impl BackPage {
         self.pairs.settle()
     }
 
-    /// Looks at the first version of a run, which is the next one from behind, and adds the pair of the key that it settles. It is
-    /// refused for want of memory alone; the page is of no more use then.
-    pub fn look<R: Run>(&mut self, run: &R) -> Result<(), AllocError>
+    /// Looks at the first version of a run, which is the next one from behind, and adds the pair of the key that it settles; where the run
+    /// has none, the page stays as it is. It is refused for want of memory alone; the page is of no more use then.
+    pub fn look<R: PageVersions>(&mut self, run: &R) -> Result<(), AllocError>
         ensures all { OnOk result ((v : Entry) (rest versions : List Entry) → R.left run.now ≡ v ∷ rest → back_with self.new versions ≡ back_with self.old (v ∷ versions)) }
+        ensures none { R.left run.now ≡ [] → self.new ≡ self.old }
         ensures few { OnOk result (length (back_pairs self.new) ≤ length (back_pairs self.old) + 1) }
     {
         let Some(version) = run.first() else {
@@ -105,9 +106,9 @@ impl BackPage {
     {
         let BackPage { mut pairs, .. } = self;
         if pairs.count_before() >= max {
-            return Ok(pairs.finish(true));
+            return Ok(pairs.finish());
         }
         pairs.settle()?;
-        Ok(pairs.finish(true))
+        Ok(pairs.finish())
     }
 }

@@ -1,17 +1,19 @@
 //! Pages from the start.
 
-ghost use Rattle.std.specs.Prelude.{◌≡◌, ◌≤◌, ◌+◌, ◌++◌, ◌∷◌, [], List, None, length, IfOk, OnOk, IsTrue, ◌↔◌};
+ghost use Rattle.std.specs.Prelude.{◌≡◌, ◌≤◌, ◌+◌, ◌++◌, ◌∷◌, [], List, None, Some, length, IfOk, OnOk, IsTrue, ◌↔◌};
+ghost use Rattle.std.specs.Option.{option_map};
 ghost use Rattle.fjall_base.specs.Pairs.{Bytes};
 ghost use Rattle.fjall_table.specs.Blocks.{Entry, seen};
 ghost use Rattle.fjall_memtable.specs.SortedPages.{is_settled, pair_in, pair_of, pairs_of};
-ghost use Rattle.fjall_runs.specs.Keyed.{key_of};
 
-use crate::keyed_pairs::KeyedPairs;
 use crate::keys::is_same;
-use crate::run::Run;
-use fjall_base::{KvPair, UserValue};
+use crate::run::PageVersions;
+use fjall_base::{KvPair, UserKey, UserValue};
 use fjall_table::TableEntry;
 use std::alloc::{AllocError, Global};
+
+// Room for so many pairs is made with the first one.
+const FIRST_PAIRS: usize = 16;
 
 /// A page that is made of versions in order, from the start, by one look at each.
 #[derive(Drop)]
@@ -19,7 +21,9 @@ pub struct FrontPage {
     alloc: Global,
     instant: u64,
     bound: u64,
-    pairs: KeyedPairs,
+    pairs: Vec<KvPair>,
+    /// The key that was settled last, where it has no pair.
+    bare: Option<UserKey>,
 }
 
 // What the newest version of a key shows of its value: none of it where the version is cleared.
@@ -33,19 +37,8 @@ pub(crate) fn value_shown(value: Option<UserValue>, number: u64, bound: u64) -> 
     value
 }
 
-// Whether the version is of the last key.
-#[inline(always)]
-fn is_of(pairs: &KeyedPairs, version: &TableEntry<'_>) -> bool
-    ensures { result ≡ is_settled (key_of pairs.now.last) (seen version.now) }
-{
-    match pairs.last_key() {
-        Some(key) => is_same(version.key, key),
-        None => false,
-    }
-}
-
 impl FrontPage {
-    ghost use Rattle.fjall_runs.specs.RunPages.{front_pairs, front_with};
+    ghost use Rattle.fjall_runs.specs.RunPages.{front_pairs, front_with, settled_key};
 
     /// A page with no pair yet, of what is numbered below the instant; all that is numbered below the bound is cleared. It
     /// takes no memory.
@@ -57,7 +50,8 @@ impl FrontPage {
             alloc,
             instant,
             bound,
-            pairs: KeyedPairs::new(alloc),
+            pairs: Vec::new(alloc),
+            bare: None,
         }
     }
 
@@ -72,36 +66,78 @@ impl FrontPage {
     pub fn is_empty(&self) -> bool
         ensures { IsTrue result ↔ (front_pairs self.now ≡ []) }
     {
-        self.len() == 0
+        self.pairs.is_empty()
     }
 
-    /// Looks at the first version of a run, which is the next one, and adds the pair that it makes. It is refused for want of memory
-    /// alone; the page is of no more use then.
-    pub fn look<R: Run>(&mut self, run: &R) -> Result<(), AllocError>
+    // The key that was settled last.
+    #[inline(always)]
+    fn settled_key(&self) -> Option<&[u8]>
+        ensures { option_map (λ key. key.now) result ≡ settled_key self.now.bare self.now.pairs.items }
+    {
+        if let Some(key) = &self.bare {
+            return Some(key.as_slice());
+        }
+        match self.pairs.last() {
+            Some((key, _)) => Some(key.as_slice()),
+            None => None,
+        }
+    }
+
+    // Whether the version is of that key.
+    #[inline(always)]
+    fn is_settled(&self, version: &TableEntry<'_>) -> bool
+        ensures { result ≡ is_settled (settled_key self.now.bare self.now.pairs.items) (seen version.now) }
+    {
+        match self.settled_key() {
+            Some(key) => is_same(version.key, key),
+            None => false,
+        }
+    }
+
+    // Settles a key by the value that its newest version shows, if it shows one.
+    #[inline(always)]
+    fn settle(&mut self, key: UserKey, value: Option<UserValue>) -> Result<(), AllocError>
+        ensures instant { self.new.instant ≡ self.old.instant }
+        ensures bound { self.new.bound ≡ self.old.bound }
+        ensures pairs { OnOk result (front_pairs self.new ≡ front_pairs self.old ++ pair_in key value) }
+        ensures key { OnOk result (settled_key self.new.bare self.new.pairs.items ≡ Some key) }
+    {
+        let Some(value) = value else {
+            self.bare = Some(key);
+            return Ok(());
+        };
+        if self.pairs.is_empty() {
+            self.pairs.reserve(FIRST_PAIRS)?;
+        }
+        self.pairs.push((key, value))?;
+        self.bare = None;
+        Ok(())
+    }
+
+    /// Looks at the first version of a run, which is the next one, and adds the pair that it makes; where the run has none, the page
+    /// stays as it is. It is refused for want of memory alone; the page is of no more use then.
+    pub fn look<R: PageVersions>(&mut self, run: &R) -> Result<(), AllocError>
         ensures all { OnOk result ((v : Entry) (rest versions : List Entry) → R.left run.now ≡ v ∷ rest → front_with self.new versions ≡ front_with self.old (v ∷ versions)) }
+        ensures none { R.left run.now ≡ [] → self.new ≡ self.old }
         ensures few { OnOk result (length (front_pairs self.new) ≤ length (front_pairs self.old) + 1) }
     {
         let Some(version) = run.first() else {
             return Ok(());
         };
         let number = version.number;
-        if number >= self.instant || is_of(&self.pairs, &version) {
+        if number >= self.instant || self.is_settled(&version) {
             return Ok(());
         }
-        self.pairs.settle()?;
-        if let Some((key, value)) = run.first_owned(self.alloc)? {
-            self.pairs
-                .set_last(key, value_shown(value, number, self.bound));
-        }
-        Ok(())
+        let Some((key, value)) = run.first_owned(self.alloc)? else {
+            return Ok(());
+        };
+        self.settle(key, value_shown(value, number, self.bound))
     }
 
-    /// The pairs in order. It is refused for want of memory alone.
-    pub fn finish(self) -> Result<Vec<KvPair>, AllocError>
-        ensures { IfOk result (λ pairs. pairs.items ≡ front_pairs self) }
+    /// The pairs in order.
+    pub fn finish(self) -> Vec<KvPair>
+        ensures { result.items ≡ front_pairs self }
     {
-        let FrontPage { mut pairs, .. } = self;
-        pairs.settle()?;
-        Ok(pairs.finish(false))
+        self.pairs
     }
 }

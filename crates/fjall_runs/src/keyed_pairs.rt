@@ -1,9 +1,8 @@
 //! Pairs in the making: those that are settled, and the last key, which may get one.
 
-ghost use Rattle.std.specs.Prelude.{◌≡◌, [], None, Some, length, OnOk};
+ghost use Rattle.std.specs.Prelude.{◌≡◌, [], None, Some, length, reverse, OnOk};
 ghost use Rattle.std.specs.Option.{option_map};
-ghost use Rattle.fjall_memtable.specs.Sorted.{in_turn};
-ghost use Rattle.fjall_runs.specs.Keyed.{all_pairs, key_of, settled};
+ghost use Rattle.fjall_runs.specs.Keyed.{key_of, settled};
 
 use fjall_base::{KvPair, UserKey, UserValue};
 use std::alloc::{AllocError, Global};
@@ -47,16 +46,6 @@ impl KeyedPairs {
         self.pairs.len()
     }
 
-    /// How many pairs there are, that of the last key among them.
-    pub fn len(&self) -> usize
-        ensures { result ≡ length (all_pairs self.now) }
-    {
-        match &self.last {
-            Some((_, Some(_))) => self.pairs.len() + 1,
-            _ => self.pairs.len(),
-        }
-    }
-
     /// The last key, if there is one.
     pub fn last_key(&self) -> Option<&[u8]>
         ensures { option_map (λ key. key.now) result ≡ key_of self.now.last }
@@ -94,14 +83,12 @@ impl KeyedPairs {
         self.last = Some((key, value));
     }
 
-    /// The pairs before the last key, as they came, or the last one first where `back` holds.
-    pub fn finish(self, back: bool) -> Vec<KvPair>
-        ensures { result.items ≡ in_turn back self.before }
+    /// The pairs before the last key, the last one first.
+    pub fn finish(self) -> Vec<KvPair>
+        ensures { result.items ≡ reverse self.before }
     {
         let KeyedPairs { mut pairs, .. } = self;
-        if back {
-            pairs.as_mut_slice().reverse();
-        }
+        pairs.as_mut_slice().reverse();
         pairs
     }
 }

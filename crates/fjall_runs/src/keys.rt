@@ -10,7 +10,7 @@ pub(crate) fn is_same(key: &[u8], other: &[u8]) -> bool
 {
     if let Some(end) = key.last_chunk::<8>()
         && let Some(other_end) = other.last_chunk::<8>()
-        && *end != *other_end
+        && u64::from_le_bytes(*end) != u64::from_le_bytes(*other_end)
     {
         return false;
     }

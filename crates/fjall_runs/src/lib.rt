@@ -20,6 +20,6 @@ pub use front_page::FrontPage;
 pub use memtable_run::MemtableRun;
 pub use page_run::PageRun;
 pub use pages::{PageQuery, page};
-pub use run::{OwnedVersion, Run, first_of, first_two_of, next_two_of};
+pub use run::{OwnedVersion, PageVersions, Run, first_of, first_two_of, next_two_of};
 pub use run_pages::page_of_runs;
 pub use table_run::TableRun;

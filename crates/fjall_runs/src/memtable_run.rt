@@ -1,13 +1,13 @@
 //! The versions of a memtable, as a run.
 
-ghost use Rattle.std.specs.Prelude.{◌≡◌, drop, slice_get, IfOk};
+ghost use Rattle.std.specs.Prelude.{◌≡◌, ◌↔◌, [], drop, slice_get, IfOk, IsTrue};
 ghost use Rattle.std.specs.Option.{option_map};
 ghost use Rattle.fjall_table.specs.Blocks.{seen};
 ghost use Rattle.fjall_memtable.specs.Sorted.{in_turn};
 ghost use Rattle.fjall_runs.specs.Heads.{with_head};
 ghost use Rattle.fjall_runs.specs.Keyed.{keyed_in};
 
-use crate::run::{OwnedVersion, Run};
+use crate::run::{OwnedVersion, PageVersions, Run};
 use fjall_base::Slice;
 use fjall_memtable::Versions;
 use fjall_table::TableEntry;
@@ -64,6 +64,22 @@ impl<'a> Run for MemtableRun<'a> {
         self.head
     }
 
+    fn is_empty(&self) -> bool
+        ensures { IsTrue result ↔ (self.now ≡ []) }
+    {
+        self.head.is_none()
+    }
+
+    fn pass(&mut self)
+        ensures { self.new ≡ drop 1 self.old }
+    {
+        if self.head.is_some() {
+            self.head = take_next(&mut self.rest, self.back);
+        }
+    }
+}
+
+impl<'a> PageVersions for MemtableRun<'a> {
     fn first_owned(&self, alloc: Global) -> Result<Option<OwnedVersion>, AllocError>
         ensures { IfOk result (λ version. version ≡ option_map keyed_in (slice_get self.now 0)) }
     {
@@ -76,13 +92,5 @@ impl<'a> Run for MemtableRun<'a> {
             None => None,
         };
         Ok(Some((key, value)))
-    }
-
-    fn pass(&mut self)
-        ensures { self.new ≡ drop 1 self.old }
-    {
-        if self.head.is_some() {
-            self.head = take_next(&mut self.rest, self.back);
-        }
     }
 }

@@ -133,7 +133,7 @@ impl PageMaker {
         ensures { IfOk result (λ pairs. pairs.items ≡ in_turn (goes_back self) (take max (made_with self []))) }
     {
         match self {
-            PageMaker::Front(page) => page.finish(),
+            PageMaker::Front(page) => Ok(page.finish()),
             PageMaker::Back(page) => page.finish(max),
         }
     }

@@ -1,6 +1,6 @@
 //! The runs that a page is made of.
 
-ghost use Rattle.std.specs.Prelude.{◌≡◌, ◌<◌, ⊤, ℕ, List, length, drop, slice_get, position, OnOk, IfErr, IfOk, IsTrue};
+ghost use Rattle.std.specs.Prelude.{◌≡◌, ◌↔◌, ◌<◌, ⊤, ℕ, [], List, length, drop, slice_get, position, OnOk, IfErr, IfOk, IsTrue};
 ghost use Rattle.std.specs.Option.{option_map};
 ghost use Rattle.fjall_base.specs.Pairs.{key_range};
 ghost use Rattle.fjall_table.specs.Blocks.{Entry, seen};
@@ -11,7 +11,7 @@ ghost use Rattle.fjall_runs.specs.Runs.{ahead_of, is_dry, left_in, to_come};
 ghost use Rattle.fjall_runs.specs.Tables.{EndsWithinBlocks, all_in};
 
 use crate::memtable_run::MemtableRun;
-use crate::run::{OwnedVersion, Run};
+use crate::run::{OwnedVersion, PageVersions, Run};
 use crate::table_run::TableRun;
 use fjall_base::{Disk, KeyBounds, Result};
 use fjall_table::TableEntry;
@@ -88,12 +88,12 @@ impl<'a> Run for PageRun<'a> {
         }
     }
 
-    fn first_owned(&self, alloc: Global) -> result::Result<Option<OwnedVersion>, AllocError>
-        ensures { IfOk result (λ version. version ≡ option_map keyed_in (slice_get (left_in self.now) 0)) }
+    fn is_empty(&self) -> bool
+        ensures { IsTrue result ↔ (left_in self.now ≡ []) }
     {
         match self {
-            PageRun::Memory(run) => run.first_owned(alloc),
-            PageRun::Table(run) => run.first_owned(alloc),
+            PageRun::Memory(run) => run.is_empty(),
+            PageRun::Table(run) => run.is_empty(),
         }
     }
 
@@ -101,6 +101,18 @@ impl<'a> Run for PageRun<'a> {
         ensures { left_in self.new ≡ drop 1 (left_in self.old) }
     {
         self.skip();
+    }
+}
+
+impl<'a> PageVersions for PageRun<'a> {
+    #[inline(always)]
+    fn first_owned(&self, alloc: Global) -> result::Result<Option<OwnedVersion>, AllocError>
+        ensures { IfOk result (λ version. version ≡ option_map keyed_in (slice_get (left_in self.now) 0)) }
+    {
+        match self {
+            PageRun::Memory(run) => run.first_owned(alloc),
+            PageRun::Table(run) => run.first_owned(alloc),
+        }
     }
 }
 

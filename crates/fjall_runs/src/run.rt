@@ -22,13 +22,20 @@ pub trait Run {
     fn first(&self) -> Option<TableEntry<'_>>
         ensures { option_map seen result ≡ slice_get (left self.now) 0 };
 
-    /// The same, owned: as parts of its block's text, where it stands in one, and else as copies.
-    fn first_owned(&self, alloc: Global) -> Result<Option<OwnedVersion>, AllocError>
-        ensures { IfOk result (λ version. version ≡ option_map keyed_in (slice_get (left self.now) 0)) };
+    /// Whether none is left.
+    fn is_empty(&self) -> bool
+        ensures { IsTrue result ↔ (left self.now ≡ []) };
 
     /// Passes the first one over.
     fn pass(&mut self)
         ensures { left self.new ≡ drop 1 (left self.old) };
+}
+
+/// Runs of which pages are made.
+pub trait PageVersions: Run {
+    /// The version that comes first, owned: as parts of its block's text, where it stands in one, and else as copies.
+    fn first_owned(&self, alloc: Global) -> Result<Option<OwnedVersion>, AllocError>
+        ensures { IfOk result (λ version. version ≡ option_map keyed_in (slice_get (Self.left self.now) 0)) };
 }
 
 #[inline(always)]
@@ -140,10 +147,13 @@ pub fn next_two_of<R: Run>(
     ensures other { IfSome result (λ two. IfSome two.1 (λ at. at < length runs.now)) }
     ensures left { IfSome result (λ _. (v : Entry) × (rest : List Entry) × (slice_get (map R.left runs.now) at ≡ Some (v ∷ rest))) }
 {
-    let version = runs[at].first()?;
+    if runs[at].is_empty() {
+        return None;
+    }
     let Some(next) = other else {
         return Some((at, None));
     };
+    let version = runs[at].first()?;
     let head = runs[next].first()?;
     if comes_before(&version, &head, back) {
         return Some((at, Some(next)));

@@ -10,12 +10,12 @@ ghost use Rattle.fjall_runs.specs.RunPages.{back_pairs, back_with, front_pairs, 
 
 use crate::back_page::BackPage;
 use crate::front_page::FrontPage;
-use crate::run::{Run, first_of};
+use crate::run::{PageVersions, first_of};
 use fjall_base::KvPair;
 use std::alloc::{AllocError, Global};
 
 // Looks at the first version of a run, and passes it over.
-fn look_from_front<R: Run>(page: &mut FrontPage, run: &mut R) -> Result<(), AllocError>
+fn look_from_front<R: PageVersions>(page: &mut FrontPage, run: &mut R) -> Result<(), AllocError>
     ensures left { OnOk result ((v : Entry) (rest : List Entry) → R.left run.old ≡ v ∷ rest → R.left run.new ≡ rest) }
     ensures all { OnOk result ((v : Entry) (rest versions : List Entry) → R.left run.old ≡ v ∷ rest → front_with page.new versions ≡ front_with page.old (v ∷ versions)) }
     ensures few { OnOk result (length (front_pairs page.new) ≤ length (front_pairs page.old) + 1) }
@@ -25,7 +25,7 @@ fn look_from_front<R: Run>(page: &mut FrontPage, run: &mut R) -> Result<(), Allo
     Ok(())
 }
 
-fn page_from_front<R: Run>(
+fn page_from_front<R: PageVersions>(
     alloc: Global,
     runs: &mut [R],
     instant: u64,
@@ -39,15 +39,15 @@ fn page_from_front<R: Run>(
     let mut page = FrontPage::new(alloc, instant, bound);
     while page.len() < max {
         let Some(at) = first_of(runs, false) else {
-            return page.finish();
+            return Ok(page.finish());
         };
         look_from_front(&mut page, &mut runs[at])?;
     }
-    page.finish()
+    Ok(page.finish())
 }
 
 // Looks at the first version of a run that is gone through from behind, and passes it over.
-fn look_from_behind<R: Run>(page: &mut BackPage, run: &mut R) -> Result<(), AllocError>
+fn look_from_behind<R: PageVersions>(page: &mut BackPage, run: &mut R) -> Result<(), AllocError>
     ensures left { OnOk result ((v : Entry) (rest : List Entry) → R.left run.old ≡ v ∷ rest → R.left run.new ≡ rest) }
     ensures all { OnOk result ((v : Entry) (rest versions : List Entry) → R.left run.old ≡ v ∷ rest → back_with page.new versions ≡ back_with page.old (v ∷ versions)) }
     ensures few { OnOk result (length (back_pairs page.new) ≤ length (back_pairs page.old) + 1) }
@@ -57,7 +57,7 @@ fn look_from_behind<R: Run>(page: &mut BackPage, run: &mut R) -> Result<(), Allo
     Ok(())
 }
 
-fn page_from_behind<R: Run>(
+fn page_from_behind<R: PageVersions>(
     alloc: Global,
     runs: &mut [R],
     instant: u64,
@@ -81,7 +81,7 @@ fn page_from_behind<R: Run>(
 /// The pairs that the runs' versions make at an instant, where all that is numbered below the bound is cleared: the first
 /// `max` of them, or the last `max` where `back` holds and the runs are gone through from behind; in the order of their
 /// keys in both cases. It is refused for want of memory alone.
-pub fn page_of_runs<R: Run>(
+pub fn page_of_runs<R: PageVersions>(
     alloc: Global,
     runs: &mut [R],
     instant: u64,

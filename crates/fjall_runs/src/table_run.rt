@@ -11,7 +11,7 @@ ghost use Rattle.fjall_memtable.specs.Sorted.{in_turn};
 ghost use Rattle.fjall_runs.specs.Keyed.{keyed_in};
 ghost use Rattle.fjall_runs.specs.Parts.{Ahead, IsDryPart, blocks_ahead, left_of, next_block, still_to_come, without_next};
 
-use crate::run::{OwnedVersion, Run};
+use crate::run::{OwnedVersion, PageVersions, Run};
 use fjall_base::{Disk, KeyBounds, Result};
 use fjall_table::TableEntry;
 use fjall_table_reader::{Block, TableReader};
@@ -164,6 +164,21 @@ impl Run for TableRun {
         Some(block.entry(self.start))
     }
 
+    fn is_empty(&self) -> bool
+        ensures { IsTrue result ↔ (left_of self.now ≡ []) }
+    {
+        self.start == self.end
+    }
+
+    fn pass(&mut self)
+        ensures { left_of self.new ≡ drop 1 (left_of self.old) }
+    {
+        self.skip();
+    }
+}
+
+impl PageVersions for TableRun {
+    #[inline(always)]
     fn first_owned(&self, _alloc: Global) -> result::Result<Option<OwnedVersion>, AllocError>
         ensures { IfOk result (λ version. version ≡ option_map keyed_in (slice_get (left_of self.now) 0)) }
     {
@@ -175,11 +190,5 @@ impl Run for TableRun {
         }
         let at = if self.back { self.end - 1 } else { self.start };
         Ok(Some(block.pair(at)?))
-    }
-
-    fn pass(&mut self)
-        ensures { left_of self.new ≡ drop 1 (left_of self.old) }
-    {
-        self.skip();
     }
 }

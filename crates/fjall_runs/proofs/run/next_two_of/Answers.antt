@@ -2,7 +2,7 @@ use Rattle.std.proofs.Common.{[], ◌<◌, ℕ, length, IfSome, Option, ap, map,
 use Rattle.std.specs.Option.{option_map}
 use Rattle.fjall_table.specs.Blocks.{seen}
 use Rattle.fjall_memtable.specs.Sorted.{IsFirst}
-use Rattle.fjall_runs.proofs.Heads.{ahead_first, alone_first, got_at, has_one, length_of, overtaken, turned}
+use Rattle.fjall_runs.proofs.Heads.{ahead_first, alone_first, got_at, has_one, headed_by, length_of, overtaken, turned}
 use Rattle.fjall_runs.proofs.run.next_two_of.Goals as goal
 
 pub returns-in_default-clause-first : goal.returns-in_default-clause-first
@@ -11,11 +11,10 @@ returns-in_default-clause-first g c second =
     let runs = c.args.runs.now in
     let at = c.args.at in
     let run = left c.index-runs-at.result in
-    let v = seen c.in_ok-version.version in
     let get = got_at left runs at c.index-runs-at.result c.requires.within c.index-runs-at.is in
-    let head = sym (ap (option_map seen) c.in_ok-version.was) ∙ c.first.ensures in
+    let head = headed_by run (λ none. absurd (cc (c.is_empty.ensures.1 none, c.if-is_empty.false))) in
     let none = subst (λ (other : Option ℕ). IsFirst c.args.back (slice_set (map left runs) at []) other) c.in_default.is second in
-    alone_first c.args.back (map left runs) at run v get head none
+    alone_first c.args.back (map left runs) at run head.0 get head.1 none
 
 pub returns-in_default-clause-left : goal.returns-in_default-clause-left
 returns-in_default-clause-left g c =
@@ -23,19 +22,18 @@ returns-in_default-clause-left g c =
     let runs = c.args.runs.now in
     let at = c.args.at in
     let run = left c.index-runs-at.result in
-    let v = seen c.in_ok-version.version in
     let get = got_at left runs at c.index-runs-at.result c.requires.within c.index-runs-at.is in
-    let head = sym (ap (option_map seen) c.in_ok-version.was) ∙ c.first.ensures in
-    has_one (map left runs) at run v get head
+    let head = headed_by run (λ none. absurd (cc (c.is_empty.ensures.1 none, c.if-is_empty.false))) in
+    has_one (map left runs) at run head.0 get head.1
 
 pub returns-then-comes_before-clause-first : goal.returns-then-comes_before-clause-first
 returns-then-comes_before-clause-first g c second =
     let left = g.R.Run.left in
     let runs = c.args.runs.now in
     let at = c.args.at in
-    let run = left c.index-runs-at.result in
+    let run = left c.index-runs-at-2.result in
     let v = seen c.in_ok-version.version in
-    let get = got_at left runs at c.index-runs-at.result c.requires.within c.index-runs-at.is in
+    let get = got_at left runs at c.index-runs-at-2.result c.requires.within c.index-runs-at-2.is in
     let head = sym (ap (option_map seen) c.in_ok-version.was) ∙ c.first.ensures in
     let next = c.in-Some.next in
     let within : next < length runs = subst (λ (other : Option ℕ). IfSome other (λ other. other < length runs)) c.in-Some.is c.requires.other in
@@ -50,9 +48,9 @@ returns-then-comes_before-clause-left g c =
     let left = g.R.Run.left in
     let runs = c.args.runs.now in
     let at = c.args.at in
-    let run = left c.index-runs-at.result in
+    let run = left c.index-runs-at-2.result in
     let v = seen c.in_ok-version.version in
-    let get = got_at left runs at c.index-runs-at.result c.requires.within c.index-runs-at.is in
+    let get = got_at left runs at c.index-runs-at-2.result c.requires.within c.index-runs-at-2.is in
     let head = sym (ap (option_map seen) c.in_ok-version.was) ∙ c.first.ensures in
     has_one (map left runs) at run v get head
 
@@ -61,9 +59,9 @@ returns-then-runs-eq2-clause-first g c second =
     let left = g.R.Run.left in
     let runs = c.args.runs.now in
     let at = c.args.at in
-    let run = left c.index-runs-at.result in
+    let run = left c.index-runs-at-2.result in
     let v = seen c.in_ok-version.version in
-    let get = got_at left runs at c.index-runs-at.result c.requires.within c.index-runs-at.is in
+    let get = got_at left runs at c.index-runs-at-2.result c.requires.within c.index-runs-at-2.is in
     let head = sym (ap (option_map seen) c.in_ok-version.was) ∙ c.first.ensures in
     let next = c.in-Some.next in
     let within : next < length runs = subst (λ (other : Option ℕ). IfSome other (λ other. other < length runs)) c.in-Some.is c.requires.other in
@@ -78,9 +76,9 @@ returns-then-runs-eq2-clause-second g c second =
     let left = g.R.Run.left in
     let runs = c.args.runs.now in
     let at = c.args.at in
-    let run = left c.index-runs-at.result in
+    let run = left c.index-runs-at-2.result in
     let v = seen c.in_ok-version.version in
-    let get = got_at left runs at c.index-runs-at.result c.requires.within c.index-runs-at.is in
+    let get = got_at left runs at c.index-runs-at-2.result c.requires.within c.index-runs-at-2.is in
     let head = sym (ap (option_map seen) c.in_ok-version.was) ∙ c.first.ensures in
     let some = subst (λ (other : Option ℕ). IsFirst c.args.back (slice_set (map left runs) at []) other) c.in-Some.is second in
     let two : length runs ≡ 2 = c.if-runs-eq2.true in
@@ -91,8 +89,8 @@ returns-then-runs-eq2-clause-left g c =
     let left = g.R.Run.left in
     let runs = c.args.runs.now in
     let at = c.args.at in
-    let run = left c.index-runs-at.result in
+    let run = left c.index-runs-at-2.result in
     let v = seen c.in_ok-version.version in
-    let get = got_at left runs at c.index-runs-at.result c.requires.within c.index-runs-at.is in
+    let get = got_at left runs at c.index-runs-at-2.result c.requires.within c.index-runs-at-2.is in
     let head = sym (ap (option_map seen) c.in_ok-version.was) ∙ c.first.ensures in
     has_one (map left runs) at run v get head

@@ -2,7 +2,7 @@ use Rattle.std.proofs.Common.{true, None, length, map, reverse}
 use Rattle.fjall_memtable.specs.SortedPages.{pairs_back}
 use Rattle.fjall_memtable.specs.Sorted.{flat, sorted}
 use Rattle.fjall_runs.specs.RunPages.{back_pairs, back_with}
-use Rattle.fjall_runs.proofs.RunPaging.{IsMade}
+use Rattle.fjall_runs.specs.Pages.{IsMade}
 use Rattle.fjall_runs.proofs.run_pages.page_from_behind.Given as goal
 
 abbrev pub invariant-loop-runs : goal.invariant-loop-runs

@@ -2,8 +2,7 @@ use Rattle.std.proofs.Common.{◌≡◌, List, false, None, IfOk, length, map, t
 use Rattle.fjall_base.specs.Pairs.{Bytes}
 use Rattle.fjall_memtable.specs.SortedPages.{pairs_of}
 use Rattle.fjall_memtable.specs.Sorted.{flat, sorted}
-use Rattle.fjall_runs.specs.Keyed.{key_of}
-use Rattle.fjall_runs.specs.RunPages.{front_pairs, front_with}
+use Rattle.fjall_runs.specs.RunPages.{front_pairs, front_with, settled_key}
 use Rattle.fjall_runs.proofs.RunPaging.{made_more, fewer_left, got_run, set_run, made_all, full_page, short_page}
 use Rattle.fjall_runs.proofs.run_pages.page_from_front.Goals as goal
 
@@ -15,7 +14,7 @@ returns-in_default g c =
     let runs = map left c.loop-runs.runs in
     let whole = pairs_of c.args.instant c.args.bound None (sorted (flat (map left c.args.runs.now))) in
     let all = made_all false runs whole (front_with page) (front_pairs page) max c.loop-runs.invariant c.in_default.ensures.first in
-    subst (λ (w : List (Bytes × Bytes)). IfOk c.finish.result (λ pairs. pairs.items ≡ w)) (sym (short_page max (front_pairs page) c.loop-runs.invariant.few) ∙ ap (take max) all) c.finish.ensures
+    c.finish.ensures ∙ sym (short_page max (front_pairs page) c.loop-runs.invariant.few) ∙ ap (take max) all
 
 pub returns : goal.returns
 returns g c =
@@ -27,7 +26,7 @@ returns g c =
     let test = c.loop-runs-test.false in
     let few = c.loop-runs.invariant.few in
     let ge : max ≤ length (front_pairs page) = omega (arith, len, test) in
-    subst (λ (w : List (Bytes × Bytes)). IfOk c.finish-2.result (λ pairs. pairs.items ≡ w)) (sym (full_page max (front_pairs page) (pairs_of page.instant page.bound (key_of page.pairs.last) (sorted (flat runs))) ge few) ∙ ap (take max) c.loop-runs.invariant.told) c.finish-2.ensures
+    c.finish-2.ensures ∙ sym (full_page max (front_pairs page) (pairs_of page.instant page.bound (settled_key page.bare page.pairs.items) (sorted (flat runs))) ge few) ∙ ap (take max) c.loop-runs.invariant.told
 
 pub loop-runs-smaller : goal.loop-runs-smaller
 loop-runs-smaller g c =

@@ -2,7 +2,7 @@ use Rattle.std.proofs.Common.{false, None, length, map}
 use Rattle.fjall_memtable.specs.SortedPages.{pairs_of}
 use Rattle.fjall_memtable.specs.Sorted.{flat, sorted}
 use Rattle.fjall_runs.specs.RunPages.{front_pairs, front_with}
-use Rattle.fjall_runs.proofs.RunPaging.{IsMade}
+use Rattle.fjall_runs.specs.Pages.{IsMade}
 use Rattle.fjall_runs.proofs.run_pages.page_from_front.Given as goal
 
 abbrev pub invariant-loop-runs : goal.invariant-loop-runs

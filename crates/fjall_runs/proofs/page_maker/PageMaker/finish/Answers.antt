@@ -1,5 +1,4 @@
-use Rattle.std.proofs.Common.{[], IfOk, List, length, subst, sym, take, ◌≡◌, ◌≤◌}
-use Rattle.fjall_base.specs.Pairs.{Bytes}
+use Rattle.std.proofs.Common.{[], length, subst, sym, take, ◌≡◌, ◌≤◌, ◌∙◌}
 use Rattle.fjall_memtable.specs.Sorted.{in_turn}
 use Rattle.fjall_runs.specs.RunPages.{front_pairs}
 use Rattle.fjall_runs.proofs.RunPaging.{short_page}
@@ -11,5 +10,5 @@ pub returns-in-Front : goal.returns-in-Front
 returns-in-Front c =
     let page = c.in-Front.page in
     let few : length (front_pairs page) ≤ c.args.max = subst (λ (maker : PageMaker). length (made maker) ≤ c.args.max) c.in-Front.is c.requires in
-    let told = subst (λ (w : List (Bytes × Bytes)). IfOk c.finish.result (λ pairs. pairs.items ≡ w)) (sym (short_page c.args.max (front_pairs page) few)) c.finish.ensures in
-    subst (λ (maker : PageMaker). IfOk c.finish.result (λ pairs. pairs.items ≡ in_turn (goes_back maker) (take c.args.max (made_with maker [])))) (sym c.in-Front.is) told
+    let told = c.finish.ensures ∙ sym (short_page c.args.max (front_pairs page) few) in
+    subst (λ (maker : PageMaker). c.finish.result.items ≡ in_turn (goes_back maker) (take c.args.max (made_with maker []))) (sym c.in-Front.is) told
