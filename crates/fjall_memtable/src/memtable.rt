@@ -156,10 +156,13 @@ impl Memtable {
     }
 
     /// The newest version of a key that is numbered below an instant, by one look-up; None where no version is. It is
-    /// refused for want of memory alone, which it takes at a key above 16 bytes.
+    /// refused for want of memory alone, which it takes at a key above 16 bytes where there are entries.
     pub fn get_at(&self, key: &[u8], instant: u64) -> Result<Option<TableEntry<'_>>, AllocError>
         ensures { IfOk result (λ found. option_map seen found ≡ slice_get (versions_at key.now instant (entries_kept self.now)) 0) }
     {
+        if self.is_empty() {
+            return Ok(None);
+        }
         if instant == 0 {
             return Ok(None);
         }

@@ -1,6 +1,5 @@
 pub mod TableFiles
 pub mod FileScans
-mod Aheads
 mod Places
 mod Searches
 mod Fronted

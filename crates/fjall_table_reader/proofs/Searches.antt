@@ -1,7 +1,7 @@
 -- Binary searches in entries in order.
 use Rattle.std.proofs.Common.{◌≡◌, ℕ, zero, suc, ◌+◌, ◌-◌, ◌<◌, ◌≤◌, Bool, true, false, not, ◌&&◌, nat_lt, max, List, [], ◌∷◌, length, take, drop, filter, slice_get, Option, Some, None, IfSome, refl, sym, ap, subst, ◌∙◌, arith, inl, inr}
 use Rattle.std.specs.Str.{bytes_eq}
-use Rattle.std.specs.Ordering.{is_lt, is_le, ordering_reverse}
+use Rattle.std.specs.Ordering.{is_lt, is_le, is_ne, ordering_reverse}
 use Rattle.std.proofs.lemmas.Cmp.{nat_list_cmp_total, tied_itself}
 use Rattle.std.specs.declared.cmp.Ordering.{Ordering}
 use Rattle.std.specs.declared.cmp.Ordering.TheVariants.{Less, Equal, Greater}
@@ -15,9 +15,10 @@ use Rattle.fjall_base.proofs.Codecs.{just, some_is}
 use Rattle.fjall_table.specs.Blocks.{Entry, IsOrdered}
 use Rattle.fjall_table.specs.Tables.{entries_within, versions_at}
 use Rattle.fjall_table.specs.TableReading.{is_ahead}
-use Rattle.fjall_table.proofs.Lookups.{AllNot, Falls, ahead_of, below_too, count, counts, counts_not, fails, falls_ahead, falls_entries, filter_len, never_both, none_but, none_counted, not_greater, ordered_falls, up_to, wanted, wanted_is}
+use Rattle.fjall_table.proofs.Lookups.{AllNot, Falls, ahead_of, below_too, count, counts, counts_not, fails, falls_ahead, falls_entries, filter_len, never_both, none_but, none_counted, not_greater, ordered_falls, same_key, up_to, wanted, wanted_is}
 use Rattle.fjall_table.proofs.TableBlocks.{some_at}
 use Rattle.fjall_table_reader.specs.Ahead.{before_start, stands_ahead, up_to_end}
+use Rattle.fjall_table_reader.proofs.Fronted.{not_ne}
 
 -- ---- a test that falls, at an index
 
@@ -322,3 +323,16 @@ newest_here key instant es e at up is here same =
 
 pub newest_not : (key : List ℕ) (instant : ℕ) (es : List Entry) (e : Entry) (at : ℕ) → IsOrdered es → at ≡ count (stands_ahead key (Some instant)) es → slice_get es at ≡ Some e → (e.key ≡ key → ⊥) → slice_get (versions_at key instant es) 0 ≡ None
 newest_not key instant es e at up is here other = newest_other key instant es e up (at_end key instant es e at is here) (other_key key instant e other)
+
+-- the same by how its key compares with the other
+pub newest_alike : (key : List ℕ) (instant : ℕ) (es : List Entry) (at : ℕ) (o : Ordering) → IsOrdered es → at ≡ count (stands_ahead key (Some instant)) es → at < length es → IfSome (slice_get es at) (λ e. o ≡ byte_order e.key key) → is_ne o ≡ false → slice_get (versions_at key instant es) 0 ≡ slice_get es at
+newest_alike key instant es at o up is lt compared alike =
+    let g = some_at es at lt in
+    let told = subst (λ (v : Option Entry). IfSome v (λ e. o ≡ byte_order e.key key)) g.1 compared in
+    newest_here key instant es g.0 at up is g.1 (same_key g.0.key key (sym told ∙ not_ne o alike)) ∙ sym g.1
+
+pub newest_unlike : (key : List ℕ) (instant : ℕ) (es : List Entry) (at : ℕ) (o : Ordering) → IsOrdered es → at ≡ count (stands_ahead key (Some instant)) es → at < length es → IfSome (slice_get es at) (λ e. o ≡ byte_order e.key key) → is_ne o ≡ true → slice_get (versions_at key instant es) 0 ≡ None
+newest_unlike key instant es at o up is lt compared unlike =
+    let g = some_at es at lt in
+    let told = subst (λ (v : Option Entry). IfSome v (λ e. o ≡ byte_order e.key key)) g.1 compared in
+    newest_not key instant es g.0 at up is g.1 (λ same. absurd (cc (sym unlike ∙ ap is_ne (told ∙ ap (λ (k : List ℕ). byte_order k key) same ∙ tied_itself nat_list_cmp_total key))))

@@ -5,7 +5,7 @@ ghost use Rattle.std.specs.Int.{w128, to_be_bytes};
 ghost use Rattle.std.specs.Option.{option_map};
 ghost use Rattle.std.specs.Range.Bound.{bound_map};
 ghost use Rattle.fjall_base.specs.declared.error.StorageError.TheVariants.{TableDamaged};
-ghost use Rattle.fjall_base.specs.Pairs.{key_range};
+ghost use Rattle.fjall_base.specs.Pairs.{byte_order, key_range};
 ghost use Rattle.fjall_table.specs.Reading.{DamagedWhere};
 ghost use Rattle.fjall_table.specs.Blocks.{seen, IsOrdered};
 ghost use Rattle.fjall_table.specs.Padded.{padded};
@@ -22,12 +22,16 @@ use bytes::Bytes;
 use fjall_base::{Error, KeyBounds, Result, UserKey, UserValue};
 use fjall_table::{BlockHandle, TableEntry, compare_numbers, front_of};
 use std::alloc::{AllocError, Global};
+use std::cmp::Ordering;
 use std::marker::Model;
 use std::ops::{Bound, Range};
 use std::result;
 
 /// How many bytes stand before a block's first entry: the length of its payload.
 const LENGTH_LEN: usize = 8;
+
+/// How many of a key's first bytes its front has.
+const FRONT_LEN: usize = 16;
 
 /// For how many bytes an entry counts beside its text: its place, and its key's front.
 const ENTRY_BYTES: u64 = 40;
@@ -54,26 +58,15 @@ impl Model for Block {
     ghost invariant = { λ b. ArePlaced b.text b.places.items b.fronts.items };
 }
 
-/// A version of a key, to be compared with others.
-fn version(key: &[u8], number: u64) -> TableEntry<'_>
-    ensures { seen result ≡ record { key = key.now; number = number; value = None } }
+/// How two keys of like fronts compare: by their lengths alone, where the fronts have all of them.
+fn compare_like(key: &[u8], other: &[u8]) -> Ordering
+    requires { padded 16 key.now ≡ padded 16 other.now }
+    ensures { result ≡ byte_order key.now other.now }
 {
-    TableEntry {
-        key,
-        number,
-        value: None,
+    if key.len() <= FRONT_LEN && other.len() <= FRONT_LEN {
+        return key.len().cmp(&other.len());
     }
-}
-
-/// Whether an entry stands before all those of a key that are numbered below an instant, or, with none, before all of the
-/// key: it doesn't come behind the one at the instant.
-fn stands_ahead(entry: &TableEntry<'_>, key: &[u8], instant: Option<u64>) -> bool
-    ensures { result ≡ stands_ahead key.now instant (seen entry.now) }
-{
-    match instant {
-        Some(instant) => !version(key, instant).is_before(entry),
-        None => version(entry.key, 0).is_before(&version(key, 0)),
-    }
+    key.cmp(other)
 }
 
 impl Block {
@@ -156,11 +149,12 @@ impl Block {
         ensures version { slice_get (versions_at key.now instant self.now) 0 ≡ option_and_then (slice_get self.now) result }
         ensures within { IfSome result (λ at. at < length self.now) }
     {
-        let at = self.count_ahead(key, Some(instant));
+        let front = front_of(key);
+        let at = self.count_ahead(front, key, Some(instant));
         if at >= self.len() {
             return None;
         }
-        if self.entry(at).key != key {
+        if self.compare_key(at, front, key).is_ne() {
             return None;
         }
         Some(at)
@@ -194,8 +188,8 @@ impl Block {
         ensures { result ≡ length (filter (before_start (bound_map (λ key. key.now) start.entry)) self.now) }
     {
         match start {
-            Bound::Included(key) => self.count_ahead(key, None),
-            Bound::Excluded(key) => self.count_ahead(key, Some(0)),
+            Bound::Included(key) => self.count_ahead(front_of(key), key, None),
+            Bound::Excluded(key) => self.count_ahead(front_of(key), key, Some(0)),
             Bound::Unbounded => 0,
         }
     }
@@ -206,10 +200,24 @@ impl Block {
         ensures ordered { IsOrdered self.now }
     {
         match end {
-            Bound::Included(key) => self.count_ahead(key, Some(0)),
-            Bound::Excluded(key) => self.count_ahead(key, None),
+            Bound::Included(key) => self.count_ahead(front_of(key), key, Some(0)),
+            Bound::Excluded(key) => self.count_ahead(front_of(key), key, None),
             Bound::Unbounded => self.len(),
         }
+    }
+
+    /// How the key of an entry compares with one of this front.
+    #[inline(always)]
+    fn compare_key(&self, at: usize, front: u128, key: &[u8]) -> Ordering
+        requires within { at < length self.now }
+        requires front { to_be_bytes w128 front ≡ padded 16 key.now }
+        ensures { IfSome (slice_get self.now at) (λ e. result ≡ byte_order e.key key.now) }
+    {
+        let order = compare_numbers(self.fronts[at], front);
+        if order.is_ne() {
+            return order;
+        }
+        compare_like(self.entry(at).key, key)
     }
 
     /// Whether an entry stands before all those of a key with this front that are numbered below an instant; with no instant,
@@ -219,19 +227,21 @@ impl Block {
         requires front { to_be_bytes w128 front ≡ padded 16 key.now }
         ensures { IfSome (slice_get self.now at) (λ e. result ≡ stands_ahead key.now instant e) }
     {
-        let order = compare_numbers(self.fronts[at], front);
-        if order.is_ne() {
-            return order.is_lt();
+        let order = self.compare_key(at, front, key);
+        match instant {
+            Some(instant) => {
+                order.is_lt() || (order.is_eq() && self.places[at].number >= instant)
+            }
+            None => order.is_lt(),
         }
-        stands_ahead(&self.entry(at), key, instant)
     }
 
-    /// How many entries stand so before those of a key.
-    fn count_ahead(&self, key: &[u8], instant: Option<u64>) -> usize
+    /// How many entries stand so before those of a key with this front.
+    fn count_ahead(&self, front: u128, key: &[u8], instant: Option<u64>) -> usize
+        requires { to_be_bytes w128 front ≡ padded 16 key.now }
         ensures count { result ≡ length (filter (stands_ahead key.now instant) self.now) }
         ensures ordered { IsOrdered self.now }
     {
-        let front = front_of(key);
         let mut low = 0;
         let mut high = self.len();
         while low < high {

@@ -48,7 +48,8 @@ impl Model for TableReader {
 
     ghost view = { λ t. record { name = name_of t.file; info = t.file.info; handles = handles_in t.file; recent = map (option_map (λ b. b.value)) t.recent.items; older = map (option_map (λ b. b.value)) t.older.items } };
 
-    ghost invariant = { λ t. IsCountedReader t.recent_bytes t.kept_bytes (record { name = name_of t.file; info = t.file.info; handles = handles_in t.file; recent = map (option_map (λ b. b.value)) t.recent.items; older = map (option_map (λ b. b.value)) t.older.items }) };
+    ghost invariant = { λ t. IsCountedReader t.recent_bytes t.kept_bytes
+        (record { name = name_of t.file; info = t.file.info; handles = handles_in t.file; recent = map (option_map (λ b. b.value)) t.recent.items; older = map (option_map (λ b. b.value)) t.older.items }) };
 }
 
 /// A place for each block, none of which is kept.

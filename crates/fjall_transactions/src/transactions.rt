@@ -148,7 +148,8 @@ impl<D: Disk> Core<D> {
         requires free { held_due self.old.engine (OfChange (Items items.items) (ByMode mode)) ≡ None }
         ensures serves { IsTrue D.honest → AsksFor Serves self.old.engine (OfChange (Items items.items) (ByMode mode)) result self.new.engine }
         ensures owes { AsksFor Owes self.old.engine (OfChange (Items items.items) (ByMode mode)) result self.new.engine }
-        ensures ok { AreCommitsOf self.old.engine self.old.transactions.commits → OnOk result (self.new.transactions ≡ record self.old.transactions { commits = committed self.old.engine.memory.next (Some marks) items.items self.old.transactions.commits }) }
+        ensures ok { AreCommitsOf self.old.engine self.old.transactions.commits
+            → OnOk result (self.new.transactions ≡ record self.old.transactions { commits = committed self.old.engine.memory.next (Some marks) items.items self.old.transactions.commits }) }
         ensures err { AreCommitsOf self.old.engine self.old.transactions.commits → OnErr result (self.new.transactions ≡ self.old.transactions) }
         ensures writer { self.new.transactions ≡ record self.old.transactions { commits = self.new.transactions.commits } }
     {
@@ -174,7 +175,8 @@ impl<D: Disk> Core<D> {
         requires some { (length items.items == 0) ≡ false }
         ensures serves { IsTrue D.honest → AsksFor Serves self.old.engine (OfChange (Items items.items) (ByMode mode)) result self.new.engine }
         ensures owes { AsksFor Owes self.old.engine (OfChange (Items items.items) (ByMode mode)) result self.new.engine }
-        ensures ok { AreCommitsOf self.old.engine self.old.transactions.commits → OnOk result (self.new.transactions ≡ record self.old.transactions { commits = committed self.old.engine.memory.next marks items.items self.old.transactions.commits }) }
+        ensures ok { AreCommitsOf self.old.engine self.old.transactions.commits
+            → OnOk result (self.new.transactions ≡ record self.old.transactions { commits = committed self.old.engine.memory.next marks items.items self.old.transactions.commits }) }
         ensures err { AreCommitsOf self.old.engine self.old.transactions.commits → OnErr result (self.new.transactions ≡ self.old.transactions) }
         ensures writer { self.new.transactions ≡ record self.old.transactions { commits = self.new.transactions.commits } }
     {
