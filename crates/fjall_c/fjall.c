@@ -407,6 +407,54 @@ int32_t fjall_page(fjall_database *d, uint64_t keyspace, uint8_t start_bound, co
     return settled(d, fjall_c_page(&d->engine, keyspace, start_bound, at(start), start_len, end_bound, at(end), end_len, back, max, at(room), room_len, page));
 }
 
+int32_t fjall_snapshot(fjall_database *d, uint64_t *snapshot) {
+    return d->is_poisoned ? FJALL_POISONED : settled(d, fjall_c_snapshot(&d->engine, snapshot));
+}
+
+int32_t fjall_snapshot_close(fjall_database *d, uint64_t snapshot) {
+    return d->is_poisoned ? FJALL_POISONED : settled(d, fjall_c_snapshot_close(&d->engine, snapshot));
+}
+
+int32_t fjall_get_at(fjall_database *d, uint64_t snapshot, uint64_t keyspace, const void *key, size_t key_len, void *room, size_t room_len, struct fjall_found *found) {
+    return d->is_poisoned ? FJALL_POISONED : settled(d, fjall_c_get_at(&d->engine, snapshot, keyspace, at(key), key_len, at(room), room_len, found));
+}
+
+int32_t fjall_page_at(fjall_database *d, uint64_t snapshot, uint64_t keyspace, uint8_t start_bound, const void *start, size_t start_len, uint8_t end_bound, const void *end, size_t end_len, bool back, size_t max, void *room, size_t room_len, struct fjall_page *page) {
+    if (d->is_poisoned)
+        return FJALL_POISONED;
+    return settled(d, fjall_c_page_at(&d->engine, snapshot, keyspace, start_bound, at(start), start_len, end_bound, at(end), end_len, back, max, at(room), room_len, page));
+}
+
+int32_t fjall_begin(fjall_database *d, uint64_t *transaction) {
+    return d->is_poisoned ? FJALL_POISONED : settled(d, fjall_c_begin(&d->engine, transaction));
+}
+
+int32_t fjall_tx_insert(fjall_database *d, uint64_t transaction, uint64_t keyspace, const void *key, size_t key_len, const void *value, size_t value_len) {
+    return d->is_poisoned ? FJALL_POISONED : settled(d, fjall_c_tx_insert(&d->engine, transaction, keyspace, at(key), key_len, at(value), value_len));
+}
+
+int32_t fjall_tx_remove(fjall_database *d, uint64_t transaction, uint64_t keyspace, const void *key, size_t key_len) {
+    return d->is_poisoned ? FJALL_POISONED : settled(d, fjall_c_tx_remove(&d->engine, transaction, keyspace, at(key), key_len));
+}
+
+int32_t fjall_tx_get(fjall_database *d, uint64_t transaction, uint64_t keyspace, const void *key, size_t key_len, void *room, size_t room_len, struct fjall_found *found) {
+    return d->is_poisoned ? FJALL_POISONED : settled(d, fjall_c_tx_get(&d->engine, transaction, keyspace, at(key), key_len, at(room), room_len, found));
+}
+
+int32_t fjall_tx_page(fjall_database *d, uint64_t transaction, uint64_t keyspace, uint8_t start_bound, const void *start, size_t start_len, uint8_t end_bound, const void *end, size_t end_len, bool back, size_t max, void *room, size_t room_len, struct fjall_page *page) {
+    if (d->is_poisoned)
+        return FJALL_POISONED;
+    return settled(d, fjall_c_tx_page(&d->engine, transaction, keyspace, start_bound, at(start), start_len, end_bound, at(end), end_len, back, max, at(room), room_len, page));
+}
+
+int32_t fjall_commit(fjall_database *d, uint64_t transaction) {
+    return d->is_poisoned ? FJALL_POISONED : settled(d, fjall_c_commit(&d->engine, transaction));
+}
+
+int32_t fjall_rollback(fjall_database *d, uint64_t transaction) {
+    return d->is_poisoned ? FJALL_POISONED : settled(d, fjall_c_rollback(&d->engine, transaction));
+}
+
 int32_t fjall_batch_insert(fjall_database *d, uint64_t keyspace, const void *key, size_t key_len, const void *value, size_t value_len) {
     return fjall_c_batch_insert(&d->engine, keyspace, at(key), key_len, at(value), value_len);
 }

@@ -1,6 +1,6 @@
 /* A database over a folder, for callers in C and in what calls as C does.
  *
- * A call answers 0, or the number of a refusal, whose name `fjall_error_name` tells. Keys, values and names are a pointer and a length.
+ * A call answers 0, or the number of a refusal, whose name `fjall_error_name` tells; a commit may answer FJALL_CONFLICT. Keys, values and names are a pointer and a length.
  * One thread at a time calls through a database, and never from a signal handler or the child of a fork. After a call that answers
  * FJALL_IO where it was to change the folder, each further one answers FJALL_POISONED: close the database and open it again. */
 #ifndef FJALL_H
@@ -15,6 +15,8 @@ extern "C" {
 #endif
 
 enum {
+    /* a transaction read what another one wrote and committed since it began */
+    FJALL_CONFLICT = -1,
     FJALL_IO = 1,
     FJALL_STORAGE = 2,
     FJALL_JOURNAL_RECOVERY = 3,
@@ -31,6 +33,7 @@ enum {
     FJALL_OUT_OF_MEMORY = 17,
     FJALL_NUMBERS_USED_UP = 18,
     FJALL_UNKNOWN_KEYSPACE = 19,
+    FJALL_SNAPSHOT_CLOSED = 20,
     FJALL_TOO_MANY_ITEMS = 22,
 };
 
@@ -75,6 +78,27 @@ int32_t fjall_get(fjall_database *database, uint64_t keyspace, const void *key, 
  * is the length of its key and that of its value, of eight bytes each, the low one first, and then both. Where `count` is 0 and there
  * are pairs, the room is too short for one. */
 int32_t fjall_page(fjall_database *database, uint64_t keyspace, uint8_t start_bound, const void *start, size_t start_len, uint8_t end_bound, const void *end, size_t end_len, bool back, size_t max, void *room, size_t room_len, struct fjall_page *page);
+
+/* A snapshot shows what the database has now, whatever comes after, until it is closed; a closing of the database closes it too. Reads at
+ * it are those of the present with its id before the keyspace. An id that names none that is open is refused with
+ * FJALL_SNAPSHOT_CLOSED. */
+int32_t fjall_snapshot(fjall_database *database, uint64_t *snapshot);
+int32_t fjall_snapshot_close(fjall_database *database, uint64_t snapshot);
+int32_t fjall_get_at(fjall_database *database, uint64_t snapshot, uint64_t keyspace, const void *key, size_t key_len, void *room, size_t room_len, struct fjall_found *found);
+int32_t fjall_page_at(fjall_database *database, uint64_t snapshot, uint64_t keyspace, uint8_t start_bound, const void *start, size_t start_len, uint8_t end_bound, const void *end, size_t end_len, bool back, size_t max, void *room, size_t room_len, struct fjall_page *page);
+
+/* An optimistic transaction reads what the database had when it began, with its own writes, which nobody else sees until it is committed.
+ * Many may be open. A commit makes its own writes as one command, as fjall_insert does one, or answers FJALL_CONFLICT where another one
+ * committed since it began a key that it read, or one within a range of which it read a page; then nothing of it is made: begin again. Both
+ * ends end it, whatever they answer. An id that names none that is open is refused with FJALL_SNAPSHOT_CLOSED; ids are of the same numbers
+ * as those of snapshots. */
+int32_t fjall_begin(fjall_database *database, uint64_t *transaction);
+int32_t fjall_tx_insert(fjall_database *database, uint64_t transaction, uint64_t keyspace, const void *key, size_t key_len, const void *value, size_t value_len);
+int32_t fjall_tx_remove(fjall_database *database, uint64_t transaction, uint64_t keyspace, const void *key, size_t key_len);
+int32_t fjall_tx_get(fjall_database *database, uint64_t transaction, uint64_t keyspace, const void *key, size_t key_len, void *room, size_t room_len, struct fjall_found *found);
+int32_t fjall_tx_page(fjall_database *database, uint64_t transaction, uint64_t keyspace, uint8_t start_bound, const void *start, size_t start_len, uint8_t end_bound, const void *end, size_t end_len, bool back, size_t max, void *room, size_t room_len, struct fjall_page *page);
+int32_t fjall_commit(fjall_database *database, uint64_t transaction);
+int32_t fjall_rollback(fjall_database *database, uint64_t transaction);
 
 /* One batch, which is committed as one command: a crash leaves all of it or none. */
 int32_t fjall_batch_insert(fjall_database *database, uint64_t keyspace, const void *key, size_t key_len, const void *value, size_t value_len);

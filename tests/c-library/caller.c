@@ -16,16 +16,34 @@ static void insert(fjall_database *d, uint64_t id, const char *key, const char *
     told("insert", fjall_insert(d, id, key, strlen(key), value, strlen(value)));
 }
 
-static void get(fjall_database *d, uint64_t id, const char *key, size_t room_len) {
-    char room[64];
-    struct fjall_found found;
-    int32_t answer = fjall_get(d, id, key, strlen(key), room, room_len, &found);
+static void value(const char *key, int32_t answer, struct fjall_found found, const char *room, size_t room_len) {
     if (answer)
         told("get", answer);
     else if (!found.is_there)
         printf("%s has none\n", key);
     else
         printf("%s has %zu bytes: %.*s\n", key, found.len, found.len <= room_len ? (int)found.len : 0, room);
+}
+
+static void get(fjall_database *d, uint64_t id, const char *key, size_t room_len) {
+    char room[64];
+    struct fjall_found found;
+    int32_t answer = fjall_get(d, id, key, strlen(key), room, room_len, &found);
+    value(key, answer, found, room, room_len);
+}
+
+static void get_at(fjall_database *d, uint64_t snapshot, uint64_t id, const char *key) {
+    char room[64];
+    struct fjall_found found;
+    int32_t answer = fjall_get_at(d, snapshot, id, key, strlen(key), room, sizeof room, &found);
+    value(key, answer, found, room, sizeof room);
+}
+
+static void tx_get(fjall_database *d, uint64_t tx, uint64_t id, const char *key) {
+    char room[64];
+    struct fjall_found found;
+    int32_t answer = fjall_tx_get(d, tx, id, key, strlen(key), room, sizeof room, &found);
+    value(key, answer, found, room, sizeof room);
 }
 
 static uint64_t number(const unsigned char *bytes) {
@@ -35,10 +53,7 @@ static uint64_t number(const unsigned char *bytes) {
     return n;
 }
 
-static void page(fjall_database *d, uint64_t id, uint8_t start_bound, const char *start, bool back, size_t max, size_t room_len) {
-    unsigned char room[256];
-    struct fjall_page found;
-    int32_t answer = fjall_page(d, id, start_bound, start, strlen(start), FJALL_UNBOUNDED, NULL, 0, back, max, room, room_len, &found);
+static void pairs(int32_t answer, struct fjall_page found, const unsigned char *room) {
     if (answer) {
         told("page", answer);
         return;
@@ -51,6 +66,13 @@ static void page(fjall_database *d, uint64_t id, uint8_t start_bound, const char
         at += 16 + key + value;
     }
     printf("\n");
+}
+
+static void page(fjall_database *d, uint64_t id, uint8_t start_bound, const char *start, bool back, size_t max, size_t room_len) {
+    unsigned char room[256];
+    struct fjall_page found;
+    int32_t answer = fjall_page(d, id, start_bound, start, strlen(start), FJALL_UNBOUNDED, NULL, 0, back, max, room, room_len, &found);
+    pairs(answer, found, room);
 }
 
 static void pages(fjall_database *d, uint64_t id) {
@@ -69,12 +91,55 @@ static fjall_database *opened(const char *folder) {
     return d;
 }
 
+/* What a snapshot shows, and what a transaction that it outlives. */
+static void views(fjall_database *d, uint64_t id) {
+    unsigned char room[256];
+    struct fjall_page found;
+    uint64_t snapshot = 0;
+    told("snapshot", fjall_snapshot(d, &snapshot));
+    insert(d, id, "plum", "red");
+    get(d, id, "plum", 64);
+    get_at(d, snapshot, id, "plum");
+    int32_t answer = fjall_page_at(d, snapshot, id, FJALL_UNBOUNDED, NULL, 0, FJALL_EXCLUDED, "sloe", 4, true, 10, room, sizeof room, &found);
+    pairs(answer, found, room);
+    told("snapshot close", fjall_snapshot_close(d, snapshot));
+    told("snapshot close", fjall_snapshot_close(d, snapshot));
+    get_at(d, snapshot, id, "plum");
+}
+
+/* Two transactions that are open at a time, of which the second one conflicts, and one that is rolled back. */
+static void transactions(fjall_database *d, uint64_t id) {
+    unsigned char room[256];
+    struct fjall_page found;
+    uint64_t one = 0, two = 0;
+    told("begin", fjall_begin(d, &one));
+    told("begin", fjall_begin(d, &two));
+    told("tx insert", fjall_tx_insert(d, one, id, "plum", 4, "green", 5));
+    told("tx insert", fjall_tx_insert(d, one, id, NULL, 0, "green", 5));
+    told("tx remove", fjall_tx_remove(d, one, id, "sloe", 4));
+    tx_get(d, one, id, "plum");
+    tx_get(d, two, id, "plum");
+    int32_t answer = fjall_tx_page(d, one, id, FJALL_UNBOUNDED, NULL, 0, FJALL_UNBOUNDED, NULL, 0, false, 10, room, sizeof room, &found);
+    pairs(answer, found, room);
+    told("tx insert", fjall_tx_insert(d, two, id, "sloe", 4, "white", 5));
+    told("commit", fjall_commit(d, one));
+    answer = fjall_commit(d, two);
+    printf("conflict: %d\n", answer == FJALL_CONFLICT);
+    told("commit", fjall_commit(d, two));
+    told("begin", fjall_begin(d, &two));
+    told("tx insert", fjall_tx_insert(d, two, id, "plum", 4, "white", 5));
+    told("rollback", fjall_rollback(d, two));
+    tx_get(d, two, id, "plum");
+    get(d, id, "plum", 64);
+    get(d, id, "sloe", 64);
+}
+
 int main(int argc, char **argv) {
     if (argc != 2)
         return 2;
     fjall_database *d = opened(argv[1]), *other = NULL;
     told("open again", fjall_open(argv[1], &other));
-    uint64_t items = 0, more = 0;
+    uint64_t items = 0, more = 0, kept = 0;
     told("keyspace", fjall_keyspace(d, "items", 5, &items));
     told("keyspace", fjall_keyspace(d, "more", 4, &more));
     told("no name", fjall_keyspace(d, NULL, 0, &more));
@@ -105,6 +170,11 @@ int main(int argc, char **argv) {
     told("persist", fjall_persist(d, 7));
     told("flush", fjall_flush(d, items));
     pages(d, items);
+    told("keyspace", fjall_keyspace(d, "kept", 4, &kept));
+    insert(d, kept, "plum", "blue");
+    insert(d, kept, "sloe", "black");
+    views(d, kept);
+    transactions(d, kept);
     told("close", fjall_close(d));
     d = opened(argv[1]);
     told("keyspace", fjall_keyspace(d, "items", 5, &more));

@@ -7,6 +7,7 @@ from ctypes import POINTER, byref, c_bool, c_char_p, c_int32, c_size_t, c_uint8,
 
 BUFFER, SYNC_DATA, SYNC_ALL, LATER = 0, 1, 2, 255
 UNBOUNDED, INCLUDED, EXCLUDED = 0, 1, 2
+CONFLICT = -1
 
 
 class Found(ctypes.Structure):
@@ -25,6 +26,17 @@ CALLS = {
     "fjall_remove": [c_void_p, c_uint64, *TEXT],
     "fjall_get": [c_void_p, c_uint64, *TEXT, *TEXT, POINTER(Found)],
     "fjall_page": [c_void_p, c_uint64, c_uint8, *TEXT, c_uint8, *TEXT, c_bool, c_size_t, *TEXT, POINTER(Page)],
+    "fjall_snapshot": [c_void_p, POINTER(c_uint64)],
+    "fjall_snapshot_close": [c_void_p, c_uint64],
+    "fjall_get_at": [c_void_p, c_uint64, c_uint64, *TEXT, *TEXT, POINTER(Found)],
+    "fjall_page_at": [c_void_p, c_uint64, c_uint64, c_uint8, *TEXT, c_uint8, *TEXT, c_bool, c_size_t, *TEXT, POINTER(Page)],
+    "fjall_begin": [c_void_p, POINTER(c_uint64)],
+    "fjall_tx_insert": [c_void_p, c_uint64, c_uint64, *TEXT, *TEXT],
+    "fjall_tx_remove": [c_void_p, c_uint64, c_uint64, *TEXT],
+    "fjall_tx_get": [c_void_p, c_uint64, c_uint64, *TEXT, *TEXT, POINTER(Found)],
+    "fjall_tx_page": [c_void_p, c_uint64, c_uint64, c_uint8, *TEXT, c_uint8, *TEXT, c_bool, c_size_t, *TEXT, POINTER(Page)],
+    "fjall_commit": [c_void_p, c_uint64],
+    "fjall_rollback": [c_void_p, c_uint64],
     "fjall_batch_insert": [c_void_p, c_uint64, *TEXT, *TEXT],
     "fjall_batch_remove": [c_void_p, c_uint64, *TEXT],
     "fjall_batch_commit": [c_void_p, c_uint8],
@@ -51,6 +63,8 @@ class Library:
 
     def call(self, name, *given):
         answer = getattr(self.calls, "fjall_" + name)(*given)
+        if answer == CONFLICT:
+            raise Refused("Conflict")
         if answer:
             room = ctypes.create_string_buffer(32)
             length = self.calls.fjall_error_name(answer, room, 32)
@@ -73,14 +87,20 @@ class Database:
     def insert(self, keyspace, key, value):
         self.call("insert", keyspace, key, len(key), value, len(value))
 
-    def get(self, keyspace, key, most=64):
+    def opened(self, name):
+        """The id of a snapshot, or of a transaction."""
+        found = c_uint64()
+        self.call(name, byref(found))
+        return found.value
+
+    def get(self, keyspace, key, most=64, call="get", *seen):
         room, found = ctypes.create_string_buffer(max(most, 1)), Found()
-        self.call("get", keyspace, key, len(key), room, most, byref(found))
+        self.call(call, *seen, keyspace, key, len(key), room, most, byref(found))
         return (found.len, room.raw[:found.len] if found.len <= most else b"") if found.is_there else None
 
-    def page(self, keyspace, start_bound, start, back, most, size):
+    def page(self, keyspace, start_bound, start, back, most, size, call="page", *seen, end=(UNBOUNDED, None, 0)):
         room, page = ctypes.create_string_buffer(size), Page()
-        self.call("page", keyspace, start_bound, start, len(start), UNBOUNDED, None, 0, back, most, room, size, byref(page))
+        self.call(call, *seen, keyspace, start_bound, start, len(start), *end, back, most, room, size, byref(page))
         text, pairs = room.raw[:page.len], []
         for _ in range(page.count):
             key, value = int.from_bytes(text[:8], "little"), int.from_bytes(text[8:16], "little")
@@ -97,9 +117,9 @@ def told(what, call, *given):
         print(f"{what}: {error}")
 
 
-def get(database, keyspace, key, most=64):
+def get(database, keyspace, key, most=64, *seen):
     try:
-        found = database.get(keyspace, key, most)
+        found = database.get(keyspace, key, most, *seen)
     except Refused as error:
         print(f"get: {error}")
         return
@@ -108,8 +128,49 @@ def get(database, keyspace, key, most=64):
 
 def pages(database, keyspace):
     for given in [(UNBOUNDED, b"", False, 10, 256), (UNBOUNDED, b"", False, 10, 50), (EXCLUDED, b"fig", False, 1, 256), (INCLUDED, b"fig", True, 2, 256), (UNBOUNDED, b"", False, 10, 8)]:
-        page, pairs = database.page(keyspace, *given)
-        print(f"page of {page.count} in {page.len} bytes:" + "".join(f" {key.decode()}={value.decode()}" for key, value in pairs))
+        pairs(*database.page(keyspace, *given))
+
+
+def pairs(page, found):
+    print(f"page of {page.count} in {page.len} bytes:" + "".join(f" {key.decode()}={value.decode()}" for key, value in found))
+
+
+def views(d, keyspace):
+    snapshot = d.opened("snapshot")
+    print("snapshot: ok")
+    told("plum insert", d.insert, keyspace, b"plum", b"red")
+    get(d, keyspace, b"plum")
+    get(d, keyspace, b"plum", 64, "get_at", snapshot)
+    pairs(*d.page(keyspace, UNBOUNDED, b"", True, 10, 256, "page_at", snapshot, end=(EXCLUDED, b"sloe", 4)))
+    told("snapshot close", d.call, "snapshot_close", snapshot)
+    told("snapshot close", d.call, "snapshot_close", snapshot)
+    get(d, keyspace, b"plum", 64, "get_at", snapshot)
+
+
+def transactions(d, keyspace):
+    one, two = d.opened("begin"), d.opened("begin")
+    print("begin: ok\nbegin: ok")
+    told("tx insert", d.call, "tx_insert", one, keyspace, b"plum", 4, b"green", 5)
+    told("tx insert", d.call, "tx_insert", one, keyspace, b"", 0, b"green", 5)
+    told("tx remove", d.call, "tx_remove", one, keyspace, b"sloe", 4)
+    get(d, keyspace, b"plum", 64, "tx_get", one)
+    get(d, keyspace, b"plum", 64, "tx_get", two)
+    pairs(*d.page(keyspace, UNBOUNDED, b"", False, 10, 256, "tx_page", one))
+    told("tx insert", d.call, "tx_insert", two, keyspace, b"sloe", 4, b"white", 5)
+    told("commit", d.call, "commit", one)
+    try:
+        d.call("commit", two)
+        print("conflict: 0")
+    except Refused as error:
+        print(f"conflict: {int(str(error) == 'Conflict')}")
+    told("commit", d.call, "commit", two)
+    two = d.opened("begin")
+    print("begin: ok")
+    told("tx insert", d.call, "tx_insert", two, keyspace, b"plum", 4, b"white", 5)
+    told("rollback", d.call, "rollback", two)
+    get(d, keyspace, b"plum", 64, "tx_get", two)
+    get(d, keyspace, b"plum")
+    get(d, keyspace, b"sloe")
 
 
 def main(path, folder):
@@ -144,6 +205,12 @@ def main(path, folder):
     told("persist", d.call, "persist", 7)
     told("flush", d.call, "flush", items)
     pages(d, items)
+    kept = d.keyspace(b"kept")
+    print("keyspace: ok")
+    told("plum insert", d.insert, kept, b"plum", b"blue")
+    told("sloe insert", d.insert, kept, b"sloe", b"black")
+    views(d, kept)
+    transactions(d, kept)
     told("close", d.call, "close")
     d = Database(library, folder)
     print("open: ok\nkeyspace: ok")

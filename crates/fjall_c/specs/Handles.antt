@@ -2,8 +2,8 @@
 use base.Fml.{Fml}
 use denote.Ref.{MutBor}
 use denote.Follow.{follows}
-use Rattle.fjall_session.specs.contracts.session.Session.{the_row as session_row}
-use Rattle.fjall_session.specs.declared.session.Session.{Session}
+use Rattle.fjall_c.specs.contracts.session.Session.{the_row as session_row}
+use Rattle.fjall_c.specs.declared.session.Session.{Session}
 use Rattle.fjall_c.specs.declared.handle.Database.{Database}
 use Rattle.fjall_c.specs.contracts.handle.Database.{the_row}
 

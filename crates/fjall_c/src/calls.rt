@@ -1,25 +1,30 @@
 //! Calls that open, persist, flush and close, and the names of refusals.
 
-ghost use Rattle.std.specs.Prelude.{◌≡◌, MatchOption, None};
-ghost use Rattle.fjall_c.specs.Answers.{Answers, mode_at};
-ghost use Rattle.fjall_session.specs.Calls.{Calls, OfPersist, engine_of, reply_of};
+ghost use Rattle.std.specs.Prelude.{◌≡◌, MatchOption};
+ghost use Rattle.fjall_c.specs.Answers.{Answers, NamesRefusal, mode_at};
+ghost use Rattle.fjall_c.specs.Calls.{Calls, OfPersist, reply_of};
+ghost use Rattle.fjall_c.specs.Live.{files_of, live_of};
+ghost use Rattle.fjall_c.specs.Openings.{ClosesAs, Flushes, OpensOver};
 
 use crate::answers::{answer, copy_to, mode_of, name_of};
 use crate::handle::Database;
-use fjall_session::Error;
+use fjall_base::Error;
 use std::alloc::Global;
 
 /// Opens the database of the files that it was told of, or begins one where there are none. Where it is refused, the database is
 /// closed.
 #[unsafe(no_mangle)]
-pub extern "C" fn fjall_c_open(database: &mut Database) -> i32 {
+pub extern "C" fn fjall_c_open(database: &mut Database) -> i32
+    ensures { Answers result (OpensOver (files_of database.old.session) (live_of database.old.session) (live_of database.new.session)) }
+{
     answer(database.session_mut().open())
 }
 
 /// Writes out what waits of the journal and, in the modes 1 and 2, syncs it.
 #[unsafe(no_mangle)]
 pub extern "C" fn fjall_c_persist(database: &mut Database, mode: u8) -> i32
-    ensures { MatchOption (mode_at mode) (engine_of database.new.session ≡ engine_of database.old.session) (λ mode. Answers result (Calls (OfPersist mode) reply_of (engine_of database.old.session) (engine_of database.new.session))) }
+    ensures { MatchOption (mode_at mode) (live_of database.new.session ≡ live_of database.old.session)
+        (λ mode. Answers result (Calls (OfPersist mode) reply_of (live_of database.old.session) (live_of database.new.session))) }
 {
     match mode_of(mode) {
         Some(mode) => answer(database.session_mut().persist(mode)),
@@ -29,14 +34,16 @@ pub extern "C" fn fjall_c_persist(database: &mut Database, mode: u8) -> i32
 
 /// Moves what a keyspace has in memory to a table, and merges its tables where that is due.
 #[unsafe(no_mangle)]
-pub extern "C" fn fjall_c_flush(database: &mut Database, keyspace: u64) -> i32 {
+pub extern "C" fn fjall_c_flush(database: &mut Database, keyspace: u64) -> i32
+    ensures { Answers result (Flushes keyspace (live_of database.old.session) (live_of database.new.session)) }
+{
     answer(database.session_mut().flush(keyspace))
 }
 
 /// Syncs the journal and closes the database, whatever it answers. Each call answers the number of `Poisoned` from then on.
 #[unsafe(no_mangle)]
 pub extern "C" fn fjall_c_close(database: &mut Database) -> i32
-    ensures { engine_of database.new.session ≡ None }
+    ensures { Answers result (ClosesAs (live_of database.old.session) (live_of database.new.session)) }
 {
     answer(database.session_mut().close())
 }
@@ -47,10 +54,12 @@ pub extern "C" fn fjall_c_free(alloc: Global, database: Database) {
     drop(database.into_box(alloc));
 }
 
-/// The name of a refusal by its number, at the beginning of `room`, where that is as long. It answers how many bytes the name has: 0
+/// The name of the refusals of a number, at the beginning of `room`, where that is as long. It answers how many bytes the name has: 0
 /// where no refusal has the number.
 #[unsafe(no_mangle)]
-pub extern "C" fn fjall_c_error_name(number: u8, room: &mut [u8]) -> usize {
+pub extern "C" fn fjall_c_error_name(number: u8, room: &mut [u8]) -> usize
+    ensures { NamesRefusal number result room.old room.new }
+{
     let name = name_of(number).as_bytes();
     copy_to(room, name);
     name.len()

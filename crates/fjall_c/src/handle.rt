@@ -3,8 +3,8 @@
 ghost use Rattle.std.specs.Box.Ownership.{box_owns};
 ghost use Rattle.std.specs.contracts.impls.GlobalAllocator.TheImpl.{ghosts};
 ghost use Rattle.std.specs.declared.alloc.Global.{Global};
-ghost use Rattle.fjall_session.specs.contracts.session.Session.{the_row as session_row};
-ghost use Rattle.fjall_session.specs.declared.session.Session.{Session};
+ghost use Rattle.fjall_c.specs.contracts.session.Session.{the_row as session_row};
+ghost use Rattle.fjall_c.specs.declared.session.Session.{Session};
 
 use std::marker::Model;
 

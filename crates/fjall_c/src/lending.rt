@@ -5,7 +5,7 @@ ghost use types.Logic.{sem};
 ghost use Rattle.fjall_c.specs.Handles.{LendsSession};
 
 use crate::handle::Database;
-use fjall_session::Session;
+use crate::session::Session;
 use std::alloc::Global;
 
 impl Database {

@@ -7,7 +7,13 @@ mod files;
 mod handle;
 mod keyspaces;
 mod lending;
+mod mirror;
+mod pack;
+mod ranges;
 mod reads;
+mod session;
+mod snapshots;
+mod transactions;
 mod writes;
 
 pub use handle::Database;

@@ -1,9 +1,10 @@
 //! Calls that change keys.
 
 ghost use Rattle.std.specs.Prelude.{◌≡◌, []};
-ghost use Rattle.fjall_c.specs.Answers.{Adds, Answers, mode_at};
 ghost use Rattle.fjall_journal.specs.declared.op.Op.TheVariants as ops;
-ghost use Rattle.fjall_session.specs.Calls.{ByMode, Calls, Items, OfChange, engine_of, inserting, removing, reply_of};
+ghost use Rattle.fjall_c.specs.Answers.{Adds, Answers, mode_at};
+ghost use Rattle.fjall_c.specs.Calls.{ByMode, Calls, Items, OfChange, inserting, removing, reply_of};
+ghost use Rattle.fjall_c.specs.Live.{live_of};
 
 use crate::answers::{answer, mode_of};
 use crate::handle::Database;
@@ -16,7 +17,7 @@ pub extern "C" fn fjall_c_insert(
     key: &[u8],
     value: &[u8],
 ) -> i32
-    ensures { Answers result (Calls (inserting keyspace key.now value.now) reply_of (engine_of database.old.session) (engine_of database.new.session)) }
+    ensures { Answers result (Calls (inserting keyspace key.now value.now) reply_of (live_of database.old.session) (live_of database.new.session)) }
 {
     answer(database.session_mut().insert(keyspace, key, value))
 }
@@ -24,7 +25,7 @@ pub extern "C" fn fjall_c_insert(
 /// Takes a key of a keyspace and its value away.
 #[unsafe(no_mangle)]
 pub extern "C" fn fjall_c_remove(database: &mut Database, keyspace: u64, key: &[u8]) -> i32
-    ensures { Answers result (Calls (removing keyspace key.now) reply_of (engine_of database.old.session) (engine_of database.new.session)) }
+    ensures { Answers result (Calls (removing keyspace key.now) reply_of (live_of database.old.session) (live_of database.new.session)) }
 {
     answer(database.session_mut().remove(keyspace, key))
 }
@@ -38,7 +39,7 @@ pub extern "C" fn fjall_c_batch_insert(
     value: &[u8],
 ) -> i32
     ensures added { Answers {T = Unit} result (Adds (keyspace, key.now, ops.Put value.now) database.old.session.batch.items database.new.session.batch.items) }
-    ensures same { engine_of database.new.session ≡ engine_of database.old.session }
+    ensures same { live_of database.new.session ≡ live_of database.old.session }
 {
     answer(database.session_mut().batch_insert(keyspace, key, value))
 }
@@ -47,7 +48,7 @@ pub extern "C" fn fjall_c_batch_insert(
 #[unsafe(no_mangle)]
 pub extern "C" fn fjall_c_batch_remove(database: &mut Database, keyspace: u64, key: &[u8]) -> i32
     ensures added { Answers {T = Unit} result (Adds (keyspace, key.now, ops.Remove) database.old.session.batch.items database.new.session.batch.items) }
-    ensures same { engine_of database.new.session ≡ engine_of database.old.session }
+    ensures same { live_of database.new.session ≡ live_of database.old.session }
 {
     answer(database.session_mut().batch_remove(keyspace, key))
 }
@@ -56,7 +57,7 @@ pub extern "C" fn fjall_c_batch_remove(database: &mut Database, keyspace: u64, k
 /// behind it as `fjall_c_persist` does; with any other number the command waits in the journal's buffer.
 #[unsafe(no_mangle)]
 pub extern "C" fn fjall_c_batch_commit(database: &mut Database, mode: u8) -> i32
-    ensures calls { Answers result (Calls (OfChange (Items database.old.session.batch.items) (ByMode (mode_at mode))) reply_of (engine_of database.old.session) (engine_of database.new.session)) }
+    ensures calls { Answers result (Calls (OfChange (Items database.old.session.batch.items) (ByMode (mode_at mode))) reply_of (live_of database.old.session) (live_of database.new.session)) }
     ensures empty { database.new.session.batch.items ≡ [] }
 {
     answer(database.session_mut().batch_commit(mode_of(mode)))
@@ -66,7 +67,7 @@ pub extern "C" fn fjall_c_batch_commit(database: &mut Database, mode: u8) -> i32
 #[unsafe(no_mangle)]
 pub extern "C" fn fjall_c_batch_clear(database: &mut Database)
     ensures empty { database.new.session.batch.items ≡ [] }
-    ensures same { engine_of database.new.session ≡ engine_of database.old.session }
+    ensures same { live_of database.new.session ≡ live_of database.old.session }
 {
     database.session_mut().batch_clear();
 }

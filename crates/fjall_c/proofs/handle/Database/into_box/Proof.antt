@@ -45,11 +45,11 @@ use Rattle.std.specs.contracts.boxed.Box.{the_row as box_row, the_type as box_ty
 use Rattle.std.specs.contracts.boxed.Box.from_raw as callee
 use Rattle.std.specs.contracts.impls.GlobalAllocator.TheImpl.{ghosts, dict}
 use Rattle.std.proofs.boxed.Box.from_raw.Met.{met}
-use Rattle.fjall_session.specs.declared.session.Session.{Session}
-use Rattle.fjall_session.specs.contracts.session.Session.{the_row as S}
+use Rattle.fjall_c.specs.declared.session.Session.{Session}
+use Rattle.fjall_c.specs.contracts.session.Session.{the_row as S}
 use Rattle.fjall_c.specs.contracts.handle.Database.{the_row as R}
 use Rattle.fjall_c.specs.contracts.handle.Database.into_box as f
-use Rattle.fjall_session.proofs.session.Session.TheLaws as session_laws
+use Rattle.fjall_c.proofs.session.Session.TheLaws as session_laws
 use Rattle.fjall_c.proofs.handle.Database.into_box.Statement.{statement}
 use Rattle.fjall_c.proofs.handle.Database.into_box.Code as code
 use Rattle.fjall_c.proofs.handle.Database.TheLaws.{lowers}

@@ -26,12 +26,12 @@ use denote.Triple.Walked.{Stays, walk_of, says, stay_dropped, Goes-spent_ref, en
 use Rattle.std.proofs.VecSteps.Shapes.{after}
 use Rattle.std.specs.Box.Ownership.{box_owns}
 use Rattle.std.specs.contracts.impls.GlobalAllocator.TheImpl.{ghosts}
-use Rattle.fjall_session.specs.declared.session.Session.{Session}
+use Rattle.fjall_c.specs.declared.session.Session.{Session}
 use Rattle.fjall_c.specs.declared.handle.Database.{Database}
 use denote.Struct.Struct.{Struct}
 use denote.Struct.Owning.{shape}
 use Rattle.fjall_c.specs.Handles.{with_session}
-use Rattle.fjall_session.specs.contracts.session.Session.{the_row as S}
+use Rattle.fjall_c.specs.contracts.session.Session.{the_row as S}
 use Rattle.fjall_c.specs.contracts.handle.Database.{the_row as R, the_type as owning}
 use Rattle.fjall_c.specs.contracts.handle.Database.session_mut as f
 use Rattle.fjall_c.proofs.handle.Database.session_mut.Statement.{statement}

@@ -1,2 +1,0 @@
--- What the contracts of a mirror cite.
-pub mod Changes

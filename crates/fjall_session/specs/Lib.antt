@@ -1,2 +1,0 @@
--- What the contracts of a session cite.
-pub mod Calls
