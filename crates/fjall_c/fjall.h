@@ -89,8 +89,9 @@ int32_t fjall_page_at(fjall_database *database, uint64_t snapshot, uint64_t keys
 
 /* An optimistic transaction reads what the database had when it began, with its own writes, which nobody else sees until it is committed.
  * Many may be open. A commit makes its own writes as one command, as fjall_insert does one, or answers FJALL_CONFLICT where another one
- * committed since it began a key that it read, or one within a range of which it read a page; then nothing of it is made: begin again. Both
- * ends end it, whatever they answer. An id that names none that is open is refused with FJALL_SNAPSHOT_CLOSED; ids are of the same numbers
+ * committed since it began a key that it read, or one within a range of which it read a page; then nothing of it is made: begin again. What
+ * fjall_insert, fjall_remove and batches write is no transaction's, so that no commit conflicts with it: write what transactions read in
+ * transactions alone. Both ends end it, whatever they answer. An id that names none that is open is refused with FJALL_SNAPSHOT_CLOSED; ids are of the same numbers
  * as those of snapshots. */
 int32_t fjall_begin(fjall_database *database, uint64_t *transaction);
 int32_t fjall_tx_insert(fjall_database *database, uint64_t transaction, uint64_t keyspace, const void *key, size_t key_len, const void *value, size_t value_len);

@@ -2,6 +2,7 @@
 use Rattle.std.specs.Prelude.{◌≡◌, ◌⊎◌, ◌==◌, ◌+◌, ◌<◌, ◌≤◌, if◌then◌else◌, ◌++◌, [], ◌∷◌, ℕ, ℤ, true, false, List, MatchBool, Option, Some, None, Result, Ok, Err, Vec, drop, length, nat_le, negsuc, pos, take}
 use Rattle.std.specs.Int.{to_le_bytes, w64}
 use Rattle.std.specs.List.{flat_map}
+use Rattle.std.specs.Str.{IsUtf8}
 use Rattle.std.specs.declared.alloc.Global.{Global}
 use Rattle.std.specs.declared.io.ErrorKind.TheVariants.{InvalidInput}
 use Rattle.std.specs.declared.ops.Bound.{Bound}
@@ -37,9 +38,9 @@ outcome_number (outcomes.Aborted error) = pos (number_of error)
 abbrev pub AnswersOutcome : ℤ → (CommitOutcome Error → Type 0) → Type 0
 AnswersOutcome number P = (outcome : CommitOutcome Error) × (number ≡ outcome_number outcome) × P outcome
 
--- a name is refused that is no text
-abbrev pub IsNoText : Result Unit Error → Type 0
-IsNoText result = result ≡ Err (Io InvalidInput)
+-- a name is refused, since it is no text in UTF-8
+abbrev pub IsNoText : Bytes → Result Unit Error → Type 0
+IsNoText name result = (IsUtf8 name → ⊥) × (result ≡ Err (Io InvalidInput))
 
 -- A number was put in a place where the call was done, and else the place is as it was.
 abbrev pub PutsNumber : (old new : ℕ) → Result ℕ Error → Type 0

@@ -1,6 +1,7 @@
 //! Answers as numbers, and what is told beside them.
 
 ghost use Rattle.std.specs.Prelude.{◌≡◌, IfErr, IfOk};
+ghost use Rattle.std.specs.Str.{IsUtf8};
 ghost use Rattle.fjall_c.specs.Answers.{Copies, IsNameOf, IsRefusalOf, PutsId, answer_of, mode_at, outcome_number};
 
 use fjall_base::{CompressionType, Error, JournalRecoveryError, Result, StorageError};
@@ -56,7 +57,7 @@ pub(crate) fn copy_to(room: &mut [u8], bytes: &[u8])
 /// The text of a name, or `Io(InvalidInput)` where it isn't UTF-8.
 pub(crate) fn text(name: &[u8]) -> Result<&str>
     ensures ok { IfOk result (λ text. text.now ≡ name.now) }
-    ensures err { IfErr result (λ error. error ≡ Error.Io ErrorKind.InvalidInput) }
+    ensures err { IfErr result (λ error. (IsUtf8 name.now → ⊥) × (error ≡ Error.Io ErrorKind.InvalidInput)) }
 {
     match str::from_utf8(name) {
         Ok(text) => Ok(text),

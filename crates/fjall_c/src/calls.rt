@@ -1,6 +1,6 @@
 //! Calls that open, persist, flush and close, and the names of refusals.
 
-ghost use Rattle.std.specs.Prelude.{◌≡◌, MatchOption};
+ghost use Rattle.std.specs.Prelude.{◌≡◌, MatchOption, pos};
 ghost use Rattle.fjall_c.specs.Answers.{Answers, NamesRefusal, mode_at};
 ghost use Rattle.fjall_c.specs.Calls.{Calls, OfPersist, reply_of};
 ghost use Rattle.fjall_c.specs.Live.{files_of, live_of};
@@ -15,7 +15,8 @@ use std::alloc::Global;
 /// closed.
 #[unsafe(no_mangle)]
 pub extern "C" fn fjall_c_open(database: &mut Database) -> i32
-    ensures { Answers result (OpensOver (files_of database.old.session) (live_of database.old.session) (live_of database.new.session)) }
+    ensures answers { Answers result (OpensOver (files_of database.old.session) (live_of database.old.session) (live_of database.new.session)) }
+    ensures batch { database.new.session.batch ≡ database.old.session.batch }
 {
     answer(database.session_mut().open())
 }
@@ -23,8 +24,9 @@ pub extern "C" fn fjall_c_open(database: &mut Database) -> i32
 /// Writes out what waits of the journal and, in the modes 1 and 2, syncs it.
 #[unsafe(no_mangle)]
 pub extern "C" fn fjall_c_persist(database: &mut Database, mode: u8) -> i32
-    ensures { MatchOption (mode_at mode) (live_of database.new.session ≡ live_of database.old.session)
+    ensures answers { MatchOption (mode_at mode) ((result ≡ pos 7) × (live_of database.new.session ≡ live_of database.old.session))
         (λ mode. Answers result (Calls (OfPersist mode) reply_of (live_of database.old.session) (live_of database.new.session))) }
+    ensures batch { database.new.session.batch ≡ database.old.session.batch }
 {
     match mode_of(mode) {
         Some(mode) => answer(database.session_mut().persist(mode)),
@@ -35,7 +37,8 @@ pub extern "C" fn fjall_c_persist(database: &mut Database, mode: u8) -> i32
 /// Moves what a keyspace has in memory to a table, and merges its tables where that is due.
 #[unsafe(no_mangle)]
 pub extern "C" fn fjall_c_flush(database: &mut Database, keyspace: u64) -> i32
-    ensures { Answers result (Flushes keyspace (live_of database.old.session) (live_of database.new.session)) }
+    ensures answers { Answers result (Flushes keyspace (live_of database.old.session) (live_of database.new.session)) }
+    ensures batch { database.new.session.batch ≡ database.old.session.batch }
 {
     answer(database.session_mut().flush(keyspace))
 }
@@ -43,7 +46,8 @@ pub extern "C" fn fjall_c_flush(database: &mut Database, keyspace: u64) -> i32
 /// Syncs the journal and closes the database, whatever it answers. Each call answers the number of `Poisoned` from then on.
 #[unsafe(no_mangle)]
 pub extern "C" fn fjall_c_close(database: &mut Database) -> i32
-    ensures { Answers result (ClosesAs (live_of database.old.session) (live_of database.new.session)) }
+    ensures answers { Answers result (ClosesAs (live_of database.old.session) (live_of database.new.session)) }
+    ensures batch { database.new.session.batch ≡ database.old.session.batch }
 {
     answer(database.session_mut().close())
 }

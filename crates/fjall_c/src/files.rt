@@ -40,8 +40,9 @@ pub extern "C" fn fjall_c_new(alloc: Global, database: &mut *mut u8) -> i32
 #[unsafe(no_mangle)]
 pub extern "C" fn fjall_c_put_folder(database: &mut Database, name: &[u8]) -> i32
     ensures puts { Answers result (λ done. PutsFolder name.now (files_of database.old.session) (files_of database.new.session) done
-        ⊎ (IsNoText done × (files_of database.new.session ≡ files_of database.old.session))) }
+        ⊎ (IsNoText name.now done × (files_of database.new.session ≡ files_of database.old.session))) }
     ensures same { live_of database.new.session ≡ live_of database.old.session }
+    ensures batch { database.new.session.batch ≡ database.old.session.batch }
 {
     match text(name) {
         Ok(name) => answer(database.session_mut().put_folder(name)),
@@ -53,8 +54,9 @@ pub extern "C" fn fjall_c_put_folder(database: &mut Database, name: &[u8]) -> i3
 #[unsafe(no_mangle)]
 pub extern "C" fn fjall_c_put_file(database: &mut Database, name: &[u8], bytes: &[u8]) -> i32
     ensures puts { Answers result (λ done. PutsFile name.now bytes.now (files_of database.old.session) (files_of database.new.session) done
-        ⊎ (IsNoText done × (files_of database.new.session ≡ files_of database.old.session))) }
+        ⊎ (IsNoText name.now done × (files_of database.new.session ≡ files_of database.old.session))) }
     ensures same { live_of database.new.session ≡ live_of database.old.session }
+    ensures batch { database.new.session.batch ≡ database.old.session.batch }
 {
     match text(name) {
         Ok(name) => answer(database.session_mut().put_file(name, bytes)),
@@ -104,7 +106,8 @@ pub extern "C" fn fjall_c_take_change(
     bytes: &mut [u8],
     len: &mut usize,
 ) -> u8
-    ensures { database.new.session.place ≡ database.old.session.place }
+    ensures place { database.new.session.place ≡ database.old.session.place }
+    ensures batch { database.new.session.batch ≡ database.old.session.batch }
 {
     match database.session_mut().take_change() {
         Some(change) => {

@@ -74,8 +74,9 @@ pub extern "C" fn fjall_c_get(
     room: &mut [u8],
     found: &mut Found,
 ) -> i32
-    ensures { Answers result (λ value. Calls (OfRead Present keyspace (Get key.now)) value_reply (live_of database.old.session) (live_of database.new.session) value
+    ensures answers { Answers result (λ value. Calls (OfRead Present keyspace (Get key.now)) value_reply (live_of database.old.session) (live_of database.new.session) value
         × PutsFound found.old found.new room.old room.new value) }
+    ensures batch { database.new.session.batch ≡ database.old.session.batch }
 {
     let read = database.session_mut().get(View::Present, keyspace, key);
     put_found(read, room, found)
@@ -91,8 +92,9 @@ pub extern "C" fn fjall_c_get_at(
     room: &mut [u8],
     found: &mut Found,
 ) -> i32
-    ensures { Answers result (λ value. Calls (OfRead (seen_at snapshot) keyspace (Get key.now)) value_reply (live_of database.old.session) (live_of database.new.session) value
+    ensures answers { Answers result (λ value. Calls (OfRead (seen_at snapshot) keyspace (Get key.now)) value_reply (live_of database.old.session) (live_of database.new.session) value
         × PutsFound found.old found.new room.old room.new value) }
+    ensures batch { database.new.session.batch ≡ database.old.session.batch }
 {
     let read = database
         .session_mut()
@@ -118,10 +120,11 @@ pub extern "C" fn fjall_c_page(
     room: &mut [u8],
     page: &mut Page,
 ) -> i32
-    ensures { AnswersRange (range_at start_bound start.now end_bound end.now) result
+    ensures answers { AnswersRange (range_at start_bound start.now end_bound end.now) result
         ((live_of database.new.session ≡ live_of database.old.session) × (page.new ≡ page.old) × (room.new ≡ room.old))
         (λ range pairs. Calls (OfRead Present keyspace (PageOf range back max)) pairs_reply (live_of database.old.session) (live_of database.new.session) pairs
         × PutsPage page.old page.new room.old room.new pairs) }
+    ensures batch { database.new.session.batch ≡ database.old.session.batch }
 {
     match range_of(alloc, start_bound, start, end_bound, end) {
         Ok(range) => {
@@ -150,10 +153,11 @@ pub extern "C" fn fjall_c_page_at(
     room: &mut [u8],
     page: &mut Page,
 ) -> i32
-    ensures { AnswersRange (range_at start_bound start.now end_bound end.now) result
+    ensures answers { AnswersRange (range_at start_bound start.now end_bound end.now) result
         ((live_of database.new.session ≡ live_of database.old.session) × (page.new ≡ page.old) × (room.new ≡ room.old))
         (λ range pairs. Calls (OfRead (seen_at snapshot) keyspace (PageOf range back max)) pairs_reply (live_of database.old.session) (live_of database.new.session) pairs
         × PutsPage page.old page.new room.old room.new pairs) }
+    ensures batch { database.new.session.batch ≡ database.old.session.batch }
 {
     match range_of(alloc, start_bound, start, end_bound, end) {
         Ok(range) => {

@@ -59,6 +59,7 @@ impl Session {
     pub fn put_folder(&mut self, name: &str) -> Result<()>
         ensures puts { PutsFolder name.now (files_of self.old) (files_of self.new) result }
         ensures same { live_of self.new ≡ live_of self.old }
+        ensures batch { self.new.batch ≡ self.old.batch }
     {
         match &mut self.place {
             Place::Files(disk) => disk.make_folder(name),
@@ -70,6 +71,7 @@ impl Session {
     pub fn put_file(&mut self, name: &str, bytes: &[u8]) -> Result<()>
         ensures puts { PutsFile name.now bytes.now (files_of self.old) (files_of self.new) result }
         ensures same { live_of self.new ≡ live_of self.old }
+        ensures batch { self.new.batch ≡ self.old.batch }
     {
         match &mut self.place {
             Place::Files(disk) => put_synced(disk, name, bytes),
@@ -80,7 +82,8 @@ impl Session {
     /// Opens the database of these files, or begins one where there are none. Where it is refused, as `Engine::open` is, the session
     /// is closed.
     pub fn open(&mut self) -> Result<()>
-        ensures { OpensOver (files_of self.old) (live_of self.old) (live_of self.new) result }
+        ensures answers { OpensOver (files_of self.old) (live_of self.old) (live_of self.new) result }
+        ensures batch { self.new.batch ≡ self.old.batch }
     {
         match mem::replace(&mut self.place, Place::Closed) {
             Place::Files(files) => {
@@ -101,7 +104,8 @@ impl Session {
 
     /// Gives the first change away that the folder is still to take.
     pub fn take_change(&mut self) -> Option<Change>
-        ensures { self.new.place ≡ self.old.place }
+        ensures place { self.new.place ≡ self.old.place }
+        ensures batch { self.new.batch ≡ self.old.batch }
     {
         self.log.take_first()
     }
@@ -110,7 +114,8 @@ impl Session {
     ///
     /// Refusals: `Poisoned`, and `Io`.
     pub fn close(&mut self) -> Result<()>
-        ensures { ClosesAs (live_of self.old) (live_of self.new) result }
+        ensures answers { ClosesAs (live_of self.old) (live_of self.new) result }
+        ensures batch { self.new.batch ≡ self.old.batch }
     {
         match mem::replace(&mut self.place, Place::Closed) {
             Place::Open(opened) => Box::into_inner(opened).close(),

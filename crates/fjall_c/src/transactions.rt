@@ -15,7 +15,9 @@ use std::alloc::Global;
 /// Begins an optimistic transaction, which reads what the database has now, and puts its id into `transaction`.
 #[unsafe(no_mangle)]
 pub extern "C" fn fjall_c_begin(database: &mut Database, transaction: &mut u64) -> i32
-    ensures { Answers result (λ begun. Begins (live_of database.old.session) (live_of database.new.session) begun × PutsId transaction.old transaction.new begun) }
+    ensures answers { Answers result (λ begun. Begins (live_of database.old.session) (live_of database.new.session) begun
+        × PutsId transaction.old transaction.new begun) }
+    ensures batch { database.new.session.batch ≡ database.old.session.batch }
 {
     let begun = database.session_mut().begin();
     put_id(begun, transaction)
@@ -30,7 +32,8 @@ pub extern "C" fn fjall_c_tx_insert(
     key: &[u8],
     value: &[u8],
 ) -> i32
-    ensures { Answers result (λ done. WithinOne transaction (Writes keyspace key.now (ops.Put value.now) done) done (live_of database.old.session) (live_of database.new.session)) }
+    ensures answers { Answers result (λ done. WithinOne transaction (Writes keyspace key.now (ops.Put value.now) done) done (live_of database.old.session) (live_of database.new.session)) }
+    ensures batch { database.new.session.batch ≡ database.old.session.batch }
 {
     answer(
         database
@@ -47,7 +50,8 @@ pub extern "C" fn fjall_c_tx_remove(
     keyspace: u64,
     key: &[u8],
 ) -> i32
-    ensures { Answers result (λ done. WithinOne transaction (Writes keyspace key.now ops.Remove done) done (live_of database.old.session) (live_of database.new.session)) }
+    ensures answers { Answers result (λ done. WithinOne transaction (Writes keyspace key.now ops.Remove done) done (live_of database.old.session) (live_of database.new.session)) }
+    ensures batch { database.new.session.batch ≡ database.old.session.batch }
 {
     answer(database.session_mut().remove_in(transaction, keyspace, key))
 }
@@ -62,8 +66,9 @@ pub extern "C" fn fjall_c_tx_get(
     room: &mut [u8],
     found: &mut Found,
 ) -> i32
-    ensures { Answers result (λ value. WithinOne transaction (Gets keyspace key.now value) value (live_of database.old.session) (live_of database.new.session)
+    ensures answers { Answers result (λ value. WithinOne transaction (Gets keyspace key.now value) value (live_of database.old.session) (live_of database.new.session)
         × PutsFound found.old found.new room.old room.new value) }
+    ensures batch { database.new.session.batch ≡ database.old.session.batch }
 {
     let read = database.session_mut().get_in(transaction, keyspace, key);
     put_found(read, room, found)
@@ -85,10 +90,11 @@ pub extern "C" fn fjall_c_tx_page(
     room: &mut [u8],
     page: &mut Page,
 ) -> i32
-    ensures { AnswersRange (range_at start_bound start.now end_bound end.now) result
+    ensures answers { AnswersRange (range_at start_bound start.now end_bound end.now) result
         ((live_of database.new.session ≡ live_of database.old.session) × (page.new ≡ page.old) × (room.new ≡ room.old))
         (λ range pairs. WithinOne transaction (Pages keyspace range back max pairs) pairs (live_of database.old.session) (live_of database.new.session)
         × PutsPage page.old page.new room.old room.new pairs) }
+    ensures batch { database.new.session.batch ≡ database.old.session.batch }
 {
     match range_of(alloc, start_bound, start, end_bound, end) {
         Ok(range) => {
@@ -105,7 +111,8 @@ pub extern "C" fn fjall_c_tx_page(
 /// what another one wrote and committed since it began, and nothing of it is, or the number of a refusal.
 #[unsafe(no_mangle)]
 pub extern "C" fn fjall_c_commit(database: &mut Database, transaction: u64) -> i32
-    ensures { AnswersOutcome result (λ outcome. Commits transaction outcome (live_of database.old.session) (live_of database.new.session)) }
+    ensures answers { AnswersOutcome result (λ outcome. Commits transaction outcome (live_of database.old.session) (live_of database.new.session)) }
+    ensures batch { database.new.session.batch ≡ database.old.session.batch }
 {
     answer_outcome(database.session_mut().commit(transaction))
 }
@@ -113,7 +120,8 @@ pub extern "C" fn fjall_c_commit(database: &mut Database, transaction: u64) -> i
 /// Ends a transaction, and nothing of what it wrote is accepted.
 #[unsafe(no_mangle)]
 pub extern "C" fn fjall_c_rollback(database: &mut Database, transaction: u64) -> i32
-    ensures { Answers result (λ done. RollsBack transaction done (live_of database.old.session) (live_of database.new.session)) }
+    ensures answers { Answers result (λ done. RollsBack transaction done (live_of database.old.session) (live_of database.new.session)) }
+    ensures batch { database.new.session.batch ≡ database.old.session.batch }
 {
     answer(database.session_mut().rollback(transaction))
 }

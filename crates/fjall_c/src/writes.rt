@@ -17,7 +17,8 @@ pub extern "C" fn fjall_c_insert(
     key: &[u8],
     value: &[u8],
 ) -> i32
-    ensures { Answers result (Calls (inserting keyspace key.now value.now) reply_of (live_of database.old.session) (live_of database.new.session)) }
+    ensures answers { Answers result (Calls (inserting keyspace key.now value.now) reply_of (live_of database.old.session) (live_of database.new.session)) }
+    ensures batch { database.new.session.batch ≡ database.old.session.batch }
 {
     answer(database.session_mut().insert(keyspace, key, value))
 }
@@ -25,7 +26,8 @@ pub extern "C" fn fjall_c_insert(
 /// Takes a key of a keyspace and its value away.
 #[unsafe(no_mangle)]
 pub extern "C" fn fjall_c_remove(database: &mut Database, keyspace: u64, key: &[u8]) -> i32
-    ensures { Answers result (Calls (removing keyspace key.now) reply_of (live_of database.old.session) (live_of database.new.session)) }
+    ensures answers { Answers result (Calls (removing keyspace key.now) reply_of (live_of database.old.session) (live_of database.new.session)) }
+    ensures batch { database.new.session.batch ≡ database.old.session.batch }
 {
     answer(database.session_mut().remove(keyspace, key))
 }

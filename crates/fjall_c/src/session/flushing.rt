@@ -52,7 +52,8 @@ impl Session {
     /// Moves what a keyspace has in memory to a table, merges its tables where that is due, and removes the journals that nobody wants
     /// then. It tells the first refusal of the engine's calls that it makes of these, each of which changes no view.
     pub fn flush(&mut self, id: u64) -> Result<()>
-        ensures { Flushes id (live_of self.old) (live_of self.new) result }
+        ensures answers { Flushes id (live_of self.old) (live_of self.new) result }
+        ensures batch { self.new.batch ≡ self.old.batch }
     {
         match &mut self.place {
             Place::Open(opened) => flush_engine(self.alloc, &mut opened.core, id),

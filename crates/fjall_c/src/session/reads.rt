@@ -1,5 +1,6 @@
 //! Calls that read a database, at its present or at a snapshot.
 
+ghost use Rattle.std.specs.Prelude.{◌≡◌};
 ghost use Rattle.fjall_c.specs.Calls.{Calls, Close, Get, OfRead, OfTickets, Open, Page, pairs_reply, reply_of, ticket_reply, value_reply};
 ghost use Rattle.fjall_c.specs.Live.{live_of};
 
@@ -12,7 +13,8 @@ use fjall_transactions::{Ticket, View};
 impl Session {
     /// The value that a key of a keyspace has in a view; refused as `Engine::get_at` is. Nothing changes.
     pub fn get(&mut self, view: View, id: u64, key: &[u8]) -> Result<Option<UserValue>>
-        ensures { Calls (OfRead view id (Get key.now)) value_reply (live_of self.old) (live_of self.new) result }
+        ensures answers { Calls (OfRead view id (Get key.now)) value_reply (live_of self.old) (live_of self.new) result }
+        ensures batch { self.new.batch ≡ self.old.batch }
     {
         match &mut self.place {
             Place::Open(opened) => opened.core.get_at(view, id, key),
@@ -30,7 +32,8 @@ impl Session {
         back: bool,
         max: usize,
     ) -> Result<Vec<KvPair>>
-        ensures { Calls (OfRead view id (Page range.now back max)) pairs_reply (live_of self.old) (live_of self.new) result }
+        ensures answers { Calls (OfRead view id (Page range.now back max)) pairs_reply (live_of self.old) (live_of self.new) result }
+        ensures batch { self.new.batch ≡ self.old.batch }
     {
         match &mut self.place {
             Place::Open(opened) => opened.core.page_at(view, id, range, back, max),
@@ -40,7 +43,8 @@ impl Session {
 
     /// Opens a snapshot of all that was accepted so far, which shows that until it is closed; refused as `Engine::snapshot` is.
     pub fn snapshot(&mut self) -> Result<Ticket>
-        ensures { Calls (OfTickets Open) ticket_reply (live_of self.old) (live_of self.new) result }
+        ensures answers { Calls (OfTickets Open) ticket_reply (live_of self.old) (live_of self.new) result }
+        ensures batch { self.new.batch ≡ self.old.batch }
     {
         match &mut self.place {
             Place::Open(opened) => opened.core.snapshot(),
@@ -50,7 +54,8 @@ impl Session {
 
     /// Closes the snapshot of this id; refused as `Engine::close_snapshot` is.
     pub fn close_snapshot(&mut self, id: u64) -> Result<()>
-        ensures { Calls (OfTickets (Close id)) reply_of (live_of self.old) (live_of self.new) result }
+        ensures answers { Calls (OfTickets (Close id)) reply_of (live_of self.old) (live_of self.new) result }
+        ensures batch { self.new.batch ≡ self.old.batch }
     {
         match &mut self.place {
             Place::Open(opened) => opened.core.close_snapshot(Ticket { id, instant: 0 }),

@@ -16,7 +16,8 @@ impl Session {
     /// The id of the keyspace of this name, which is made with the default options where none has it; refused as
     /// `Engine::keyspace` is.
     pub fn keyspace(&mut self, name: &[u8]) -> Result<u64>
-        ensures { Calls (OfCreation name.now default_options) number_reply (live_of self.old) (live_of self.new) result }
+        ensures answers { Calls (OfCreation name.now default_options) number_reply (live_of self.old) (live_of self.new) result }
+        ensures batch { self.new.batch ≡ self.old.batch }
     {
         let options = KeyspaceCreateOptions::default(self.alloc)?;
         match &mut self.place {
@@ -27,7 +28,8 @@ impl Session {
 
     /// Gives a key of a keyspace a value; refused as `Engine::insert` is.
     pub fn insert(&mut self, id: u64, key: &[u8], value: &[u8]) -> Result<()>
-        ensures { Calls (inserting id key.now value.now) reply_of (live_of self.old) (live_of self.new) result }
+        ensures answers { Calls (inserting id key.now value.now) reply_of (live_of self.old) (live_of self.new) result }
+        ensures batch { self.new.batch ≡ self.old.batch }
     {
         let (key, value) = (Slice::new(self.alloc, key)?, Slice::new(self.alloc, value)?);
         match &mut self.place {
@@ -38,7 +40,8 @@ impl Session {
 
     /// Takes a key of a keyspace and its value away; refused as `Engine::remove` is.
     pub fn remove(&mut self, id: u64, key: &[u8]) -> Result<()>
-        ensures { Calls (removing id key.now) reply_of (live_of self.old) (live_of self.new) result }
+        ensures answers { Calls (removing id key.now) reply_of (live_of self.old) (live_of self.new) result }
+        ensures batch { self.new.batch ≡ self.old.batch }
     {
         let key = Slice::new(self.alloc, key)?;
         match &mut self.place {
@@ -90,7 +93,8 @@ impl Session {
 
     /// Writes out what waits of the journal, and syncs it in the two sync modes; refused as `Engine::persist` is.
     pub fn persist(&mut self, mode: PersistMode) -> Result<()>
-        ensures { Calls (OfPersist mode) reply_of (live_of self.old) (live_of self.new) result }
+        ensures answers { Calls (OfPersist mode) reply_of (live_of self.old) (live_of self.new) result }
+        ensures batch { self.new.batch ≡ self.old.batch }
     {
         match &mut self.place {
             Place::Open(opened) => opened.core.persist(mode),

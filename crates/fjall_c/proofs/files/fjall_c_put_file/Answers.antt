@@ -7,4 +7,4 @@ refused error = Err error
 
 pub returns-in-Err-clause-puts : goal.returns-in-Err-clause-puts
 unfolding refused
-returns-in-Err-clause-puts c = (Err c.in-Err.error, search rules, inr (ap refused c.in-Err.ensures.err, refl))
+returns-in-Err-clause-puts c = (Err c.in-Err.error, search rules, inr ((c.in-Err.ensures.err.0, ap refused c.in-Err.ensures.err.1), refl))
