@@ -17,6 +17,12 @@ pub const VALUE_LEN: usize = 100;
 /// A record has 150 bytes, as many as the digest of one insert's batch is taken of; the batch has 163.
 const RECORD_LEN: usize = 150;
 
+/// The digest of one deletion's batch is taken of so many bytes.
+const DELETION_LEN: usize = 50;
+
+/// The digest of a batch of 100 inserts is taken of so many.
+const BATCH_LEN: usize = 13_713;
+
 /// The key of a number, which is twice the number. Keys are in the order of their numbers.
 pub fn key_of(number: u64) -> [u8; KEY_LEN] {
     (u128::from(number) * 2).to_be_bytes()
@@ -62,12 +68,48 @@ pub fn record_of(number: u64) -> [u8; RECORD_LEN] {
     record
 }
 
-/// Takes the SHA-256 of each number's record, and says how many aren't all zeros.
-pub fn count_digests(numbers: &[u64]) -> u64 {
+/// What digests are taken of.
+#[derive(Clone, Copy)]
+pub enum Digested {
+    /// Each number's record.
+    Inserts,
+    /// So much of it as a deletion's batch has.
+    Deletions,
+    /// Texts as long as those of batches, one for so many numbers.
+    Batches(usize),
+}
+
+// Whether the SHA-256 of a text isn't all zeros.
+fn has_digest(text: &[u8]) -> bool {
+    Sha256::digest(text).iter().any(|byte| *byte != 0)
+}
+
+// How many of the numbers have a record, or so much of it, whose SHA-256 isn't all zeros.
+fn count_records(numbers: &[u64], len: usize) -> u64 {
     let mut digests = 0u64;
     for number in numbers {
-        let digest = Sha256::digest(&record_of(*number));
-        digests = digests.saturating_add(u64::from(digest.iter().any(|byte| *byte != 0)));
+        let has = has_digest(record_of(*number).get(..len).unwrap_or(&[]));
+        digests = digests.saturating_add(u64::from(has));
+    }
+    digests
+}
+
+/// Takes the SHA-256 of what stands for the numbers, and says for how many of them it isn't all zeros.
+pub fn count_digests(numbers: &[u64], digested: Digested) -> u64 {
+    let together = match digested {
+        Digested::Inserts => return count_records(numbers, RECORD_LEN),
+        Digested::Deletions => return count_records(numbers, DELETION_LEN),
+        Digested::Batches(together) => together.max(1),
+    };
+    let text = [0x76; BATCH_LEN];
+    let mut digests = 0u64;
+    for batch in numbers.chunks(together) {
+        let count = if has_digest(&text) {
+            batch.len() as u64
+        } else {
+            0
+        };
+        digests = digests.saturating_add(count);
     }
     digests
 }

@@ -1,6 +1,6 @@
 //! The table of workloads.
 
-use crate::data::{at_random, in_order};
+use crate::data::{Digested, at_random, in_order};
 use std::alloc::{AllocError, Global};
 
 /// So many pairs stand in a batch, and at most so many in a range.
@@ -43,8 +43,8 @@ pub enum Action {
     Close,
     /// The database is closed, and opened again, which is measured.
     Reopen,
-    /// The digest of a record of each number is taken, beside the database.
-    Digest,
+    /// The digests that writes of the numbers take are taken, beside the database.
+    Digest(Digested),
     /// A record of each number is appended to a file of the closed database's disk.
     Append,
     /// Each number's pair is inserted into a memtable, beside the database.
@@ -135,9 +135,23 @@ const BATCHES: [Workload; 1] = [Workload(
 
 const SYNCED: [Workload; 1] = [Workload("one sync a write", Action::InsertSynced, Choice::Synced)];
 
-// What the machine can do at best: an insert takes a digest, an append and an insertion into a memtable, a scan its pairs.
-const LIMITS: [Workload; 5] = [
-    Workload("digest 150 bytes", Action::Digest, Choice::Ordered),
+// What the machine can do at best: a write takes a digest, an append and an insertion into a memtable, a scan its pairs.
+const LIMITS: [Workload; 7] = [
+    Workload(
+        "digest 150 bytes",
+        Action::Digest(Digested::Inserts),
+        Choice::Ordered,
+    ),
+    Workload(
+        "digest 50 bytes",
+        Action::Digest(Digested::Deletions),
+        Choice::Ordered,
+    ),
+    Workload(
+        "digest 13713 bytes a hundred",
+        Action::Digest(Digested::Batches(PAIRS_TOGETHER)),
+        Choice::Ordered,
+    ),
     Workload("append 150 bytes", Action::Append, Choice::Ordered),
     Workload(
         "fill a memtable in order",

@@ -166,7 +166,7 @@ fn serve<D: Disk>(
         Action::ScanForward => return scan(core, id, false),
         Action::ScanBack => return scan(core, id, true),
         Action::ReadRanges => return count_ranges(alloc, core, id, numbers),
-        Action::Digest => return Ok(count_digests(numbers)),
+        Action::Digest(digested) => return Ok(count_digests(numbers, digested)),
         Action::FillMemtable => return fill_memtable(alloc, numbers),
         Action::MakePairs => return make_pairs(alloc, numbers),
         Action::InsertBatches => write_batches(alloc, core, id, numbers)?,
@@ -181,7 +181,7 @@ fn serve<D: Disk>(
 fn tell(rt: &HostRuntime, workload: &Workload, count: u64, spent: Spent) -> Result<()> {
     let row = Row {
         engine: match workload.1 {
-            Action::Digest => "sha2 alone",
+            Action::Digest(_) => "sha2 alone",
             Action::Append => "disk alone",
             Action::FillMemtable => "memtable alone",
             Action::MakePairs => "pairs alone",

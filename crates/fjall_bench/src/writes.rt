@@ -23,21 +23,15 @@ fn flush_full<D: Disk>(alloc: Global, core: &mut Engine<D>, id: u64) -> Result<(
 }
 
 // Inserts the pair of a number into a keyspace, or deletes it there.
-fn write<D: Disk>(
-    alloc: Global,
-    core: &mut Engine<D>,
-    id: u64,
-    action: Action,
-    number: u64,
-) -> Result<()> {
-    let (key, value) = pair_of(alloc, number)?;
+fn write<D: Disk>(core: &mut Engine<D>, id: u64, action: Action, number: u64) -> Result<()> {
+    let key = key_of(number);
     match action {
-        Action::Remove => core.remove(id, key),
+        Action::Remove => core.remove(id, &key),
         Action::InsertSynced => {
-            core.insert(id, key, value)?;
+            core.insert(id, &key, &value_of(number))?;
             core.persist(PersistMode::SyncAll)
         }
-        _ => core.insert(id, key, value),
+        _ => core.insert(id, &key, &value_of(number)),
     }
 }
 
@@ -50,7 +44,7 @@ pub fn write_each<D: Disk>(
     numbers: &[u64],
 ) -> Result<()> {
     for number in numbers {
-        write(alloc, core, id, action, *number)?;
+        write(core, id, action, *number)?;
         flush_full(alloc, core, id)?;
     }
     core.persist(PersistMode::Buffer)

@@ -1,12 +1,13 @@
 -- The changes that callers give, and which of them make a batch.
-use Rattle.std.specs.Prelude.{◌≡◌, ◌<◌, None, length}
+use Rattle.std.specs.Prelude.{◌≡◌, ◌<◌, None, [], ◌∷◌, length}
 use Rattle.fjall_journal.specs.Changes.{Change, Emptied, Items}
-use Rattle.fjall_journal.specs.Ops.{items_refusal}
+use Rattle.fjall_journal.specs.Ops.{items_refusal, op_of}
 use Rattle.fjall_commit.specs.declared.journaling.Change as given
 
 -- the change that is meant
 abbrev pub meant : given.Change → Change
 meant (given.TheVariants.Items items) = Items items.now
+meant (given.TheVariants.Item id key op) = Items ((id, key.now, op_of op) ∷ [])
 meant (given.TheVariants.Emptied id) = Emptied id
 
 -- a batch may have the items of the change

@@ -10,12 +10,14 @@ ghost use Rattle.fjall_commit.specs.Journaling.{IsWriting, LeavesRoot, TookIn, a
 ghost use Rattle.fjall_commit.specs.Given.{ChangesSome, FitsBatch, meant};
 
 use fjall_base::{Disk, Error, Result};
-use fjall_journal::{BatchItem, PersistMode, Writer};
+use fjall_journal::{BatchItem, OpRef, PersistMode, Writer};
 
-/// What one command of the journal changes: items of keyspaces, or a keyspace that is emptied.
+/// What one command of the journal changes: items of keyspaces, one key of a keyspace, or a keyspace that is emptied.
 #[derive(Clone, Copy)]
 pub enum Change<'a> {
     Items(&'a [BatchItem]),
+    /// As one item of this keyspace, whose key and value are lent.
+    Item(u64, &'a [u8], OpRef<'a>),
     Emptied(u64),
 }
 
@@ -87,6 +89,9 @@ fn write_change<D: Disk>(
 {
     match change {
         Change::Items(items) => journal.write_batch(disk, items, seqno),
+        Change::Item(id, key, op) => {
+            journal.write_raw(disk, id, key, op.bytes(), op.value_type(), seqno)
+        }
         Change::Emptied(keyspace_id) => journal.write_clear(disk, keyspace_id, seqno),
     }
 }

@@ -2,6 +2,7 @@
 
 ghost use Rattle.std.specs.Prelude.{◌≡◌, ◌<◌, ◌^◌, IsTrue};
 ghost use Rattle.fjall_journal.specs.Changes.{Items};
+ghost use Rattle.fjall_journal.specs.Ops.{op_of};
 ghost use Rattle.fjall_journal.specs.declared.op.Op.TheVariants as ops;
 ghost use Rattle.fjall_commit.specs.Given.{ChangesSome, FitsBatch, meant};
 ghost use Rattle.fjall_machine.specs.Allowed.{IsOfLiving};
@@ -13,10 +14,9 @@ ghost use Rattle.fjall_core.specs.CallParts.{Writes};
 ghost use Rattle.fjall_core.specs.Standing.{StandsFor, StandsOn, Owes, Serves, held_due, mode_of, reply_of, store_in};
 
 use crate::engine::Engine;
-use fjall_base::{Disk, Error, Result, UserKey, UserValue};
+use fjall_base::{Disk, Error, Result};
 use fjall_commit::{Change, sync_journal};
-use fjall_journal::{BatchItem, Op, PersistMode};
-use std::slice;
+use fjall_journal::{BatchItem, OpRef, PersistMode};
 
 impl<D: Disk> Engine<D> {
     // Makes a change as one command, under the next number. All memory is got before the first byte goes to the disk.
@@ -64,12 +64,15 @@ impl<D: Disk> Engine<D> {
     }
 
     // Changes one key, persisted as its keyspace says.
-    fn change_key(&mut self, item: BatchItem) -> Result<()>
-        ensures serves { IsTrue D.honest → Serves self.old (of_write item) (reply_of result) self.new }
-        ensures owes { Owes self.old (of_write item) (reply_of result) self.new }
+    fn change_key(&mut self, id: u64, key: &[u8], op: OpRef<'_>) -> Result<()>
+        ensures serves { IsTrue D.honest → Serves self.old (of_write (id, key.now, op_of op.entry)) (reply_of result) self.new }
+        ensures owes { Owes self.old (of_write (id, key.now, op_of op.entry)) (reply_of result) self.new }
     {
-        let mode = self.mode_of(item.0);
-        self.change(slice::from_ref(&item), mode)
+        if let Some(error) = self.memory.key_refusal(id, key, op) {
+            return Err(error);
+        }
+        let mode = self.mode_of(id);
+        self.write(Change::Item(id, key, op), mode)
     }
 
     /// Gives a key of a keyspace a value, under the next number, and hands the command to the system, with all that
@@ -80,28 +83,28 @@ impl<D: Disk> Engine<D> {
     /// Refusals, the first that has its cause: `KeyEmpty`, `KeyTooLong` (above 65,535 bytes), `ValueTooLong` (above
     /// 4,294,967,295), `UnknownKeyspace`, `KeyspaceDeleted`, `Poisoned`, `NumbersUsedUp`, `OutOfMemory`, and `Io`,
     /// after which the core is poisoned. After each of the others nothing has changed.
-    pub fn insert(&mut self, id: u64, key: UserKey, value: UserValue) -> Result<()>
-        ensures serves { IsTrue D.honest → Serves self.old (of_write (id, key, ops.Put value)) (reply_of result) self.new }
-        ensures owes { Owes self.old (of_write (id, key, ops.Put value)) (reply_of result) self.new }
+    pub fn insert(&mut self, id: u64, key: &[u8], value: &[u8]) -> Result<()>
+        ensures serves { IsTrue D.honest → Serves self.old (of_write (id, key.now, ops.Put value.now)) (reply_of result) self.new }
+        ensures owes { Owes self.old (of_write (id, key.now, ops.Put value.now)) (reply_of result) self.new }
     {
-        self.change_key((id, key, Op::Put(value)))
+        self.change_key(id, key, OpRef::Put(value))
     }
 
     /// Takes a key of a keyspace and its value away, under the next number, whether the key is there or not. It is
     /// refused as [`insert`](Engine::insert) is, and a crash may lose it as long.
-    pub fn remove(&mut self, id: u64, key: UserKey) -> Result<()>
-        ensures serves { IsTrue D.honest → Serves self.old (of_write (id, key, ops.Remove)) (reply_of result) self.new }
-        ensures owes { Owes self.old (of_write (id, key, ops.Remove)) (reply_of result) self.new }
+    pub fn remove(&mut self, id: u64, key: &[u8]) -> Result<()>
+        ensures serves { IsTrue D.honest → Serves self.old (of_write (id, key.now, ops.Remove)) (reply_of result) self.new }
+        ensures owes { Owes self.old (of_write (id, key.now, ops.Remove)) (reply_of result) self.new }
     {
-        self.change_key((id, key, Op::Remove))
+        self.change_key(id, key, OpRef::Remove)
     }
 
     /// Acts as [`remove`](Engine::remove); the journal alone tells the two apart.
-    pub fn remove_weak(&mut self, id: u64, key: UserKey) -> Result<()>
-        ensures serves { IsTrue D.honest → Serves self.old (of_write (id, key, ops.RemoveWeak)) (reply_of result) self.new }
-        ensures owes { Owes self.old (of_write (id, key, ops.RemoveWeak)) (reply_of result) self.new }
+    pub fn remove_weak(&mut self, id: u64, key: &[u8]) -> Result<()>
+        ensures serves { IsTrue D.honest → Serves self.old (of_write (id, key.now, ops.RemoveWeak)) (reply_of result) self.new }
+        ensures owes { Owes self.old (of_write (id, key.now, ops.RemoveWeak)) (reply_of result) self.new }
     {
-        self.change_key((id, key, Op::RemoveWeak))
+        self.change_key(id, key, OpRef::RemoveWeak)
     }
 
     /// Takes all keys of a keyspace and their values away, under the next number, as one command: what is written to the

@@ -464,7 +464,7 @@ fn seen_in(core: &mut Engine<MemoryDisk>) -> Result<Seen> {
 fn ingested(alloc: Global, bulk: Ingestion<()>) -> Result<(Seen, Seen)> {
     let mut core = opened(alloc, MemoryDisk::new(alloc))?;
     core.keyspace(b"items", KeyspaceCreateOptions::default(alloc)?)?;
-    core.insert(1, Slice::new(alloc, b"c")?, Slice::new(alloc, b"e")?)?;
+    core.insert(1, b"c", b"e")?;
     core.ingest(1, bulk.into_items())?;
     let first = seen_in(&mut core)?;
     core.ingest(9, Ingestion::new(alloc, ()).into_items())?;

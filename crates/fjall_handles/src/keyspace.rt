@@ -109,8 +109,6 @@ impl<D: Disk + Drop> Keyspace<D> {
     /// Gives a key a value. Where workers lag behind, it waits for them once it has written.
     pub fn insert<R: Wait>(&self, rt: &R, key: &[u8], value: &[u8]) -> Result<()> {
         check_item(key, value)?;
-        let alloc = self.inner().alloc;
-        let (key, value) = (Slice::new(alloc, key)?, Slice::new(alloc, value)?);
         let id = self.owner.id;
         let most = self.inner().settings.max_journaling_size;
         let needs = {
@@ -128,7 +126,6 @@ impl<D: Disk + Drop> Keyspace<D> {
     /// Takes a key and its value away.
     pub fn remove<R: Wait>(&self, rt: &R, key: &[u8]) -> Result<()> {
         check_item(key, &[])?;
-        let key = Slice::new(self.inner().alloc, key)?;
         let id = self.owner.id;
         let most = self.inner().settings.max_journaling_size;
         let needs = {
@@ -146,7 +143,6 @@ impl<D: Disk + Drop> Keyspace<D> {
     /// Acts as [`remove`](Keyspace::remove); the journal alone tells the two apart.
     pub fn remove_weak<R: Wait>(&self, rt: &R, key: &[u8]) -> Result<()> {
         check_item(key, &[])?;
-        let key = Slice::new(self.inner().alloc, key)?;
         let id = self.owner.id;
         let most = self.inner().settings.max_journaling_size;
         let needs = {

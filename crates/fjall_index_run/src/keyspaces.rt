@@ -48,12 +48,12 @@ impl Session {
             ["insert", name, key, value] => {
                 let (key, value) = (bytes(alloc, key)?, bytes(alloc, value)?);
                 let id = self.id_of(name)?;
-                self.core()?.insert(id, key, value)?;
+                self.core()?.insert(id, &key, &value)?;
             }
             ["remove", name, key] => {
                 let key = bytes(alloc, key)?;
                 let id = self.id_of(name)?;
-                self.core()?.remove(id, key)?;
+                self.core()?.remove(id, &key)?;
             }
             ["flush", name] => {
                 let id = self.id_of(name)?;

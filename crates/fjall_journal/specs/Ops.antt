@@ -13,6 +13,8 @@ use Rattle.fjall_journal.specs.declared.entry.ValueType.{ValueType}
 use Rattle.fjall_journal.specs.declared.entry.ValueType.TheVariants as kinds
 pub use Rattle.fjall_journal.specs.declared.op.Op.{Op}
 use Rattle.fjall_journal.specs.declared.op.Op.TheVariants.{Put, Remove, RemoveWeak}
+use Rattle.fjall_journal.specs.declared.op.OpRef.{OpRef}
+use Rattle.fjall_journal.specs.declared.op.OpRef.TheVariants as lent
 use Rattle.fjall_journal.specs.Batches.{Written, batch_text}
 
 -- the value that the key has afterwards
@@ -32,6 +34,12 @@ abbrev pub kind_of : Op → ValueType
 kind_of (Put value) = kinds.Value
 kind_of Remove = kinds.Tombstone
 kind_of RemoveWeak = kinds.WeakTombstone
+
+-- what a lent one does
+abbrev pub op_of : OpRef → Op
+op_of (lent.Put value) = Put value.now
+op_of lent.Remove = Remove
+op_of lent.RemoveWeak = RemoveWeak
 
 -- an item of a batch: the keyspace, the key, and what becomes of it
 abbrev pub BatchItem : Type 0

@@ -26,7 +26,9 @@ pub use known_batches::KnownBatches;
 pub use laws::{
     cut_reads, one_reading, one_spelling, one_tail, texts_are_whole, whole_behind, whole_grows,
 };
-pub use op::{BatchItem, Op, check_items, has_empty_key, has_key_too_long, has_value_too_long};
+pub use op::{
+    BatchItem, Op, OpRef, check_items, has_empty_key, has_key_too_long, has_value_too_long,
+};
 pub use persist_mode::PersistMode;
 pub use recovery_mode::RecoveryMode;
 pub use writer::{JOURNAL_BUFFER_BYTES, Writer};

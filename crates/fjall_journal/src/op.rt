@@ -1,7 +1,8 @@
 //! What a write does to its key.
 
 ghost use Rattle.std.specs.Prelude.{◌≡◌, Err, MatchOption, Ok};
-ghost use Rattle.fjall_journal.specs.Ops.{bytes_in, items_refusal, kind_of, some_key_empty, some_key_too_long, some_value_too_long};
+ghost use Rattle.std.specs.Option.{option_map};
+ghost use Rattle.fjall_journal.specs.Ops.{bytes_in, items_refusal, kind_of, op_of, some_key_empty, some_key_too_long, some_value_too_long, value_in};
 
 use crate::entry::ValueType;
 use fjall_base::{Error, Result, UserKey, UserValue};
@@ -11,6 +12,17 @@ use fjall_base::{Error, Result, UserKey, UserValue};
 pub enum Op {
     /// Gives the key this value.
     Put(UserValue),
+    /// Takes the key and its value away.
+    Remove,
+    /// Does the same.
+    RemoveWeak,
+}
+
+/// The same where the value is lent.
+#[derive(Clone, Copy)]
+pub enum OpRef<'a> {
+    /// Gives the key this value.
+    Put(&'a [u8]),
     /// Takes the key and its value away.
     Remove,
     /// Does the same.
@@ -39,6 +51,50 @@ impl Op {
             Op::Put(_) => ValueType::Value,
             Op::Remove => ValueType::Tombstone,
             Op::RemoveWeak => ValueType::WeakTombstone,
+        }
+    }
+
+    /// The same, lent.
+    pub fn lend(&self) -> OpRef<'_>
+        ensures { op_of result ≡ self.now }
+    {
+        match self {
+            Op::Put(value) => OpRef::Put(value.as_slice()),
+            Op::Remove => OpRef::Remove,
+            Op::RemoveWeak => OpRef::RemoveWeak,
+        }
+    }
+}
+
+impl<'a> OpRef<'a> {
+    /// The value that the key has afterwards, where it has one.
+    pub fn value(self) -> Option<&'a [u8]>
+        ensures { option_map (λ v. v.now) result ≡ value_in (op_of self.entry) }
+    {
+        match self {
+            OpRef::Put(value) => Some(value),
+            OpRef::Remove | OpRef::RemoveWeak => None,
+        }
+    }
+
+    /// The value's bytes in the journal, none for a removal.
+    pub fn bytes(self) -> &'a [u8]
+        ensures { result.now ≡ bytes_in (op_of self.entry) }
+    {
+        match self {
+            OpRef::Put(value) => value,
+            OpRef::Remove | OpRef::RemoveWeak => &[],
+        }
+    }
+
+    /// The type of the item in the journal.
+    pub fn value_type(self) -> ValueType
+        ensures { result ≡ kind_of (op_of self.entry) }
+    {
+        match self {
+            OpRef::Put(_) => ValueType::Value,
+            OpRef::Remove => ValueType::Tombstone,
+            OpRef::RemoveWeak => ValueType::WeakTombstone,
         }
     }
 }

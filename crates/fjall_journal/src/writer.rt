@@ -142,6 +142,8 @@ impl Writer {
     ) -> Result<usize>
         ensures ok { OnOk result (self.new ≡ after_write self.old (item_text keyspace_id key.now value.now value_type seqno)) }
         ensures fits { OnOk result (IsWritten (of_item keyspace_id key.now value.now value_type seqno)) }
+        // So it has a text also where the disk fails.
+        ensures tried { IfErr result (λ e. IsIo e → IsWritten (of_item keyspace_id key.now value.now value_type seqno)) }
         ensures count { IfOk result (λ n. n ≡ length (item_text keyspace_id key.now value.now value_type seqno)) }
         ensures unchanged { OnErr result (self.new ≡ self.old) }
         ensures took { IsTrue D.honest

@@ -16,7 +16,7 @@ ghost use Rattle.fjall_shared.specs.Takings.{Lists, taking};
 ghost use Rattle.fjall_seen.specs.Told.{CommitTold, EndsWithWrite, HasName, IsChangeCause, IsReadCause};
 
 use crate::naming::Naming;
-use fjall_base::{Disk, Error, Result, UserKey, UserValue};
+use fjall_base::{Disk, Error, Result, UserValue};
 use fjall_options::KeyspaceCreateOptions;
 use fjall_shared::{CommitOutcome, Flag, Shared, Ticket, Transaction, View};
 use fjall_word::SeenSeat;
@@ -52,29 +52,29 @@ impl<D: Disk, J: Naming> Named<D, J> {
         &mut self,
         seat: &mut SeenSeat,
         id: u64,
-        key: UserKey,
-        value: UserValue,
+        key: &[u8],
+        value: &[u8],
     ) -> Result<()>
         requires { J.table ≡ Some seat.old.table }
         ensures table { seat.new.table ≡ seat.old.table }
         ensures later { HasGrown seat.old.list seat.new.list }
         // It is written once.
-        ensures once { Lists (taking (of_write (id, key, ops.Put value))) (reply_of result) (list_of self.old) (list_of self.new) }
-        ensures last { OnOk result (EndsWithWrite seat.new.list (id, key, ops.Put value)) }
-        ensures cause { IsTrue D.honest → IfErr result (IsChangeCause (latest seat.new.list) ((id, key, ops.Put value) ∷ [])) }
+        ensures once { Lists (taking (of_write (id, key.now, ops.Put value.now))) (reply_of result) (list_of self.old) (list_of self.new) }
+        ensures last { OnOk result (EndsWithWrite seat.new.list (id, key.now, ops.Put value.now)) }
+        ensures cause { IsTrue D.honest → IfErr result (IsChangeCause (latest seat.new.list) ((id, key.now, ops.Put value.now) ∷ [])) }
     {
         let result = self.shared.insert(id, key, value);
         self.shared.show(seat);
         result
     }
 
-    pub(crate) fn remove_as(&mut self, seat: &mut SeenSeat, id: u64, key: UserKey) -> Result<()>
+    pub(crate) fn remove_as(&mut self, seat: &mut SeenSeat, id: u64, key: &[u8]) -> Result<()>
         requires { J.table ≡ Some seat.old.table }
         ensures table { seat.new.table ≡ seat.old.table }
         ensures later { HasGrown seat.old.list seat.new.list }
-        ensures once { Lists (taking (of_write (id, key, ops.Remove))) (reply_of result) (list_of self.old) (list_of self.new) }
-        ensures last { OnOk result (EndsWithWrite seat.new.list (id, key, ops.Remove)) }
-        ensures cause { IsTrue D.honest → IfErr result (IsChangeCause (latest seat.new.list) ((id, key, ops.Remove) ∷ [])) }
+        ensures once { Lists (taking (of_write (id, key.now, ops.Remove))) (reply_of result) (list_of self.old) (list_of self.new) }
+        ensures last { OnOk result (EndsWithWrite seat.new.list (id, key.now, ops.Remove)) }
+        ensures cause { IsTrue D.honest → IfErr result (IsChangeCause (latest seat.new.list) ((id, key.now, ops.Remove) ∷ [])) }
     {
         let result = self.shared.remove(id, key);
         self.shared.show(seat);

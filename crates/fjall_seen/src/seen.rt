@@ -14,7 +14,7 @@ ghost use Rattle.fjall_seen.specs.Told.{CommitTold, EndsWithWrite, HasName, IsCh
 use crate::database::Database;
 use crate::handles::{Snapshot, WriteTransaction};
 use crate::naming::Naming;
-use fjall_base::{Disk, Error, Result, UserKey, UserValue};
+use fjall_base::{Disk, Error, Result, UserValue};
 use fjall_options::KeyspaceCreateOptions;
 use fjall_shared::{CommitOutcome, Flag};
 use fjall_word::SeenSeat;
@@ -60,16 +60,10 @@ impl<D: Disk + Drop, J: Naming> Model for Seen<D, J> {
 impl<D: Disk + Drop, J: Naming> Seen<D, J> {
     /// Gives a key of a keyspace a value. Where it is accepted it is the last command of the list that is then seen; a refusal for a length
     /// or a keyspace has its cause in that list.
-    pub fn insert_as<R: Wait>(
-        &mut self,
-        rt: &R,
-        id: u64,
-        key: UserKey,
-        value: UserValue,
-    ) -> Result<()>
+    pub fn insert_as<R: Wait>(&mut self, rt: &R, id: u64, key: &[u8], value: &[u8]) -> Result<()>
         ensures later { HasGrown self.old self.new }
-        ensures last { OnOk result (EndsWithWrite self.new (id, key, ops.Put value)) }
-        ensures cause { IsTrue D.honest → IfErr result (IsChangeCause (latest self.new) ((id, key, ops.Put value) ∷ [])) }
+        ensures last { OnOk result (EndsWithWrite self.new (id, key.now, ops.Put value.now)) }
+        ensures cause { IsTrue D.honest → IfErr result (IsChangeCause (latest self.new) ((id, key.now, ops.Put value.now) ∷ [])) }
     {
         let database = &*self.database;
         let mut guard = database.lock.lock(rt);
@@ -80,10 +74,10 @@ impl<D: Disk + Drop, J: Naming> Seen<D, J> {
     }
 
     /// Takes a key of a keyspace and its value away, as [`insert_as`](Seen::insert_as) gives it one.
-    pub fn remove_as<R: Wait>(&mut self, rt: &R, id: u64, key: UserKey) -> Result<()>
+    pub fn remove_as<R: Wait>(&mut self, rt: &R, id: u64, key: &[u8]) -> Result<()>
         ensures later { HasGrown self.old self.new }
-        ensures last { OnOk result (EndsWithWrite self.new (id, key, ops.Remove)) }
-        ensures cause { IsTrue D.honest → IfErr result (IsChangeCause (latest self.new) ((id, key, ops.Remove) ∷ [])) }
+        ensures last { OnOk result (EndsWithWrite self.new (id, key.now, ops.Remove)) }
+        ensures cause { IsTrue D.honest → IfErr result (IsChangeCause (latest self.new) ((id, key.now, ops.Remove) ∷ [])) }
     {
         let database = &*self.database;
         let mut guard = database.lock.lock(rt);

@@ -8,15 +8,15 @@ ghost use Rattle.fjall_shared.specs.Does.{Does};
 
 use crate::shared::Shared;
 use crate::telling::tell;
-use fjall_base::{Disk, Result, UserKey, UserValue};
+use fjall_base::{Disk, Result, UserKey};
 use fjall_transactions::{BatchItem, Op, PersistMode};
 use std::marker::Brand;
 use std::snapshot::Snapshot;
 
 impl<D: Disk> Shared<D> {
     /// Gives a key of a keyspace a value, as [`Engine::insert`](fjall_transactions::Engine::insert) does, with its refusals.
-    pub fn insert(&mut self, id: u64, key: UserKey, value: UserValue) -> Result<()>
-        ensures { Does D.honest self.old (of_write (id, key, ops.Put value)) (reply_of result) self.new }
+    pub fn insert(&mut self, id: u64, key: &[u8], value: &[u8]) -> Result<()>
+        ensures { Does D.honest self.old (of_write (id, key.now, ops.Put value.now)) (reply_of result) self.new }
     {
         let call = (id, key, value);
         let said = Snapshot::of(&call);
@@ -24,13 +24,13 @@ impl<D: Disk> Shared<D> {
         let before = self.core.visible_seqno();
         let result = self.core.insert(id, key, value);
         let after = self.core.visible_seqno();
-        tell::<Brand, (u64, UserKey, UserValue)>(&self.word, &mut self.seat, before, after, &said);
+        tell::<Brand, (u64, &[u8], &[u8])>(&self.word, &mut self.seat, before, after, &said);
         result
     }
 
     /// Takes a key of a keyspace and its value away, as [`Engine::remove`](fjall_transactions::Engine::remove) does.
-    pub fn remove(&mut self, id: u64, key: UserKey) -> Result<()>
-        ensures { Does D.honest self.old (of_write (id, key, ops.Remove)) (reply_of result) self.new }
+    pub fn remove(&mut self, id: u64, key: &[u8]) -> Result<()>
+        ensures { Does D.honest self.old (of_write (id, key.now, ops.Remove)) (reply_of result) self.new }
     {
         let call = (id, key);
         let said = Snapshot::of(&call);
@@ -38,13 +38,13 @@ impl<D: Disk> Shared<D> {
         let before = self.core.visible_seqno();
         let result = self.core.remove(id, key);
         let after = self.core.visible_seqno();
-        tell::<Brand, (u64, UserKey)>(&self.word, &mut self.seat, before, after, &said);
+        tell::<Brand, (u64, &[u8])>(&self.word, &mut self.seat, before, after, &said);
         result
     }
 
     /// Acts as [`remove`](Shared::remove); the journal alone tells the two apart.
-    pub fn remove_weak(&mut self, id: u64, key: UserKey) -> Result<()>
-        ensures { Does D.honest self.old (of_write (id, key, ops.RemoveWeak)) (reply_of result) self.new }
+    pub fn remove_weak(&mut self, id: u64, key: &[u8]) -> Result<()>
+        ensures { Does D.honest self.old (of_write (id, key.now, ops.RemoveWeak)) (reply_of result) self.new }
     {
         let call = (id, key);
         let said = Snapshot::of(&call);
@@ -52,7 +52,7 @@ impl<D: Disk> Shared<D> {
         let before = self.core.visible_seqno();
         let result = self.core.remove_weak(id, key);
         let after = self.core.visible_seqno();
-        tell::<Brand, (u64, UserKey)>(&self.word, &mut self.seat, before, after, &said);
+        tell::<Brand, (u64, &[u8])>(&self.word, &mut self.seat, before, after, &said);
         result
     }
 

@@ -1,2 +1,3 @@
 mod Inside
 mod MadeFlushes
+mod Watermarks

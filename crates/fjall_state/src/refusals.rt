@@ -1,13 +1,14 @@
 //! What refuses a call before memory or the disk is asked for anything: the first refusal whose cause holds.
 
-ghost use Rattle.std.specs.Prelude.{◌≡◌, ◌==◌, ◌||◌, ◌-◌, ◌^◌, true};
+ghost use Rattle.std.specs.Prelude.{◌≡◌, ◌==◌, ◌||◌, ◌-◌, ◌^◌, [], ◌∷◌, true};
+ghost use Rattle.fjall_journal.specs.Ops.{op_of};
 ghost use Rattle.fjall_machine.specs.Machine.{are_used_up, clear_refusals, creation_refusals, deletion_refusals, first_due, handle_refusals, items_refusals, journal_refusals, rotation_refusals, some_deleted, some_unknown};
 ghost use Rattle.fjall_machine.specs.Shapes.{OneLess};
 ghost use Rattle.fjall_machine.specs.Remembered.{facts_of};
 
 use crate::engine_state::EngineState;
 use fjall_base::Error;
-use fjall_journal::{BatchItem, has_empty_key, has_key_too_long, has_value_too_long};
+use fjall_journal::{BatchItem, OpRef, has_empty_key, has_key_too_long, has_value_too_long};
 
 /// Sequence numbers lie below this one.
 const SEQNO_LIMIT: u64 = 1 << 63;
@@ -71,6 +72,22 @@ impl EngineState {
             return Some(Error::NumbersUsedUp);
         }
         None
+    }
+
+    /// What refuses a change of one key of this keyspace.
+    pub fn key_refusal(&self, id: u64, key: &[u8], op: OpRef<'_>) -> Option<Error>
+        ensures { result ≡ first_due (items_refusals (facts_of self.now 0) ((id, key.now, op_of op.entry) ∷ [])) }
+    {
+        if key.is_empty() {
+            return Some(Error::KeyEmpty);
+        }
+        if key.len() > 65_535 {
+            return Some(Error::KeyTooLong);
+        }
+        if op.bytes().len() > 4_294_967_295 {
+            return Some(Error::ValueTooLong);
+        }
+        self.clear_refusal(id)
     }
 
     /// What refuses a rotation of the memtable of the keyspace of this id.

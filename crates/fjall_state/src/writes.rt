@@ -32,6 +32,7 @@ fn make_places(watermarks: &mut ActiveWatermarks, change: Change) -> Result<()>
 {
     match change {
         Change::Items(items) => watermarks.make_places(items),
+        Change::Item(id, _, _) => watermarks.make_place(id),
         Change::Emptied(id) => watermarks.make_place(id),
     }
 }
@@ -53,6 +54,7 @@ fn change_trees(
 {
     match change {
         Change::Items(items) => trees.push_items(items, number),
+        Change::Item(id, key, op) => trees.push_one(id, key, op, number),
         Change::Emptied(id) => trees.clear(id, number),
     }
 }
@@ -64,6 +66,7 @@ fn raise(watermarks: &mut ActiveWatermarks, change: Change, number: u64)
 {
     match change {
         Change::Items(items) => watermarks.raise_all(items, number),
+        Change::Item(id, _, _) => watermarks.raise(id, number),
         Change::Emptied(id) => watermarks.raise(id, number),
     }
 }

@@ -4,7 +4,6 @@ ghost use Rattle.std.specs.Prelude.{◌≡◌, Some};
 
 use crate::fresh::{Caller, first_caller, open};
 use anyhow::Result;
-use fjall_base::Slice;
 use fjall_memory::MemoryDisk;
 use fjall_seen::{Naming, Opened};
 use std::alloc::Global;
@@ -16,17 +15,11 @@ use std::thread::Threads;
 // Writes a key a hundred times, and hands out what it has seen then.
 fn write_all<J: Naming, R: Wait>(
     rt: &R,
-    alloc: Global,
     id: u64,
     mut caller: Caller<J>,
 ) -> fjall_base::Result<Caller<J>> {
     for count in 1..101u8 {
-        caller.insert_as(
-            rt,
-            id,
-            Slice::new(alloc, b"last")?,
-            Slice::new(alloc, &[count])?,
-        )?;
+        caller.insert_as(rt, id, b"last", &[count])?;
     }
     Ok(caller)
 }
@@ -46,7 +39,7 @@ fn run<J: Naming + Send, R: Threads + Wait + Sync + Print>(
 {
     let (mut caller, id) = first_caller::<J, R>(rt, alloc, opened)?;
     let first = caller.split()?;
-    let (handed, ()) = thread::join(rt, || write_all(rt, alloc, id, first), || ());
+    let (handed, ()) = thread::join(rt, || write_all(rt, id, first), || ());
     let handed = handed?;
     let (read, ()) = thread::join(rt, || read_last(rt, id, handed), || ());
     let read = read?;

@@ -4,7 +4,6 @@ ghost use Rattle.std.specs.Prelude.{◌≡◌, Some};
 
 use crate::fresh::{Caller, first_caller, open};
 use anyhow::Result;
-use fjall_base::Slice;
 use fjall_memory::MemoryDisk;
 use fjall_seen::{Naming, Opened};
 use std::alloc::Global;
@@ -26,22 +25,12 @@ struct Part<J: Naming> {
 }
 
 // Inserts each key of a thread and reads it back; answers how many were read back with the value that was inserted.
-fn insert_all<J: Naming, R: Wait>(
-    rt: &R,
-    alloc: Global,
-    id: u64,
-    part: Part<J>,
-) -> fjall_base::Result<u64> {
+fn insert_all<J: Naming, R: Wait>(rt: &R, id: u64, part: Part<J>) -> fjall_base::Result<u64> {
     let Part { mut caller, number } = part;
     let mut right: u64 = 0;
     for key in 0..KEYS {
         let name = [number, key];
-        caller.insert_as(
-            rt,
-            id,
-            Slice::new(alloc, &name)?,
-            Slice::new(alloc, &[key])?,
-        )?;
+        caller.insert_as(rt, id, &name, &[key])?;
         let found = caller.get_as(rt, id, &name)?;
         if found.is_some_and(|value| value.as_slice() == [key].as_slice()) {
             right = right.saturating_add(1);
@@ -78,7 +67,7 @@ fn run<J: Naming + Send, R: Threads + Wait + Sync + Print>(
             number,
         })?;
     }
-    let read = thread::map_vec(rt, parts, &|part| insert_all(rt, alloc, id, part))?;
+    let read = thread::map_vec(rt, parts, &|part| insert_all(rt, id, part))?;
     let mut right: u64 = 0;
     for one in read {
         right = right.saturating_add(one?);

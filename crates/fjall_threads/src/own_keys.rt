@@ -4,7 +4,6 @@ ghost use Rattle.std.specs.Prelude.{◌≡◌, Some};
 
 use crate::fresh::{Caller, first_caller, open};
 use anyhow::Result;
-use fjall_base::Slice;
 use fjall_memory::MemoryDisk;
 use fjall_seen::{Naming, Opened};
 use std::alloc::Global;
@@ -28,15 +27,10 @@ fn turn<J: Naming, R: Wait>(
     mut caller: Caller<J>,
     key: &[u8],
 ) -> fjall_base::Result<Told> {
-    caller.insert_as(
-        rt,
-        id,
-        Slice::new(alloc, key)?,
-        Slice::new(alloc, b"value")?,
-    )?;
+    caller.insert_as(rt, id, key, b"value")?;
     let written = caller.get_as(rt, id, key)?.is_some();
     let snapshot = caller.snapshot_as(rt, alloc)?;
-    caller.remove_as(rt, id, Slice::new(alloc, key)?)?;
+    caller.remove_as(rt, id, key)?;
     let removed = caller.get_as(rt, id, key)?.is_none();
     let kept = caller.read_as(rt, &snapshot, id, key)?.is_some();
     Ok(Told {

@@ -1,26 +1,15 @@
 //! Batches and clears, and what takes them back.
 
 ghost use Rattle.std.specs.Prelude.{◌≡◌, ◌∷◌, ◌<◌, ◌^◌, [], IfOk, OnOk, OnErr};
-ghost use Rattle.std.specs.Option.{option_map};
-ghost use Rattle.fjall_journal.specs.Ops.{value_in};
+ghost use Rattle.fjall_journal.specs.Ops.{op_of};
 ghost use Rattle.fjall_tree.specs.Trees.{emptied};
 ghost use Rattle.fjall_trees.specs.Forests.{AreBefore, altered_at};
 ghost use Rattle.fjall_trees.specs.Writes.{MayPush, pushed};
 
 use crate::marks::Marks;
 use crate::trees::{Trees, place_of};
-use fjall_journal::{BatchItem, Op};
+use fjall_journal::{BatchItem, OpRef};
 use std::alloc::AllocError;
-
-// The value that a key has afterwards, where it has one.
-fn value_of(op: &Op) -> Option<&[u8]>
-    ensures { option_map (λ v. v.now) result ≡ value_in op.now }
-{
-    match op {
-        Op::Put(value) => Some(value.as_slice()),
-        Op::Remove | Op::RemoveWeak => None,
-    }
-}
 
 impl Trees {
     ghost use Rattle.fjall_trees.specs.Views.{AreMarksOfAll, AreMarksOfTrees, KeepAllMarks, forest_before, forest_of};
@@ -34,8 +23,8 @@ impl Trees {
         ensures marks { IfOk result (λ marks. AreMarksOfTrees self.new marks × (forest_before marks self.new ≡ forest_of self.old)) }
         ensures err { OnErr result (forest_of self.new ≡ forest_of self.old) }
     {
-        if let [item] = items {
-            return self.push_one(item, number);
+        if let [(id, key, op)] = items {
+            return self.push_one(*id, key.as_slice(), op.lend(), number);
         }
         let marks = self.all_marks()?;
         match self.push_all(items, number) {
@@ -47,21 +36,26 @@ impl Trees {
         }
     }
 
-    // The same of one item, with a mark of its tree alone.
-    fn push_one(&mut self, item: &BatchItem, number: u64) -> Result<Marks, AllocError>
-        requires { MayPush number (item.now ∷ []) (forest_of self.old) }
-        ensures ok { OnOk result (forest_of self.new ≡ pushed number (item.now ∷ []) (forest_of self.old)) }
+    /// The same of one item, whose key and value are lent, with a mark of its tree alone.
+    pub fn push_one(
+        &mut self,
+        id: u64,
+        key: &[u8],
+        op: OpRef<'_>,
+        number: u64,
+    ) -> Result<Marks, AllocError>
+        requires { MayPush number ((id, key.now, op_of op) ∷ []) (forest_of self.old) }
+        ensures ok { OnOk result (forest_of self.new ≡ pushed number ((id, key.now, op_of op.entry) ∷ []) (forest_of self.old)) }
         ensures marks { IfOk result (λ marks. AreMarksOfTrees self.new marks × (forest_before marks self.new ≡ forest_of self.old)) }
         ensures err { OnErr result (forest_of self.new ≡ forest_of self.old) }
     {
-        let (id, key, op) = item;
         let mut marks = Vec::with_capacity(self.alloc, 1)?;
-        let Some(place) = place_of(self.trees.as_slice(), *id) else {
+        let Some(place) = place_of(self.trees.as_slice(), id) else {
             return Ok(Marks { from: 0, marks });
         };
         let tree = &mut self.trees[place].tree;
         marks.push_reserved(tree.mark());
-        tree.put(key.as_slice(), number, value_of(op))?;
+        tree.put(key, number, op.value())?;
         Ok(Marks { from: place, marks })
     }
 
@@ -107,7 +101,7 @@ impl Trees {
         let mut place = 0;
         while let Some((item, before)) = rest.split_last() {
             let (id, key, op) = item;
-            place = self.put_near(place, *id, key.as_slice(), number, value_of(op))?;
+            place = self.put_near(place, *id, key.as_slice(), number, op.lend().value())?;
             rest = before;
         }
         Ok(())

@@ -51,8 +51,9 @@ fn main(rt: HostRuntime) -> Result<()> {
     closed?;
     println!(rt; "\nThe folder is closed, and opened again")?;
     let mut evening = Directory::open(&rt, folder.as_str())?;
-    let (dan, user) = (evening.slice("dan")?, evening.slice("LIS Dan Sousa")?);
-    evening.core.insert(evening.users.main(), dan, user)?;
+    evening
+        .core
+        .insert(evening.users.main(), b"dan", b"LIS Dan Sousa")?;
     println!(rt;
         "Dan is written past the index: {:?}",
         evening.users.check(&mut evening.core)

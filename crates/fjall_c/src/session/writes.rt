@@ -31,7 +31,6 @@ impl Session {
         ensures answers { Calls (inserting id key.now value.now) reply_of (live_of self.old) (live_of self.new) result }
         ensures batch { self.new.batch ≡ self.old.batch }
     {
-        let (key, value) = (Slice::new(self.alloc, key)?, Slice::new(self.alloc, value)?);
         match &mut self.place {
             Place::Open(opened) => opened.core.insert(id, key, value),
             _ => Err(Error::Poisoned),
@@ -43,7 +42,6 @@ impl Session {
         ensures answers { Calls (removing id key.now) reply_of (live_of self.old) (live_of self.new) result }
         ensures batch { self.new.batch ≡ self.old.batch }
     {
-        let key = Slice::new(self.alloc, key)?;
         match &mut self.place {
             Place::Open(opened) => opened.core.remove(id, key),
             _ => Err(Error::Poisoned),

@@ -9,10 +9,10 @@ use Rattle.fjall_seen.proofs.named.Named.remove_as.Goals as goal
 
 pub returns-clause-last : goal.returns-clause-last
 returns-clause-last g c =
-    subst (λ (p : Place). OnOk c.remove-result.result (EndsWithWrite p.list (c.args.id, c.args.key, Remove))) (sym c.show.ensures.shown)
-    (wrote (c.args.id, c.args.key, Remove) c.remove-result.result _ _ c.remove-result.ensures.makes.list)
+    subst (λ (p : Place). OnOk c.remove-result.result (EndsWithWrite p.list (c.args.id, c.args.key.now, Remove))) (sym c.show.ensures.shown)
+    (wrote (c.args.id, c.args.key.now, Remove) c.remove-result.result _ _ c.remove-result.ensures.makes.list)
 
 pub returns-clause-cause : goal.returns-clause-cause
 returns-clause-cause g c honest =
-    subst (λ (p : Place). IfErr c.remove-result.result (IsChangeCause (latest p.list) ((c.args.id, c.args.key, Remove) ∷ []))) (sym c.show.ensures.shown)
-    (write_cause g.D.Disk.honest _ _ (c.args.id, c.args.key, Remove) c.remove-result.result honest c.remove-result.ensures)
+    subst (λ (p : Place). IfErr c.remove-result.result (IsChangeCause (latest p.list) ((c.args.id, c.args.key.now, Remove) ∷ []))) (sym c.show.ensures.shown)
+    (write_cause g.D.Disk.honest _ _ (c.args.id, c.args.key.now, Remove) c.remove-result.result honest c.remove-result.ensures)

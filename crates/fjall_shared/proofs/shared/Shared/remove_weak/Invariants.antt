@@ -5,4 +5,4 @@ use Rattle.fjall_history.specs.Histories.{plain}
 use Rattle.fjall_shared.proofs.shared.Shared.remove_weak.Given as goal
 
 abbrev pub ghosts-tell : goal.ghosts-tell
-ghosts-tell g a = record { said = plain (command_of (Items ((a.said.now.value.0, a.said.now.value.1, ops.RemoveWeak) ∷ []))) }
+ghosts-tell g a = record { said = plain (command_of (Items ((a.said.now.value.0, a.said.now.value.1.now, ops.RemoveWeak) ∷ []))) }

@@ -1,5 +1,6 @@
 use Rattle.std.proofs.Common.{◌<◌, ◌≤◌, ◌^◌, length, All, ap, refl, subst, sym, ◌∙◌, Option}
 use Rattle.fjall_base.specs.Pairs.{Bytes}
+use Rattle.fjall_journal.specs.Ops.{value_in}
 use Rattle.fjall_table.specs.Blocks.{Entry, value_bytes}
 use Rattle.fjall_memtable.specs.Entries.{version}
 use Rattle.fjall_tree.specs.Puts.{put}
@@ -32,7 +33,7 @@ put_near-requires-clause-value c =
     let items = c.args.items.now in
     let p = pushing_item c.args.number items c.loop-item.rest.now c.in-Some.before.now c.in-Some.item.now (forest_of c.args.self.now) (forest_of c.loop-item.self) c.loop-item.invariant.pushing c.in-Some.ensures.cases.0 in
     let fits = fits_among c.in-Some.before.now c.in-Some.item.now p.0 (subst (All Fits) p.1 (each_fits items c.requires.fits)) in
-    subst (λ (value : Option Bytes). length (value_bytes value) < 2 ^ 32) (sym c.value_of.ensures) fits.value
+    subst (λ (value : Option Bytes). length (value_bytes value) < 2 ^ 32) (sym (c.value.ensures ∙ ap value_in c.lend.ensures)) fits.value
 
 pub put_near-requires-clause-from : goal.put_near-requires-clause-from
 put_near-requires-clause-from c = λ shape is.
@@ -43,7 +44,7 @@ pub loop-item-preserved : goal.loop-item-preserved
 loop-item-preserved c =
     let item = c.in-Some.item.now in
     let old = forest_of c.loop-item.self in
-    let made = c.in_ok-place.ensures.ok ∙ ap (λ (v : Entry). altered_at item.0 (put v) old) (λ i. version (c.as_slice.ensures i) c.args.number (c.value_of.ensures i)) in
+    let made = c.in_ok-place.ensures.ok ∙ ap (λ (v : Entry). altered_at item.0 (put v) old) (λ i. version (c.as_slice.ensures i) c.args.number ((c.value.ensures ∙ ap value_in c.lend.ensures) i)) in
     record {
       pushing = pushing_more c.args.number c.args.items.now c.loop-item.rest.now c.in-Some.before.now item (forest_of c.args.self.now) old (forest_of c.put_near.new.self) c.loop-item.invariant.pushing c.in-Some.ensures.cases.0 made;
       kept = λ marks are. (
