@@ -17,3 +17,4 @@ mod Commanding
 pub mod Following
 pub mod Keyspacing
 pub mod Held
+pub mod Searches

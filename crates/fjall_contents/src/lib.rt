@@ -12,7 +12,7 @@ pub use laws::{
     nothing_to_keep, one_more_batch, stored_batches_may_go, views_alone_matter,
     what_is_stored_has_its_number, without_tables_the_journals_tell_all,
 };
-pub use recovery::Persisted;
+pub use recovery::{Persisted, PersistedNumbers};
 pub use replay_laws::{
     a_batch_is_a_write, a_clear_is_a_command, a_creation_is_replayed, a_deletion_is_replayed,
     a_replay_holds_no_rest, batches_make_their_versions, names_stand_in_order, one_item_is_a_write,

@@ -24,10 +24,10 @@ use Rattle.fjall_recovery.specs.Homes.{AreHomesRead, HaveVersions, Homes, Versio
 use Rattle.fjall_recovery.proofs.Shown.{persisted_told}
 use Rattle.fjall_manifest.specs.Homes.{Home}
 use Rattle.fjall_table.specs.Blocks.{Entry}
-use Rattle.fjall_recovery.specs.Opening.{stored_entries, stored_with}
+use Rattle.fjall_recovery.specs.Opening.{stored_entries, stored_with, told_by}
 use Rattle.fjall_table_reader.specs.Readers.{Reader}
 use Rattle.fjall_recovery.specs.Parted.{all_unwritten, unwritten}
-use Rattle.fjall_opening.specs.Readings.{persisted_in, persisted_of}
+use Rattle.fjall_opening.specs.Readings.{persisted_of}
 
 -- ---- the trees of the keyspaces that live
 
@@ -93,29 +93,29 @@ rest_tables Q old new same all =
 -- ---- the persisted numbers that were read
 
 -- the number of an id is that of the first home of it
-first_told : (b : Bool) (h : LoadedHome) (others : Option Persisted) → b ≡ true → unwrap_or (option_map (λ (p : Persisted). p.number) (cond b (Some (persisted_in h)) others)) None ≡ h.record.persisted
+first_told : (b : Bool) (h : LoadedHome) (others : Option Persisted) → b ≡ true → unwrap_or (option_map (λ (p : Persisted). p.number) (cond b (Some (told_by h)) others)) None ≡ h.record.persisted
 first_told true h others is = refl
 first_told false h others is = absurd (true≢false (sym is))
 
 later_told : (b : Bool) (h : LoadedHome) (others : Option Persisted) (n : Option ℕ) → (b ≡ true → h.record.persisted ≡ n) → unwrap_or (option_map (λ (p : Persisted). p.number) others) None ≡ n
-    → unwrap_or (option_map (λ (p : Persisted). p.number) (cond b (Some (persisted_in h)) others)) None ≡ n
+    → unwrap_or (option_map (λ (p : Persisted). p.number) (cond b (Some (told_by h)) others)) None ≡ n
 later_told true h others n here there = here refl
 later_told false h others n here there = there
 
 told_at : (homes : Homes) (image : Image) (living : List LivingKeyspace) (read : List LoadedHome) → AreHomesRead image living read → map (λ h. records.view h.record) read ≡ lasts living homes
-    → (i : ℕ) (d : LivingKeyspace) → i < length living → persisted_at (get_or living i d).id (map persisted_in read) ≡ (last_in (get homes (get_or living i d).id)).persisted
+    → (i : ℕ) (d : LivingKeyspace) → i < length living → persisted_at (get_or living i d).id (map told_by read) ≡ (last_in (get homes (get_or living i d).id)).persisted
 told_at homes image [] read are same i d lt = absurd (omega (arith, lt))
 told_at homes image (k ∷ living) [] are same i d lt = absurd are
 told_at homes image (k ∷ living) (h ∷ read) are same zero d lt =
     let named : h.id ≡ k.id = are.0.loaded.named in
     let here : records.view h.record ≡ last_in (get homes k.id) = cc in
-    first_told (h.id == k.id) h (find (λ (p : Persisted). p.id == k.id) (map persisted_in read)) (grind (arith, nat_tests)) ∙ ap (λ (f : Fields). f.persisted) here
+    first_told (h.id == k.id) h (find (λ (p : Persisted). p.id == k.id) (map told_by read)) (grind (arith, nat_tests)) ∙ ap (λ (f : Fields). f.persisted) here
 told_at homes image (k ∷ living) (h ∷ read) are same (suc i) d lt =
     let id = (get_or living i d).id in
     let named : h.id ≡ k.id = are.0.loaded.named in
     let here : records.view h.record ≡ last_in (get homes k.id) = cc in
     let rest : map (λ h. records.view h.record) read ≡ lasts living homes = cc in
-    later_told (h.id == id) h (find (λ (p : Persisted). p.id == id) (map persisted_in read)) (last_in (get homes id)).persisted
+    later_told (h.id == id) h (find (λ (p : Persisted). p.id == id) (map told_by read)) (last_in (get homes id)).persisted
     (λ is. ap (λ (f : Fields). f.persisted) here ∙ ap (λ n. (last_in (get homes n)).persisted) (sym named ∙ same_id h.id id is))
     (told_at homes image living read are.1 rest i d (omega (arith, lt)))
 

@@ -3,7 +3,6 @@ use Rattle.std.specs.Prelude.{All, ℕ, List, map, string_bytes}
 use Rattle.fjall_base.specs.Disk.{DiskState, Meaning, Name}
 use Rattle.fjall_files.specs.Calls.{seen}
 use Rattle.fjall_journal.specs.Batches.{shown}
-use Rattle.fjall_manifest.specs.declared.reading.LoadedHome.{LoadedHome}
 use Rattle.fjall_catalog.specs.Catalog.{listed}
 use Rattle.fjall_contents.specs.declared.recovery.Persisted.{Persisted}
 use Rattle.fjall_trees.specs.Forests.{Forest}
@@ -15,7 +14,7 @@ use Rattle.fjall_table.specs.Blocks.{Entry}
 use Rattle.fjall_recovery.specs.Homes.{HaveVersions, Versions}
 use Rattle.fjall_recovery.specs.Known.{AreAtHome}
 use Rattle.fjall_recovery.specs.Parted.{AreLeftBy}
-use Rattle.fjall_recovery.specs.Opening.{HaveEntries, IsOpenedOn, KnowsStored, ShowsEntries}
+use Rattle.fjall_recovery.specs.Opening.{HaveEntries, IsOpenedOn, KnowsStored, ShowsEntries, told_by}
 use Rattle.fjall_opening.specs.declared.opened.Opened.{Opened}
 use Rattle.fjall_repair.specs.declared.plan.SweepPlan.{SweepPlan}
 use Rattle.fjall_opening.specs.Opened.{HasJournals, TakesOver}
@@ -51,13 +50,9 @@ FindsNamed state found plan = FindsTables state (names_read found) (map string_b
 abbrev pub FindsUnnamed : DiskState → RecoveredFolder → SweepPlan → Type 0
 FindsUnnamed state found plan = FindsAll state (names_read found) found.catalog.keyspaces.living found.folder_ids.items plan
 
--- the persisted number that a keyspace's last record tells
-abbrev pub persisted_in : LoadedHome → Persisted
-persisted_in home = record { id = home.id; number = home.record.persisted }
-
--- those of all the keyspaces that live
+-- the persisted numbers that the last records of all the keyspaces that live tell
 abbrev pub persisted_of : RecoveredFolder → List Persisted
-persisted_of found = map persisted_in found.homes.items
+persisted_of found = map told_by found.homes.items
 
 -- This is opened of the folder that was read from this disk, with that active journal, and over the tables there. Its trees show
 -- what files hold and what all batches make beyond that, and have in memory what one journal after another left there.

@@ -14,7 +14,7 @@ ghost use Rattle.fjall_manager.specs.Places.{told};
 ghost use Rattle.fjall_recovery.specs.Told.{TellOf, TellsOf};
 ghost use Rattle.fjall_recovery.specs.Naming.{AreFolderIds};
 ghost use Rattle.fjall_recovery.specs.Refusals.{HasRisen, IsDue, IsOpeningRefusal};
-ghost use Rattle.fjall_opening.specs.Readings.{IsSweepOf, FindsUnnamed, TakesRead, persisted_in};
+ghost use Rattle.fjall_opening.specs.Readings.{IsSweepOf, FindsUnnamed, TakesRead};
 ghost use Rattle.fjall_repair.specs.Plans.{IsBeginPlan as IsMakingOf, empty_journal, empty_journals, journals_begun};
 ghost use Rattle.fjall_repair.specs.Mended.{IsMendingOf};
 ghost use Rattle.fjall_opening.specs.Opened.{HasNumbers, IsLawfulOpening, TakesOver, records_of};
@@ -26,11 +26,9 @@ use crate::opened::Opened;
 use crate::replaying::Replay;
 use fjall_base::{Disk, Error, Result};
 use fjall_catalog::Catalog;
-use fjall_contents::Persisted;
 use fjall_files::journal_name;
 use fjall_journal::Writer;
 use fjall_manager::{ActiveWatermarks, JournalManager, SealedJournal, Watermarks};
-use fjall_manifest::LoadedHome;
 use fjall_meta::MetaKeyspace;
 use fjall_recovery::{LastRecords, RecoveredFolder, list_keyspaces, open_homes};
 use fjall_repair::{BeginPlan, MendPlan, SweepPlan, active_id, plan_beginning, plan_sweep};
@@ -138,21 +136,6 @@ fn tables_of(alloc: Global, catalog: &Catalog) -> Result<Vec<TableInfo>>
     Ok(tables)
 }
 
-/// The persisted numbers that these records tell.
-fn persisted_of(alloc: Global, homes: &[LoadedHome]) -> Result<Vec<Persisted>>
-    ensures ok { IfOk result (λ persisted. persisted.items ≡ map persisted_in homes.now) }
-    ensures only { IsOkUnless result Error.OutOfMemory }
-{
-    let mut persisted = Vec::with_capacity(alloc, homes.len())?;
-    for home in homes {
-        persisted.push(Persisted {
-            id: home.id,
-            number: home.record.persisted,
-        })?;
-    }
-    Ok(persisted)
-}
-
 /// What a folder opens as that was read, and whose journal goes on at the end of this file: trees over the tables of its homes,
 /// into whose memory its journals are replayed, which is sealed behind each but the active one, and the homes' last records.
 /// Each journal is read once more.
@@ -185,11 +168,10 @@ fn database_of<D: Disk>(
         ..
     } = found;
     prove!(0 < catalog.keyspaces.next_id());
-    let persisted = persisted_of(alloc, &homes)?;
     let loaded = open_homes(alloc, &catalog.keyspaces, homes)?;
     let replay = Replay {
         keyspaces: &catalog.keyspaces,
-        persisted: &persisted,
+        persisted: &loaded.persisted,
         sealed: &journals.sealed,
         bound: number,
     };

@@ -1,9 +1,9 @@
 //! The journals of a folder, replayed one after another, batch by batch.
 
-ghost use Rattle.std.specs.Prelude.{◌≡◌, ◌⊎◌, ◌<◌, ◌≤◌, ◌+◌, ◌++◌, ◌∷◌, Bool, [], false, true, not, ℕ, List, All, IfErr, IfOk, IsErrOf, IsOkUnless, IsTrue, MatchOption, None, OnOk, Some, drop, length, map, slice_get, take};
+ghost use Rattle.std.specs.Prelude.{◌≡◌, ◌<◌, ◌≤◌, ◌+◌, ◌++◌, ◌∷◌, Bool, [], false, true, not, ℕ, List, IfErr, IfOk, IsOkUnless, IsTrue, MatchOption, None, OnOk, Some, drop, length, map, slice_get, take};
 ghost use Rattle.std.specs.List.{AllByRecursion, flat_map};
 ghost use Rattle.fjall_base.specs.declared.error.Error.{Error};
-ghost use Rattle.fjall_base.specs.Disk.{Meaning, Took};
+ghost use Rattle.fjall_base.specs.Disk.{Took};
 ghost use Rattle.fjall_files.specs.Calls.{seen, AllServed};
 ghost use Rattle.fjall_journal.specs.Batches.{Shown, Written, IsWritten, batch_text, shown, view};
 ghost use Rattle.fjall_contents.specs.Replays.{counts_unpersisted};
@@ -13,7 +13,7 @@ ghost use Rattle.fjall_manager.specs.Reaching.{reaches, some_reaches};
 ghost use Rattle.fjall_recovery.specs.Journals.{IsSealed, WholeJournal, batches_in, journal_text};
 ghost use Rattle.fjall_recovery.specs.Refusals.{HasRisen, IsDue, IsOpeningRefusal};
 ghost use Rattle.fjall_recovery.specs.Beside.{AreEndedBy};
-ghost use Rattle.fjall_recovery.specs.Parted.{ArePartedBy, AreUnwritten, all_unwritten, with_journals};
+ghost use Rattle.fjall_recovery.specs.Parted.{ArePartedBy, AreUnwritten, with_journals};
 ghost use Rattle.fjall_recovery.specs.Told.{TellOf};
 ghost use Rattle.fjall_trees.specs.Forests.{AreBefore, Forest};
 ghost use Rattle.fjall_trees.specs.Sealing.{all_sealed};
@@ -23,7 +23,7 @@ ghost use Rattle.fjall_opening.specs.Replaying.{AreAt, ArePast, IsHeldBy, IsRepl
 use crate::sizes::is_fit;
 use bytes::Bytes;
 use fjall_base::{Disk, Error, Result};
-use fjall_contents::{Persisted, check_batches};
+use fjall_contents::{PersistedNumbers, check_batches};
 use fjall_files::journal_name;
 use fjall_journal::{Batch, KnownBatches};
 use fjall_manager::JournalManager;
@@ -39,7 +39,7 @@ pub(crate) struct Replay<'a> {
     /// The keyspaces that live.
     pub keyspaces: &'a MetaKeyspace,
     /// Up to which number each of them is persisted.
-    pub persisted: &'a [Persisted],
+    pub persisted: &'a PersistedNumbers,
     /// The sealed journals, the oldest first.
     pub sealed: &'a JournalManager,
     /// The batches are numbered below it.

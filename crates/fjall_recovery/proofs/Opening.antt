@@ -1,5 +1,5 @@
 -- Homes that were read, as trees over their tables.
-use Rattle.std.proofs.Common.{◌≡◌, ℕ, zero, suc, ◌+◌, ◌<◌, ◌≤◌, ◌^◌, ◌==◌, max, Bool, true, false, cond, List, [], ◌∷◌, ◌++◌, length, take, get_or, map, All, AllPairs, Option, None, Some, find, is_some, unwrap_or, add-one, refl, sym, ◌∙◌, ap, subst, arith}
+use Rattle.std.proofs.Common.{◌≡◌, ℕ, zero, suc, ◌+◌, ◌<◌, ◌≤◌, ◌^◌, ◌==◌, max, Bool, true, false, cond, List, [], ◌∷◌, ◌++◌, length, take, get_or, map, All, AllPairs, Option, None, Some, find, is_some, add-one, refl, sym, ◌∙◌, ap, subst, arith}
 use Rattle.std.specs.Cmp.{nat_cmp_total}
 use Rattle.std.specs.FinMap.{get, get-insert, insert}
 use Rattle.std.specs.Ordering.{eq_by_cmp, nat_cmp}
@@ -38,6 +38,7 @@ use Rattle.fjall_contents.specs.Replays.{persisted_at}
 use Rattle.fjall_contents.specs.declared.recovery.Persisted.{Persisted}
 use Rattle.fjall_recovery.specs.Known.{LastFields}
 use Rattle.fjall_recovery.specs.Opening.{AreReadersIn, HaveEntriesBut, IsOpenedTree, IsReaderOf, MayOpen, MayOpenAll, opened, reader_of, record_read, told_by, tree_of}
+use Rattle.fjall_contents.proofs.Searches.{told_first}
 use Rattle.fjall_recovery.proofs.Turns.{same_bytes}
 
 -- ---- readers of a home's tables
@@ -178,12 +179,11 @@ named_all P (id ∷ ids) [] may all = absurd may
 named_all P (id ∷ ids) (home ∷ homes) may all =
     All-cons (λ (h : LoadedHome). P h.id) home homes (subst P (sym may.0.named) (All-head P id ids all)) (named_all P ids homes may.1 (All-tail P id ids all))
 
-told_first : (home : LoadedHome) (homes : List LoadedHome) (id : ℕ) (b : Bool) → (home.id == id) ≡ b
-    → persisted_at id (map told_by (home ∷ homes)) ≡ cond b home.record.persisted (persisted_at id (map told_by homes))
-told_first home homes id true e =
-    ap (λ (c : Bool). unwrap_or (option_map (λ (p : Persisted). p.number) (cond c (Some (told_by home)) (find (λ (p : Persisted). p.id == id) (map told_by homes)))) None) e
-told_first home homes id false e =
-    ap (λ (c : Bool). unwrap_or (option_map (λ (p : Persisted). p.number) (cond c (Some (told_by home)) (find (λ (p : Persisted). p.id == id) (map told_by homes)))) None) e
+-- of homes of lesser ids what is told is of lesser ids
+pub told_below : (id : ℕ) (living : List LivingKeyspace) (homes : List LoadedHome) → All (λ k. k.id < id) living → MayOpenAll (map (λ k. k.id) living) homes → All (λ p. p.id < id) (map told_by homes)
+told_below id living homes low may =
+    All-map (λ (p : Persisted). p.id < id) told_by homes
+    (named_all (λ i. i < id) (map (λ (k : LivingKeyspace). k.id) living) homes may (All-map (λ i. i < id) (λ (k : LivingKeyspace). k.id) living low))
 
 -- of homes whose ids ascend each one's persisted number is told under its id
 told_at : (ids : List ℕ) (homes : List LoadedHome) → Ascends ids → MayOpenAll ids homes → All (λ home. persisted_at home.id (map told_by homes) ≡ home.record.persisted) homes
@@ -191,12 +191,12 @@ told_at [] [] up may = All-nil (λ (home : LoadedHome). persisted_at home.id [] 
 told_at [] (home ∷ homes) up may = absurd may
 told_at (id ∷ ids) [] up may = absurd may
 told_at (id ∷ ids) (home ∷ homes) up may =
-    All-cons (λ (h : LoadedHome). persisted_at h.id (map told_by (home ∷ homes)) ≡ h.record.persisted) home homes (told_first home homes home.id true (eq-eqb home.id home.id refl))
+    All-cons (λ (h : LoadedHome). persisted_at h.id (map told_by (home ∷ homes)) ≡ h.record.persisted) home homes (told_first home.id (told_by home) (map told_by homes) true (eq-eqb home.id home.id refl))
     (λ i d lt.
     let h = get_or homes i d in
     let above : id < h.id = named_all (λ n. id < n) ids homes may.1 up.0 i d lt in
     let less : home.id < h.id = subst (λ (n : ℕ). n < h.id) (sym may.0.named) above in
-    told_first home homes h.id false (other_id home.id h.id less) ∙ told_at ids homes up.1 may.1 i d lt)
+    told_first h.id (told_by home) (map told_by homes) false (other_id home.id h.id less) ∙ told_at ids homes up.1 may.1 i d lt)
 
 pub opened_ended : (ids : List ℕ) (homes : List LoadedHome) → Ascends ids → MayOpenAll ids homes → AreEndedBy (map told_by homes) 0 (map opened homes)
 opened_ended ids homes up may =
@@ -341,6 +341,10 @@ module _ (living : List LivingKeyspace) (homes : List LoadedHome) (n m : ℕ) (k
       subst (λ (hs : List LoadedHome). AreRecordsOf hs new) (sym homes_more)
       (subst (AreRecordsOf (take n homes ++ home ∷ [])) (sym (is ∙ ap (λ (i : ℕ). insert old i (view home.record)) (sym own)))
       (records_push (take n homes) home old (subst (λ (i : ℕ). All (λ (h : LoadedHome). h.id < i) (take n homes)) (sym own) below) are))
+
+  pub told_more : (old new : List Persisted) → old ≡ map told_by (take n homes) → new ≡ old ++ told_by home ∷ [] → new ≡ map told_by (take m homes)
+  told_more old new so_far one =
+      one ∙ ap (λ (l : List Persisted). l ++ told_by home ∷ []) so_far ∙ sym (ap (map told_by) homes_more ∙ map-append told_by (take n homes) (home ∷ []))
 
   pub opened_more : (old new : Forest) → old ≡ map opened (take n homes) → new ≡ old ++ opened home ∷ [] → new ≡ map opened (take m homes)
   opened_more old new so_far one =

@@ -3,7 +3,7 @@
 ghost use Rattle.std.specs.Prelude.{◌≡◌};
 ghost use Rattle.fjall_contents.specs.Replays.{counts, counts_unpersisted, persisted_at, reaches};
 
-use fjall_contents::Persisted;
+use fjall_contents::PersistedNumbers;
 use fjall_meta::MetaKeyspace;
 
 /// Whether what a batch of that number says of an id counts: its keyspace lives, and was made under a lesser
@@ -17,19 +17,11 @@ fn counts(keyspaces: &MetaKeyspace, number: u64, id: u64) -> bool
     }
 }
 
-/// The number up to which what batches say of an id is persisted, where there is one.
-fn persisted_at(persisted: &[Persisted], id: u64) -> Option<u64>
-    ensures { result ≡ persisted_at id persisted.now }
-{
-    let keyspace = persisted.iter().find(|keyspace| keyspace.id == id)?;
-    keyspace.number
-}
-
 /// Whether what a batch of that number says of an id is persisted.
-fn is_persisted(persisted: &[Persisted], number: u64, id: u64) -> bool
+fn is_persisted(persisted: &PersistedNumbers, number: u64, id: u64) -> bool
     ensures { result ≡ reaches (persisted_at id persisted.now) number }
 {
-    match persisted_at(persisted, id) {
+    match persisted.get(id) {
         Some(last) => number <= last,
         None => false,
     }
@@ -38,7 +30,7 @@ fn is_persisted(persisted: &[Persisted], number: u64, id: u64) -> bool
 /// Whether what a batch of that number says of an id counts, and isn't persisted.
 pub(crate) fn counts_unpersisted(
     keyspaces: &MetaKeyspace,
-    persisted: &[Persisted],
+    persisted: &PersistedNumbers,
     number: u64,
     id: u64,
 ) -> bool

@@ -19,7 +19,7 @@ ghost use Rattle.fjall_contents.specs.Replays.{counts_unpersisted, first_fault, 
 
 use crate::replaying::take;
 use fjall_base::{Error, Result};
-use fjall_contents::Persisted;
+use fjall_contents::PersistedNumbers;
 use fjall_journal::Batch;
 use fjall_meta::MetaKeyspace;
 use fjall_trees::Trees;
@@ -31,7 +31,7 @@ use fjall_trees::Trees;
 /// Refuses for want of memory alone, and then doesn't tell what the active memtables hold.
 pub fn replay_journal(
     keyspaces: &MetaKeyspace,
-    persisted: &[Persisted],
+    persisted: &PersistedNumbers,
     batches: &[Batch],
     trees: &mut Trees,
 ) -> Result<()>

@@ -12,7 +12,7 @@ ghost use Rattle.fjall_contents.specs.Replays.{counts_unpersisted, value_of};
 ghost use Rattle.fjall_contents.specs.Views.{entry_of};
 
 use crate::counting::counts_unpersisted;
-use fjall_contents::Persisted;
+use fjall_contents::PersistedNumbers;
 use fjall_journal::{Batch, ReadBatchItem, ValueType};
 use fjall_meta::MetaKeyspace;
 use fjall_trees::Trees;
@@ -31,7 +31,7 @@ fn value_of(item: &ReadBatchItem) -> Option<&[u8]>
 /// Gives a tree the version that an item makes, where it counts.
 fn put_item(
     keyspaces: &MetaKeyspace,
-    persisted: &[Persisted],
+    persisted: &PersistedNumbers,
     number: u64,
     item: &ReadBatchItem,
     trees: &mut Trees,
@@ -55,7 +55,7 @@ fn put_item(
 /// Gives the trees the versions that the items make, from the last item to the first: of a key the last one counts.
 fn put_items(
     keyspaces: &MetaKeyspace,
-    persisted: &[Persisted],
+    persisted: &PersistedNumbers,
     number: u64,
     items: &[ReadBatchItem],
     trees: &mut Trees,
@@ -76,7 +76,7 @@ fn put_items(
 /// Empties the trees of these ids, as far as it counts for them.
 fn clear_trees(
     keyspaces: &MetaKeyspace,
-    persisted: &[Persisted],
+    persisted: &PersistedNumbers,
     number: u64,
     ids: &[u64],
     trees: &mut Trees,
@@ -96,7 +96,7 @@ fn clear_trees(
 /// Applies one batch more: its clears, and then its items.
 pub(crate) fn take(
     keyspaces: &MetaKeyspace,
-    persisted: &[Persisted],
+    persisted: &PersistedNumbers,
     batch: &Batch,
     trees: &mut Trees,
 ) -> Result<(), AllocError>

@@ -22,6 +22,7 @@ use crate::folder::past;
 use crate::homes::clears_are_within;
 use crate::records::LastRecords;
 use fjall_base::{Error, Result, StorageError};
+use fjall_contents::{Persisted, PersistedNumbers};
 use fjall_manifest::LoadedHome;
 use fjall_meta::MetaKeyspace;
 use fjall_table_reader::{TableFile, TableReader};
@@ -77,17 +78,21 @@ fn readers_of(alloc: Global, files: Vec<TableFile>) -> Result<Vec<TableReader>>
     Ok(readers)
 }
 
-/// Plants the tree of a home behind all others, and keeps the home's record. The keyspace has this id.
+/// Plants the tree of a home behind all others, keeps the home's record, and tells up to which number it is persisted. The
+/// keyspace has this id.
 fn open_home(
     alloc: Global,
     id: u64,
     home: LoadedHome,
     trees: &mut Trees,
     records: &mut LastRecords,
+    persisted: &mut PersistedNumbers,
 ) -> Result<()>
-    requires { All (λ k. k.id < id) (forest_of trees.old) }
+    requires planted { All (λ k. k.id < id) (forest_of trees.old) }
+    requires above { All (λ k. k.id < id) persisted.old }
     ensures ok { OnOk result (forest_of trees.new ≡ forest_of trees.old ++ opened home ∷ []) }
     ensures kept { OnOk result (records.new ≡ insert records.old id (view home.record)) }
+    ensures told { OnOk result (persisted.new ≡ persisted.old ++ told_by home ∷ []) }
     ensures may { OnOk result (MayOpen id home) }
     ensures cause { IfErr result (λ e. (e ≡ Error.OutOfMemory) ⊎ ((e ≡ Storage RecordDamaged) × (MayOpen id home → ⊥))) }
 {
@@ -100,6 +105,10 @@ fn open_home(
     clears.extend_from_slice(&record.clears)?;
     let tree = Tree::new(alloc, readers, clears, past(record.persisted));
     trees.add(id, tree)?;
+    persisted.push(Persisted {
+        id,
+        number: record.persisted,
+    })?;
     records.insert(id, record)
 }
 
@@ -110,6 +119,8 @@ pub struct OpenedHomes {
     pub trees: Trees,
     /// The last record of each.
     pub records: LastRecords,
+    /// Up to which number each of them is persisted.
+    pub persisted: PersistedNumbers,
 }
 
 /// Plants a tree of each keyspace that lives, over the tables that its home's last record names, and keeps that record. They have
@@ -129,6 +140,8 @@ pub fn open_homes(
     ensures before { (bound : ℕ) → All (λ home. IfSome home.record.persisted (λ n. n < bound)) homes.items → IfOk result (λ o. AreBefore bound (forest_of o.trees)) }
     // The first journal's batches go on behind what is persisted.
     ensures ended { IfOk result (λ o. AreEndedBy (map told_by homes.items) 0 (forest_of o.trees)) }
+    // What is persisted is what each home's record tells.
+    ensures persisted { IfOk result (λ o. o.persisted ≡ map told_by homes.items) }
     // The records are those of the homes: of each keyspace that lives one, and none of an id that isn't given out.
     ensures records { IfOk result (λ o. (id : ℕ) → get o.records id ≡ record_read homes.items id) }
     ensures recorded { IfOk result (λ o. All (λ k. is_some (get o.records k.id) ≡ true) keyspaces.now.living) }
@@ -154,11 +167,16 @@ pub fn open_homes(
     }
     let mut trees = Trees::new(alloc);
     let mut records = LastRecords::new(alloc);
+    let mut persisted = PersistedNumbers::new(alloc);
     let mut place = 0;
     for home in homes {
         let id = living[place].id;
-        open_home(alloc, id, home, &mut trees, &mut records)?;
+        open_home(alloc, id, home, &mut trees, &mut records, &mut persisted)?;
         place += 1;
     }
-    Ok(OpenedHomes { trees, records })
+    Ok(OpenedHomes {
+        trees,
+        records,
+        persisted,
+    })
 }

@@ -12,7 +12,7 @@ use Rattle.fjall_recovery.specs.Opening.{opened}
 use Rattle.fjall_recovery.specs.Folders.{Contents, IsOpenable, ShowsContents}
 use Rattle.fjall_recovery.specs.Journals.{EndsAt, AreJournalsRead, batches_in}
 use Rattle.fjall_contents.specs.declared.recovery.Persisted.{Persisted}
-use Rattle.fjall_opening.specs.Readings.{persisted_in, persisted_of}
+use Rattle.fjall_opening.specs.Readings.{persisted_of}
 use Rattle.fjall_opening.specs.Replaying.{IsHeldBy, ShowBeyond}
 use Rattle.fjall_repair.specs.Steps.{active_of}
 use Rattle.fjall_opening.proofs.Counting.{rise_of, told_read}
@@ -39,7 +39,7 @@ returns-in_err-number-clause-listed g c =
 
 pub replay_journals-requires-clause-ended : goal.replay_journals-requires-clause-ended
 replay_journals-requires-clause-ended g c =
-    let same : c.deref-3.result.now ≡ persisted_of c.args.found = c.deref-3.ensures.value ∙ c.in_ok-persisted.ensures.ok ∙ ap (map persisted_in) c.deref-2.ensures.value in
+    let same : c.in_ok-loaded.loaded.persisted ≡ persisted_of c.args.found = c.in_ok-loaded.ensures.persisted in
     subst (λ (l : List Persisted). AreEndedBy l 0 (forest_of c.in_ok-loaded.loaded.trees)) (sym same) c.in_ok-loaded.ensures.ended
 
 pub replay_journals-requires-clause-unwritten : goal.replay_journals-requires-clause-unwritten
@@ -52,7 +52,7 @@ returns-in_err-trees-clause-due g c honest read =
     let found = c.args.found in
     let js = read.journals in
     rw (p.1, p.2)
-    (c.in_err-trees.ensures.due honest js.journals found.journals.torn (record { named = js.named ∙ sym c.deref-4.ensures.value; read = js.read; ends = js.ends })
+    (c.in_err-trees.ensures.due honest js.journals found.journals.torn (record { named = js.named ∙ sym c.deref-2.ensures.value; read = js.read; ends = js.ends })
     (may_replay_all image found read _ c.in_ok-number.number refl (c.in_ok-number.ensures.number (numbers image found read))))
 
 pub returns-clause-opened : goal.returns-clause-opened
@@ -63,10 +63,10 @@ returns-clause-opened g c honest old same read =
     let loaded = c.in_ok-loaded.ensures in
     let made = c.in_ok-trees.ensures in
     let some = made.some in
-    let told : c.deref-3.result.now ≡ persisted_of found = c.deref-3.ensures.value ∙ c.in_ok-persisted.ensures.ok ∙ ap (map persisted_in) c.deref-2.ensures.value in
-    let held : (contents : Contents) → IsOpenable image contents → ShowsContents found contents → IsHeldBy now c.deref-4.result.now found.journals.end found.journals.torn contents.journals =
+    let told : c.in_ok-loaded.loaded.persisted ≡ persisted_of found = c.in_ok-loaded.ensures.persisted in
+    let held : (contents : Contents) → IsOpenable image contents → ShowsContents found contents → IsHeldBy now c.deref-2.result.now found.journals.end found.journals.torn contents.journals =
     λ contents is shows. record {
-      named = sym shows.ids ∙ sym c.deref-4.ensures.value;
+      named = sym shows.ids ∙ sym c.deref-2.ensures.value;
       read = subst (λ (i : Image). AreJournalsRead i contents.journals) same is.journals.read;
       ends = subst (λ (i : Image). EndsAt i contents.journals found.journals.end found.journals.torn) same (ends_found image found contents is read);
     } in
@@ -85,7 +85,7 @@ returns-clause-opened g c honest old same read =
           (subst (λ (l : List Persisted). ShowBeyond found.catalog.keyspaces l (forest_of c.in_ok-loaded.loaded.trees) (map shown (batches_in contents.journals)) (forest_of c.in_ok-trees.trees)) told
           (made.ok honest contents.journals found.journals.torn (held contents is shows)).shown);
       left = λ contents is shows.
-          left_by image found contents c.deref-3.result.now (forest_of c.in_ok-loaded.loaded.trees) (forest_of c.in_ok-trees.trees) read shows told loaded.trees some.1.rest
+          left_by image found contents c.in_ok-loaded.loaded.persisted (forest_of c.in_ok-loaded.loaded.trees) (forest_of c.in_ok-trees.trees) read shows told loaded.trees some.1.rest
           (made.made honest contents.journals found.journals.torn found.journals.watermarks (held contents is shows) (told_read image found contents read shows is));
       journals = record { sealed_are = refl; active_is = c.active_id-id.ensures ∙ ap active_of c.deref.ensures.value; marks_are = c.in_ok-watermarks.ensures.ok };
       opened = λ contents is shows. loaded.opened old contents is (sym shows.keyspaces) read.homes;

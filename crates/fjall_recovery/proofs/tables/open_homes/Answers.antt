@@ -9,6 +9,7 @@ use Rattle.std.proofs.lemmas.List.Elements.{All-map}
 use Rattle.fjall_base.specs.declared.error.Error.{Error}
 use Rattle.fjall_base.specs.declared.error.Error.TheVariants.{OutOfMemory, Storage}
 use Rattle.fjall_base.specs.declared.error.StorageError.TheVariants.{RecordDamaged}
+use Rattle.fjall_contents.specs.declared.recovery.Persisted.{Persisted}
 use Rattle.fjall_files.specs.Calls.{seen}
 use Rattle.fjall_manifest.specs.declared.reading.LoadedHome.{LoadedHome}
 use Rattle.fjall_meta.specs.declared.living.LivingKeyspace.{LivingKeyspace}
@@ -21,7 +22,7 @@ use Rattle.fjall_trees.specs.Views.{forest_of}
 use Rattle.fjall_recovery.specs.Opening.{IsOpenedOn, KnowsStored, MayOpen, MayOpenAll, ShowsEntries, opened, told_by}
 use Rattle.fjall_recovery.specs.Known.{AreAtHome, LastFields}
 use Rattle.fjall_recovery.proofs.Turns.{front_more, lower_ids, trees_below}
-use Rattle.fjall_recovery.proofs.Opening.{AreRecordsOf, all_recorded, as_many_homes, ids_ascend, may_at, may_more, none_recorded, opened_before, opened_ended, opened_ids, opened_more, read_all, records_more, turn_at}
+use Rattle.fjall_recovery.proofs.Opening.{AreRecordsOf, all_recorded, as_many_homes, ids_ascend, may_at, may_more, none_recorded, opened_before, opened_ended, opened_ids, opened_more, read_all, records_more, told_below, told_more, turn_at}
 use Rattle.fjall_recovery.proofs.OpenedTables.{all_opened, knows_stored, shows_entries}
 use Rattle.fjall_recovery.proofs.NamedTables.{all_named}
 use Rattle.fjall_recovery.proofs.tables.open_homes.Goals as goal
@@ -39,8 +40,8 @@ returns-then-len-living-clause-only c image read =
     absurd (other_count c.args.keyspaces.now.living c.args.homes.items (λ same. c.if-len-living.true (c.len.ensures ∙ c.args.homes.ok.0 ∙ sym same ∙ ap length (sym c.living-living.ensures)))
     (read_all image c.args.keyspaces.now.living c.args.homes.items read))
 
-pub open_home-requires : goal.open_home-requires
-open_home-requires c =
+pub open_home-requires-clause-planted : goal.open_home-requires-clause-planted
+open_home-requires-clause-planted c =
     let s = c.args.keyspaces.now in
     let homes = c.args.homes.items in
     let at = c.loop-home in
@@ -54,10 +55,25 @@ open_home-requires c =
     trees_below s c.next_id.ensures.lawful n k k here lt (forest_of at.trees)
     (ap ids_of at.invariant.trees ∙ opened_ids (map (λ (j : LivingKeyspace). j.id) (take n s.living)) (take n homes) at.invariant.may)
 
+pub open_home-requires-clause-above : goal.open_home-requires-clause-above
+open_home-requires-clause-above c =
+    let s = c.args.keyspaces.now in
+    let homes = c.args.homes.items in
+    let at = c.loop-home in
+    let n = length at.yielded in
+    let road = YieldsList-from_vec {s = c.into_iter-home-iterator.result} homes (search rules) (search rules) in
+    let turn = YieldsList-turn road at.yielded at.home-iterator at.yielded_by c.next.result c.next.new.self c.in-Some.home c.in-Some.is c.next.ensures.steps in
+    let many : length s.living ≡ length homes = ap length (sym c.living-living.ensures) ∙ sym c.if-len-living.false ∙ c.len.ensures ∙ c.args.homes.ok.0 in
+    let lt : n < length s.living = omega (arith, turn.0, many) in
+    let k : LivingKeyspace = get_or c.living-living.result.now at.place c.index-living-place.result in
+    let here : k ≡ get_or s.living n k = turn_at s.living c.living-living.result.now at.place n c.index-living-place.result c.living-living.ensures at.invariant.place lt in
+    subst (All (λ p. p.id < k.id)) (sym at.invariant.persisted) (told_below k.id (take n s.living) (take n homes) (lower_ids s c.next_id.ensures.lawful n k k here lt) at.invariant.may)
+
 pub loop-home-init : goal.loop-home-init
 loop-home-init c = record {
   place = refl;
   trees = c.new-trees.ensures.trees;
+  persisted = c.new-persisted.ensures;
   records = λ id. ap (λ (m : LastFields). get m id) c.new-records.ensures ∙ get-empty nat_cmp id;
   may = tt;
 }
@@ -82,6 +98,9 @@ loop-home-preserved c =
       trees =
           opened_more s.living homes n (length (at.yielded ++ home ∷ [])) k home next front turn.0 turn.1 (forest_of at.trees) (forest_of c.open_home.new.trees) at.invariant.trees
           c.in_ok-open_home.ensures.ok;
+      persisted =
+          told_more s.living homes n (length (at.yielded ++ home ∷ [])) k home next front turn.0 turn.1 at.persisted c.open_home.new.persisted at.invariant.persisted
+          c.in_ok-open_home.ensures.told;
       records =
           records_more s.living homes n (length (at.yielded ++ home ∷ [])) k home next front turn.0 turn.1 at.records c.open_home.new.records
           (lower_ids s c.next_id.ensures.lawful n k k here lt) at.invariant.may c.in_ok-open_home.ensures.may at.invariant.records c.in_ok-open_home.ensures.kept;
@@ -133,13 +152,14 @@ returns-in_err-open_home-clause-only c image read =
 
 -- ---- at the end
 
-record IsWhole (s : Keyspaces) (homes : List LoadedHome) (trees : Forest) (kept : LastFields) : Type 0 where
+record IsWhole (s : Keyspaces) (homes : List LoadedHome) (trees : Forest) (told : List Persisted) (kept : LastFields) : Type 0 where
   are : trees ≡ map opened homes
+  persisted : told ≡ map told_by homes
   records : AreRecordsOf homes kept
   may : MayOpenAll (map (λ k. k.id) s.living) homes
   lawful : AreKeyspaces s
 
-whole : (c : goal.After-drop-home-iterator-2) → IsWhole c.args.keyspaces.now c.args.homes.items (forest_of c.loop-home.trees) c.loop-home.records
+whole : (c : goal.After-drop-home-iterator-2) → IsWhole c.args.keyspaces.now c.args.homes.items (forest_of c.loop-home.trees) c.loop-home.persisted c.loop-home.records
 whole c =
     let s = c.args.keyspaces.now in
     let homes = c.args.homes.items in
@@ -152,6 +172,7 @@ whole c =
     let past : length s.living ≤ n = omega (arith, end.1, many) in
     record {
       are = at.invariant.trees ∙ ap (map opened) (take_all n homes over);
+      persisted = at.invariant.persisted ∙ ap (map told_by) (take_all n homes over);
       records = subst (λ (hs : List LoadedHome). AreRecordsOf hs at.records) (take_all n homes over) at.invariant.records;
       may = subst (λ (hs : List LoadedHome). MayOpenAll (map (λ (k : LivingKeyspace). k.id) s.living) hs) (take_all n homes over)
           (subst (λ (ks : List LivingKeyspace). MayOpenAll (map (λ (k : LivingKeyspace). k.id) ks) (take n homes)) (take_all n s.living past) at.invariant.may);
@@ -182,6 +203,9 @@ pub returns-clause-named : goal.returns-clause-named
 returns-clause-named c image read =
     let w = whole c in
     subst (AreAtHome c.loop-home.records) (sym w.are) (all_named image c.args.keyspaces.now.living c.args.homes.items c.loop-home.records w.lawful.ascending read w.records)
+
+pub returns-clause-persisted : goal.returns-clause-persisted
+returns-clause-persisted c = (whole c).persisted
 
 pub returns-clause-records : goal.returns-clause-records
 returns-clause-records c = (whole c).records
