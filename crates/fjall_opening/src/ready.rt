@@ -30,7 +30,7 @@ use fjall_files::journal_name;
 use fjall_journal::Writer;
 use fjall_manager::{ActiveWatermarks, JournalManager, SealedJournal, Watermarks};
 use fjall_meta::MetaKeyspace;
-use fjall_recovery::{LastRecords, RecoveredFolder, list_keyspaces, open_homes};
+use fjall_recovery::{LastRecords, OpenedHomes, RecoveredFolder, list_keyspaces, open_homes};
 use fjall_repair::{BeginPlan, MendPlan, SweepPlan, active_id, plan_beginning, plan_sweep};
 use fjall_table::TableInfo;
 use fjall_trees::Trees;
@@ -169,16 +169,21 @@ fn database_of<D: Disk>(
     } = found;
     prove!(0 < catalog.keyspaces.next_id());
     let loaded = open_homes(alloc, &catalog.keyspaces, homes)?;
+    let OpenedHomes {
+        trees: planted,
+        records,
+        persisted,
+    } = loaded;
     let replay = Replay {
         keyspaces: &catalog.keyspaces,
-        persisted: &loaded.persisted,
+        persisted: &persisted,
         sealed: &journals.sealed,
         bound: number,
     };
-    let trees = replay.replay_journals(alloc, disk, &journal_ids, journals.end, loaded.trees)?;
+    let trees = replay.replay_journals(alloc, disk, &journal_ids, journals.end, planted)?;
     Ok(Opened {
         trees,
-        records: loaded.records,
+        records,
         journal,
         sealed: journals.sealed,
         active: id,

@@ -3,6 +3,7 @@
 ghost use Rattle.std.specs.Prelude.{◌≡◌, ◌++◌, ◌<◌, ℕ, Bool, true, List, All, IsTrue, None, map, OnErr, OnOk, IsOkUnless};
 ghost use Rattle.fjall_base.specs.Disk.{Meaning};
 ghost use Rattle.fjall_contents.specs.Contents.{AreWithin, Stored};
+ghost use Rattle.fjall_contents.specs.declared.recovery.Persisted.{Persisted};
 ghost use Rattle.fjall_journal.specs.Batches.{Shown, view};
 ghost use Rattle.fjall_meta.specs.Keyspaces.{Keyspaces};
 ghost use Rattle.fjall_memtable.specs.Parts.{holds_nothing};
