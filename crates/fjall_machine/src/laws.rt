@@ -41,8 +41,11 @@ ghost use Rattle.fjall_machine.specs.Allowed.{FitsBatch, IsOfLiving, MayChange, 
 ghost use Rattle.fjall_machine.specs.Shapes.{CallShape, OfFlushFinish, OfRead, OneLess, Persistence};
 ghost use Rattle.fjall_machine.specs.Ingesting.{with_ingestion};
 ghost use Rattle.fjall_machine.specs.Machine as machine;
-ghost use Rattle.fjall_machine.specs.Machine.{EvictsSome, Flushed, begins_flush, flush_count, flush_with, is_flushed, is_flushing, table_space, tables_space, AsksMemory, Facts, HasTables, IsPoisoned, Parts, Run, State, Step, StepOf, accepted, change_refusals, created, creation_refusals, deleted, deletion_refusals, buffer_size, due, due_in, first_due, handle_refusals, handles_of, has_name, is_among, is_living, journal_refusals, maps_in, one_more, opened_state, persists_by_hand, present, rotates, times, version_count, view_refusals, wants_rotation};
-ghost use Rattle.fjall_machine.specs.Remembered.{KnowsTask, flush_gone, flush_out, flushed_by, with_flush, with_sealed, AreBeside, IsDueOrMemory, IsLawful, Remembered, MemoryStandsFor, facts_of, instant_in, journal_rotated, poisoned, released, retained, rotated, with_change, with_creation, with_deletion, with_tickets, with_trees};
+ghost use Rattle.fjall_machine.specs.Machine.{EvictsSome, Flushed, begins_flush, flush_count, flush_with, is_flushed, is_flushing, table_space, tables_space, AsksMemory, Facts, HasTables, IsPoisoned, Parts, Run, State};
+ghost use Rattle.fjall_machine.specs.Machine.{Step, StepOf, accepted, change_refusals, created, creation_refusals, deleted, deletion_refusals, buffer_size, due, due_in, first_due, handle_refusals, handles_of, has_name};
+ghost use Rattle.fjall_machine.specs.Machine.{is_among, is_living, journal_refusals, maps_in, one_more, opened_state, persists_by_hand, present, rotates, times, version_count, view_refusals, wants_rotation};
+ghost use Rattle.fjall_machine.specs.Remembered.{KnowsTask, flush_gone, flush_out, flushed_by, with_flush, with_sealed, AreBeside, IsDueOrMemory, IsLawful, Remembered, MemoryStandsFor, facts_of};
+ghost use Rattle.fjall_machine.specs.Remembered.{instant_in, journal_rotated, poisoned, released, retained, rotated, with_change, with_creation, with_deletion, with_tickets, with_trees};
 ghost use Rattle.fjall_machine.specs.Reads.{IsReadRefusal};
 
 /// What is held tells which refusal is due in each state that it stands for.

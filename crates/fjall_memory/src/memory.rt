@@ -1,7 +1,8 @@
 //! A disk in memory, for tests of crashes and of faults.
 
 ghost use Rattle.std.specs.Prelude.{◌≡◌, ◌≢◌, [], ◌∷◌, true, map, IfOk, IsOk, IsOkUnless, OnErr, OnOk};
-ghost use Rattle.fjall_base.specs.Disk.{IsImage, IsImageBy, SurvivesWild, disk_of, state_in, Append, Cut, File, Folder, HasCause, Judged, Loosen, OnlyFaults, Sync, SyncFolder, Took, TookCut, TookOrNot, TookPart, making, removing, CanCreate, CanMakeFolder, CanRemoveFolder, HasFolder, IsEmpty, IsFile, IsLong, IsNoFile, IsNoFolder, IsThere, Lists, ReadsFile, ReadsAt, standing};
+ghost use Rattle.fjall_base.specs.Disk.{IsImage, IsImageBy, SurvivesWild, disk_of, state_in, Append, Cut, File, Folder, HasCause, Judged, Loosen, OnlyFaults, Sync, SyncFolder, Took, TookCut, TookOrNot, TookPart};
+ghost use Rattle.fjall_base.specs.Disk.{making, removing, CanCreate, CanMakeFolder, CanRemoveFolder, HasFolder, IsEmpty, IsFile, IsLong, IsNoFile, IsNoFolder, IsThere, Lists, ReadsFile, ReadsAt, standing};
 ghost use Rattle.fjall_base.specs.Crash.{crashed};
 ghost use Rattle.fjall_memory.specs.Memory.{named_place};
 ghost use Rattle.fjall_memory.specs.Wild.{filled, fills_of};

@@ -1,6 +1,7 @@
 //! The keyspaces that live.
 
-ghost use Rattle.std.specs.Prelude.{◌≡◌, ◌≢◌, ◌↔◌, ◌*◌, ◌^◌, ◌-◌, ◌<◌, ◌+◌, ◌++◌, ◌==◌, true, min, position, take, drop, All, AllPairs, IsTrue, map, length, Ok, Some, is_some, IfOk, IfErr, OnOk, OnErr, IfSome, IfNone, IsPermutation, IsSorted};
+ghost use Rattle.std.specs.Prelude.{◌≡◌, ◌≢◌, ◌↔◌, ◌*◌, ◌^◌, ◌-◌, ◌<◌, ◌+◌, ◌++◌, ◌==◌, true, min, position, take, drop, All, AllPairs, IsTrue};
+ghost use Rattle.std.specs.Prelude.{map, length, Ok, Some, is_some, IfOk, IfErr, OnOk, OnErr, IfSome, IfNone, IsPermutation, IsSorted};
 ghost use Rattle.fjall_base.specs.Pairs.{byte_order};
 ghost use Rattle.fjall_base.specs.declared.error.Error.TheVariants.{OutOfMemory};
 ghost use Rattle.fjall_options.specs.Options.{value_at, AreOptions};

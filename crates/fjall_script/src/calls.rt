@@ -1,7 +1,8 @@
 //! The calls that lines make, and the snapshots and transactions that they name.
 
 ghost use Rattle.std.specs.Prelude.{◌≡◌, ◌<◌, ◌+◌, ◌++◌, ◌∷◌, ◌^◌, [], IfOk, IsOkUnless, OnOk, length, map};
-ghost use Rattle.fjall_script.specs.Requests.{AddsCalls, AreOfLines, LineAdds, all_pairs, asked_with, begun_with, calls_with, finish_of, IsBatch, IsCallOf, is_same, item_of, job_of, left_of, named, nowhere, numbered_with, numbers_in, op_of, opens, place_by, request_of};
+ghost use Rattle.fjall_script.specs.Requests.{AddsCalls, AreOfLines, LineAdds, all_pairs, asked_with, begun_with, calls_with, finish_of, IsBatch, IsCallOf, is_same};
+ghost use Rattle.fjall_script.specs.Requests.{item_of, job_of, left_of, named, nowhere, numbered_with, numbers_in, op_of, opens, place_by, request_of};
 ghost use Rattle.fjall_options.specs.Options.{default_options};
 ghost use Rattle.fjall_machine.specs.declared.call.Call.TheVariants as calls;
 ghost use Rattle.fjall_calls.specs.declared.call.TxCall.TheVariants as tx;

@@ -1,6 +1,7 @@
 //! Jobs of a tree: begun, and finished without memory.
 
-ghost use Rattle.std.specs.Prelude.{◌≡◌, ◌≢◌, ◌+◌, ◌-◌, ◌++◌, ◌<◌, ◌≤◌, ◌^◌, ◌⊎◌, ◌↔◌, [], List, length, drop, take, nat_le, nat_lt, ⊤, true, false, IsTrue, IfOk, IfErr, IfSome, IsOkUnless, OnOk, OnErr, IsOk, vec_len, vec_capacity, Ok, Some, None};
+ghost use Rattle.std.specs.Prelude.{◌≡◌, ◌≢◌, ◌+◌, ◌-◌, ◌++◌, ◌<◌, ◌≤◌, ◌^◌, ◌⊎◌, ◌↔◌, [], List, length, drop, take, nat_le, nat_lt, ⊤, true};
+ghost use Rattle.std.specs.Prelude.{false, IsTrue, IfOk, IfErr, IfSome, IsOkUnless, OnOk, OnErr, IsOk, vec_len, vec_capacity, Ok, Some, None};
 ghost use Rattle.fjall_table.specs.Blocks.{Entry};
 ghost use Rattle.fjall_table_reader.specs.Files.{IsRefused};
 ghost use Rattle.fjall_table_reader.specs.Readers.{LooksOn, SomeTableIsWrong};
@@ -11,7 +12,8 @@ ghost use Rattle.fjall_jobs.specs.Made.{flushed_task, merged_task};
 ghost use Rattle.fjall_jobs.specs.Merges.{merge_target, merge_task};
 ghost use Rattle.fjall_tree.specs.Trees.{IsSameShape, ReadsAll, floor_of};
 ghost use Rattle.std.specs.Option.{option_map};
-ghost use Rattle.fjall_tree.specs.Jobs.{HasRoomForTables, count_out, input_of, IsFlushing, IsMerging, MergesNothing, flush_begun, flush_dropped, flush_end, flush_finished, flush_of, is_flush_out, is_merge_out, merge_begun, merge_dropped, merge_finished, merge_of};
+ghost use Rattle.fjall_tree.specs.Jobs.{HasRoomForTables, count_out, input_of, IsFlushing, IsMerging, MergesNothing, flush_begun, flush_dropped, flush_end};
+ghost use Rattle.fjall_tree.specs.Jobs.{flush_finished, flush_of, is_flush_out, is_merge_out, merge_begun, merge_dropped, merge_finished, merge_of};
 
 use crate::input::all_blocks;
 use crate::out::{FlushOut, MergeOut};
