@@ -6,3 +6,4 @@ mod Paging
 pub mod Orders
 mod Reading
 pub mod Looping
+mod Looks

@@ -1,5 +1,5 @@
 -- Pages over runs some of which stand only partly in memory.
-use Rattle.std.proofs.Common.{◌≡◌, ℕ, zero, suc, ◌+◌, ◌-◌, ◌<◌, ◌≤◌, Bool, true, false, cond, List, [], ◌∷◌, ◌++◌, length, map, take, drop, reverse, get_or, slice_get, slice_set, position, Option, Some, None, IfSome, refl, sym, ap, subst, ◌∙◌, arith, ◌&&◌, ltb, inl, inr}
+use Rattle.std.proofs.Common.{◌≡◌, ℕ, zero, suc, ◌+◌, ◌-◌, ◌<◌, ◌≤◌, Bool, true, false, cond, List, [], ◌∷◌, ◌++◌, length, length-append, map, take, drop, reverse, get_or, slice_get, slice_set, position, Option, Some, None, IfSome, refl, sym, ap, subst, ◌∙◌, arith, ◌&&◌, ltb, inl, inr}
 use Rattle.std.specs.List.{AllByRecursion, position_or_len}
 use Rattle.std.proofs.lemmas.Bool.{cases_Bool, ltb-false}
 use Rattle.std.proofs.lemmas.List.{append-nil, reverse-reverse, take-append-le}
@@ -8,6 +8,7 @@ use Rattle.fjall_base.specs.Pairs.{Bytes, KeyRange}
 use Rattle.fjall_table.specs.Blocks.{Entry}
 use Rattle.fjall_table.specs.Tables.{entries_of, entries_within}
 use Rattle.fjall_memtable.specs.Sorted.{IsFirst, IsUpToFirst, flat, in_turn}
+use Rattle.fjall_runs.proofs.Heads.{alone_first}
 use Rattle.fjall_runs.proofs.RunPaging.{made_more, made_all, set_run, got_run}
 use Rattle.fjall_runs.specs.declared.page_run.PageRun.{PageRun}
 use Rattle.fjall_runs.specs.declared.page_run.PageRun.TheVariants.{Memory, Table}
@@ -16,6 +17,7 @@ use Rattle.fjall_runs.specs.declared.page_maker.PageMaker.TheVariants.{Front, Ba
 use Rattle.fjall_runs.specs.Parts.{Ahead}
 use Rattle.fjall_runs.specs.Runs.{ahead_of, all_behind, all_of, behind_of, is_dry, is_empty, joined, left_in}
 use Rattle.fjall_runs.specs.Pages.{IsMade, goes_back, made, made_with}
+use Rattle.fjall_runs.specs.RunPages.{LooksOver}
 use Rattle.fjall_runs.specs.Leads.{Leading, UndryBut}
 
 -- ---- runs none of which has to be filled
@@ -156,6 +158,11 @@ same_set [] i x e = absurd (cc e)
 same_set (y ∷ xs) zero x e = let same : y ≡ x = cc e in ap (λ (z : _). z ∷ xs) (sym same)
 same_set (y ∷ xs) (suc i) x e = ap (λ (ys : List _). y ∷ ys) (same_set xs i x e)
 
+set_again : {A : Type 0} (xs : List A) (i : ℕ) (x y : A) → slice_set (slice_set xs i x) i y ≡ slice_set xs i y
+set_again [] i x y = refl
+set_again (z ∷ xs) zero x y = refl
+set_again (z ∷ xs) (suc i) x y = ap (λ (zs : List _). z ∷ zs) (set_again xs i x y)
+
 -- a run that was passed on has the same blocks to come
 pub same_ahead : (runs : List PageRun) (at : ℕ) (d new : PageRun) → at < length runs → ahead_of new ≡ ahead_of (get_or runs at d) → map ahead_of (slice_set runs at new) ≡ map ahead_of runs
 same_ahead runs at d new lt same = set_run ahead_of runs at new ∙ same_set (map ahead_of runs) at (ahead_of new) (got_run ahead_of runs at d lt ∙ ap (λ a. Some a) (sym same))
@@ -191,6 +198,81 @@ going_more back max first_page page after first_runs runs at d new g lt dry firs
       few = λ le. omega (arith, few, lt);
     }
 
+-- ---- a run that alone has versions
+
+ready_set : (lefts behinds : List (List Entry)) (at : ℕ) (v : Entry) (rest : List Entry) → Ready lefts behinds → Ready (slice_set lefts at (v ∷ rest)) behinds
+ready_set [] behinds at v rest ready = tt
+ready_set (run ∷ lefts) [] zero v rest ready = tt
+ready_set (run ∷ lefts) [] (suc at) v rest ready = tt
+ready_set (run ∷ lefts) (b ∷ behinds) zero v rest ready = (λ e. absurd (cc e), ready.1)
+ready_set (run ∷ lefts) (b ∷ behinds) (suc at) v rest ready = (ready.0, ready_set lefts behinds at v rest ready.1)
+
+got_set : {A : Type 0} (xs : List A) (i : ℕ) (x y : A) → slice_get xs i ≡ Some x → slice_get (slice_set xs i y) i ≡ Some y
+got_set [] i x y e = absurd (cc e)
+got_set (z ∷ xs) zero x y e = refl
+got_set (z ∷ xs) (suc i) x y e = got_set xs i x y e
+
+-- its versions are looked at one behind another
+joined_on : (back : Bool) (lefts behinds : List (List Entry)) (at : ℕ) (front rest : List Entry) (whole : List (Bytes × Bytes)) (all : List Entry → List (Bytes × Bytes)) (made_yet made_new : List (Bytes × Bytes)) (max : ℕ)
+    → IsMade back (joined lefts behinds) whole all made_yet max → ((v : Entry) (more : List Entry) → Ready (slice_set lefts at (v ∷ more)) behinds) → slice_get lefts at ≡ Some (front ++ rest) → IsFirst back (slice_set lefts at []) None
+    → length made_yet < max → length made_new ≤ max → IsMade back (joined (slice_set lefts at rest) behinds) whole (λ versions. all (front ++ versions)) made_new max
+joined_on back lefts behinds at [] rest whole all made_yet made_new max is ready get none lt le =
+    subst (λ (rs : List (List Entry)). IsMade back (joined rs behinds) whole all made_new max) (sym (same_set lefts at rest get)) (record { ordered = is.ordered; once = is.once; told = is.told; few = le })
+joined_on back lefts behinds at (v ∷ front) rest whole all made_yet made_new max is ready get none lt le =
+    let more : List Entry = front ++ rest in
+    let next : List (List Entry) = slice_set lefts at more in
+    let here : Ready lefts behinds = subst (λ (rs : List (List Entry)). Ready rs behinds) (same_set lefts at (v ∷ more) get) (ready v more) in
+    let one : IsMade back (joined next behinds) whole (λ versions. all (v ∷ versions)) made_yet max =
+    joined_more back lefts behinds next at (v ∷ more) more whole all (λ versions. all (v ∷ versions)) made_yet made_yet max is here (alone_first back lefts at (v ∷ more) v get refl none) get refl
+    (λ u rest e. cc e) (λ u rest versions e. ap (λ (w : Entry). all (w ∷ versions)) (same_head v u more rest e)) (omega arith) lt in
+    subst (λ (rs : List (List Entry)). IsMade back (joined rs behinds) whole (λ versions. all (v ∷ (front ++ versions))) made_new max) (set_again lefts at more rest)
+    (joined_on back next behinds at front rest whole (λ versions. all (v ∷ versions)) made_yet made_new max one
+    (λ u behind. subst (λ (rs : List (List Entry)). Ready rs behinds) (sym (set_again lefts at more (u ∷ behind))) (ready u behind))
+    (got_set lefts at (v ∷ more) more get)
+    (subst (λ (rs : List (List Entry)). IsFirst back rs None) (sym (set_again lefts at more [])) none) lt le)
+  where
+    same_head : (v u : Entry) (more rest : List Entry) → v ∷ more ≡ u ∷ rest → v ≡ u
+    same_head v u more rest e = cc e
+
+-- a page that looked over some versions of the one run that has any
+pub going_on : (back : Bool) (max : ℕ) (first_page page after : PageMaker) (first_runs runs : List PageRun) (at : ℕ) (d new : PageRun) → Going back max first_page page first_runs runs
+    → length (made page) < max → AllByRecursion (λ run. is_dry run ≡ false) runs → IsFirst back (slice_set (map left_in runs) at []) None → at < length runs
+    → ahead_of new ≡ ahead_of (get_or runs at d) → goes_back after ≡ goes_back page
+    → LooksOver (left_in (get_or runs at d)) (left_in new) (made_with page) (made_with after)
+    → length (made after) ≤ max
+    → Going back max first_page after first_runs (slice_set runs at new)
+going_on back max first_page page after first_runs runs at d new g lt dry none within ahead ends over few =
+    let kept = same_ahead runs at d new within ahead in
+    record {
+      end = ends ∙ g.end;
+      ahead = kept ∙ g.ahead;
+      all = λ range tables whole is.
+          let behinds : List (List Entry) = all_behind range tables (map ahead_of runs) in
+          let ready = ready_all range tables runs dry in
+          let on = joined_on back (map left_in runs) behinds at over.front (left_in new) whole (made_with page) (made page) (made after) max (g.all range tables whole is)
+          (λ v more. ready_set (map left_in runs) behinds at v more ready) (got_run left_in runs at d within ∙ ap Some over.passed) none lt few in
+          let same : slice_set (map left_in runs) at (left_in new) ≡ map left_in (slice_set runs at new) = sym (set_run left_in runs at new) in
+          subst (λ (ahead : List (Option Ahead)). IsMade back (joined (map left_in (slice_set runs at new)) (all_behind range tables ahead)) whole (made_with after) (made after) max) (sym kept)
+          (subst (λ (rs : List (List Entry)). IsMade back (joined rs behinds) whole (made_with after) (made after) max) same
+          (record { ordered = on.ordered; once = on.once; told = over.looked _ ∙ on.told; few = few }));
+      few = λ le. few;
+    }
+
+-- fewer versions are left where one run has fewer
+pub flat_fewer : (runs : List (List Entry)) (at : ℕ) (left rest : List Entry) → slice_get runs at ≡ Some left → length rest < length left → length (flat (slice_set runs at rest)) < length (flat runs)
+flat_fewer [] at left rest e less = absurd (cc e)
+flat_fewer (run ∷ runs) zero left rest e less =
+    let same : run ≡ left = cc e in
+    let a = length-append rest (flat runs) in
+    let b = length-append run (flat runs) in
+    let n = ap length same in
+    omega (arith, a, b, n, less)
+flat_fewer (run ∷ runs) (suc at) left rest e less =
+    let fewer = flat_fewer runs at left rest e less in
+    let a = length-append run (flat (slice_set runs at rest)) in
+    let b = length-append run (flat runs) in
+    omega (arith, a, b, fewer)
+
 -- ---- a run that goes on
 
 undry_but : (at : ℕ) (runs : List PageRun) → AllByRecursion (λ run. is_dry run ≡ false) runs → UndryBut at runs
@@ -219,11 +301,6 @@ undry_all : (at : ℕ) (runs : List PageRun) (v : Entry) (rest : List Entry) →
 undry_all at [] v rest each e = tt
 undry_all zero (run ∷ runs) v rest each e = (undry_one run v rest (cc e), each)
 undry_all (suc at) (run ∷ runs) v rest each e = (each.0, undry_all at runs v rest each.1 e)
-
-set_again : {A : Type 0} (xs : List A) (i : ℕ) (x y : A) → slice_set (slice_set xs i x) i y ≡ slice_set xs i y
-set_again [] i x y = refl
-set_again (z ∷ xs) zero x y = refl
-set_again (z ∷ xs) (suc i) x y = ap (λ (zs : List _). z ∷ zs) (set_again xs i x y)
 
 set_length : {A : Type 0} (xs : List A) (i : ℕ) (x : A) → length (slice_set xs i x) ≡ length xs
 set_length [] i x = refl

@@ -1,5 +1,5 @@
 -- Pages that are being made.
-use Rattle.std.specs.Prelude.{ℕ, ◌-◌, List, ◌++◌, Option, Some, None, length, slice_get}
+use Rattle.std.specs.Prelude.{◌≡◌, ℕ, ◌-◌, List, ◌++◌, Option, Some, None, length, slice_get}
 use Rattle.std.specs.Option.{option_map}
 use Rattle.fjall_base.specs.Pairs.{Bytes}
 use Rattle.fjall_table.specs.Blocks.{Entry}
@@ -22,6 +22,14 @@ settled_key None pairs = option_map (λ pair. pair.0) (slice_get pairs (length p
 -- all pairs of it, where these versions are still to be looked at
 abbrev pub front_with : FrontPage → List Entry → List (Bytes × Bytes)
 front_with page versions = page.pairs.items ++ pairs_of page.instant page.bound (settled_key page.bare page.pairs.items) versions
+
+-- ---- several versions
+
+-- The first of what was left were looked at, one behind another, and the rest is left: what is made of the rest is what was made of all.
+pub record LooksOver (left rest : List Entry) (all all_new : List Entry → List (Bytes × Bytes)) : Type 0 where
+  pub front : List Entry
+  pub passed : left ≡ front ++ rest
+  pub looked : (versions : List Entry) → all_new versions ≡ all (front ++ versions)
 
 -- ---- from behind
 

@@ -1,6 +1,6 @@
 //! Pages from behind.
 
-ghost use Rattle.std.specs.Prelude.{◌≡◌, ◌≤◌, ◌+◌, ◌∷◌, [], List, None, false, length, reverse, take, IfOk, OnOk, IsTrue, ◌↔◌};
+ghost use Rattle.std.specs.Prelude.{◌≡◌, ◌<◌, ◌≤◌, ◌+◌, ◌∷◌, [], List, None, false, length, reverse, take, IfOk, OnOk, IsTrue, ◌↔◌};
 ghost use Rattle.fjall_table.specs.Blocks.{Entry, seen};
 ghost use Rattle.fjall_memtable.specs.SortedPages.{is_another, pairs_back};
 ghost use Rattle.fjall_runs.specs.Keyed.{found_in};
@@ -8,7 +8,8 @@ ghost use Rattle.fjall_runs.specs.Keyed.{found_in};
 use crate::front_page::value_shown;
 use crate::keyed_pairs::KeyedPairs;
 use crate::keys::is_same;
-use crate::run::PageVersions;
+use crate::run::{PageVersions, Run};
+use crate::table_run::TableRun;
 use fjall_base::KvPair;
 use fjall_table::TableEntry;
 use std::alloc::{AllocError, Global};
@@ -34,7 +35,8 @@ fn is_of_another(pairs: &KeyedPairs, version: &TableEntry<'_>, bound: u64) -> bo
 }
 
 impl BackPage {
-    ghost use Rattle.fjall_runs.specs.RunPages.{back_pairs, back_with};
+    ghost use Rattle.fjall_runs.specs.Parts.{left_of};
+    ghost use Rattle.fjall_runs.specs.RunPages.{LooksOver, back_pairs, back_with};
 
     /// A page with no pair yet, of what is numbered below the instant; all that is numbered below the bound is cleared. It
     /// takes no memory.
@@ -65,6 +67,7 @@ impl BackPage {
     }
 
     // Settles the key whose newest version was found last, where a version is of another key.
+    #[inline(always)]
     fn settle_before(&mut self, version: &TableEntry<'_>) -> Result<(), AllocError>
         ensures all { OnOk result ((versions : List Entry) → back_with self.new (seen version.now ∷ versions) ≡ back_with self.old (seen version.now ∷ versions)) }
         ensures same { OnOk result (is_another (found_in self.new.bound self.new.pairs.last) (seen version.now) ≡ false) }
@@ -78,6 +81,7 @@ impl BackPage {
 
     /// Looks at the first version of a run, which is the next one from behind, and adds the pair of the key that it settles; where the run
     /// has none, the page stays as it is. It is refused for want of memory alone; the page is of no more use then.
+    #[inline(always)]
     pub fn look<R: PageVersions>(&mut self, run: &R) -> Result<(), AllocError>
         ensures all { OnOk result ((v : Entry) (rest versions : List Entry) → R.left run.now ≡ v ∷ rest → back_with self.new versions ≡ back_with self.old (v ∷ versions)) }
         ensures none { R.left run.now ≡ [] → self.new ≡ self.old }
@@ -94,6 +98,21 @@ impl BackPage {
         if let Some((key, value)) = run.first_owned(self.alloc)? {
             self.pairs
                 .set_last(key, value_shown(value, number, self.bound));
+        }
+        Ok(())
+    }
+
+    /// Looks at the versions that a table's run has in memory, one behind another, until there are `max` pairs or none is left. It is
+    /// refused for want of memory alone; the page is of no more use then.
+    pub(crate) fn look_on(&mut self, run: &mut TableRun, max: usize) -> Result<(), AllocError>
+        ensures ahead { run.new.ahead ≡ run.old.ahead }
+        ensures looked { OnOk result (LooksOver (left_of run.old) (left_of run.new) (back_with self.old) (back_with self.new)) }
+        ensures few { OnOk result (length (back_pairs self.old) ≤ max → length (back_pairs self.new) ≤ max) }
+        ensures fewer { OnOk result (length (back_pairs self.old) < max → (left_of run.old ≡ [] → ⊥) → length (left_of run.new) < length (left_of run.old)) }
+    {
+        'versions: while self.len() < max && !run.is_empty() {
+            self.look(run)?;
+            run.skip();
         }
         Ok(())
     }

@@ -1,13 +1,14 @@
 //! Pages from the start.
 
-ghost use Rattle.std.specs.Prelude.{◌≡◌, ◌≤◌, ◌+◌, ◌++◌, ◌∷◌, [], List, None, Some, length, IfOk, OnOk, IsTrue, ◌↔◌};
+ghost use Rattle.std.specs.Prelude.{◌≡◌, ◌<◌, ◌≤◌, ◌+◌, ◌++◌, ◌∷◌, [], List, None, Some, length, OnOk, IsTrue, ◌↔◌};
 ghost use Rattle.std.specs.Option.{option_map};
 ghost use Rattle.fjall_base.specs.Pairs.{Bytes};
 ghost use Rattle.fjall_table.specs.Blocks.{Entry, seen};
 ghost use Rattle.fjall_memtable.specs.SortedPages.{is_settled, pair_in, pair_of, pairs_of};
 
 use crate::keys::is_same;
-use crate::run::PageVersions;
+use crate::run::{PageVersions, Run};
+use crate::table_run::TableRun;
 use fjall_base::{KvPair, UserKey, UserValue};
 use fjall_table::TableEntry;
 use std::alloc::{AllocError, Global};
@@ -38,7 +39,8 @@ pub(crate) fn value_shown(value: Option<UserValue>, number: u64, bound: u64) -> 
 }
 
 impl FrontPage {
-    ghost use Rattle.fjall_runs.specs.RunPages.{front_pairs, front_with, settled_key};
+    ghost use Rattle.fjall_runs.specs.Parts.{left_of};
+    ghost use Rattle.fjall_runs.specs.RunPages.{LooksOver, front_pairs, front_with, settled_key};
 
     /// A page with no pair yet, of what is numbered below the instant; all that is numbered below the bound is cleared. It
     /// takes no memory.
@@ -116,6 +118,7 @@ impl FrontPage {
 
     /// Looks at the first version of a run, which is the next one, and adds the pair that it makes; where the run has none, the page
     /// stays as it is. It is refused for want of memory alone; the page is of no more use then.
+    #[inline(always)]
     pub fn look<R: PageVersions>(&mut self, run: &R) -> Result<(), AllocError>
         ensures all { OnOk result ((v : Entry) (rest versions : List Entry) → R.left run.now ≡ v ∷ rest → front_with self.new versions ≡ front_with self.old (v ∷ versions)) }
         ensures none { R.left run.now ≡ [] → self.new ≡ self.old }
@@ -132,6 +135,21 @@ impl FrontPage {
             return Ok(());
         };
         self.settle(key, value_shown(value, number, self.bound))
+    }
+
+    /// Looks at the versions that a table's run has in memory, one behind another, until there are `max` pairs or none is left. It is
+    /// refused for want of memory alone; the page is of no more use then.
+    pub(crate) fn look_on(&mut self, run: &mut TableRun, max: usize) -> Result<(), AllocError>
+        ensures ahead { run.new.ahead ≡ run.old.ahead }
+        ensures looked { OnOk result (LooksOver (left_of run.old) (left_of run.new) (front_with self.old) (front_with self.new)) }
+        ensures few { OnOk result (length (front_pairs self.old) ≤ max → length (front_pairs self.new) ≤ max) }
+        ensures fewer { OnOk result (length (front_pairs self.old) < max → (left_of run.old ≡ [] → ⊥) → length (left_of run.new) < length (left_of run.old)) }
+    {
+        'versions: while self.len() < max && !run.is_empty() {
+            self.look(run)?;
+            run.skip();
+        }
+        Ok(())
     }
 
     /// The pairs in order.

@@ -47,6 +47,7 @@ impl KeyedPairs {
     }
 
     /// The last key, if there is one.
+    #[inline(always)]
     pub fn last_key(&self) -> Option<&[u8]>
         ensures { option_map (λ key. key.now) result ≡ key_of self.now.last }
     {
@@ -57,6 +58,7 @@ impl KeyedPairs {
     }
 
     /// Settles the last key: its pair is one of the pairs, if it has one, and it is the last key no more.
+    #[inline(always)]
     pub fn settle(&mut self) -> Result<(), AllocError>
         ensures { OnOk result (self.new ≡ settled self.old) }
     {

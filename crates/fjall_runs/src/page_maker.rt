@@ -6,6 +6,7 @@ ghost use Rattle.fjall_table.specs.Blocks.{Entry};
 ghost use Rattle.fjall_memtable.specs.Sorted.{IsFirst, in_turn};
 ghost use Rattle.fjall_runs.specs.Runs.{ahead_of, all_of, is_dry, left_in};
 ghost use Rattle.fjall_runs.specs.Pages.{IsMade, goes_back, made, made_with, page_of};
+ghost use Rattle.fjall_runs.specs.RunPages.{LooksOver};
 ghost use Rattle.fjall_runs.specs.Leads.{Leading, UndryBut};
 
 use crate::back_page::BackPage;
@@ -72,6 +73,25 @@ impl PageMaker {
         Ok(())
     }
 
+    // Looks at the first versions of a run, one at least, of which there are no more than what the page has room for.
+    fn look_on(&mut self, run: &mut PageRun<'_>, max: usize) -> Result<(), AllocError>
+        requires some { left_in run.old ≡ [] → ⊥ }
+        requires room { length (made self.old) < max }
+        ensures ahead { ahead_of run.new ≡ ahead_of run.old }
+        ensures back { goes_back self.new ≡ goes_back self.old }
+        ensures looked { OnOk result (LooksOver (left_in run.old) (left_in run.new) (made_with self.old) (made_with self.new)) }
+        ensures fewer { OnOk result (length (left_in run.new) < length (left_in run.old)) }
+        ensures few { OnOk result (length (made self.new) ≤ max) }
+    {
+        match run {
+            PageRun::Memory(_) => self.look_at(run),
+            PageRun::Table(run) => match self {
+                PageMaker::Front(page) => page.look_on(run, max),
+                PageMaker::Back(page) => page.look_on(run, max),
+            },
+        }
+    }
+
     // Where a page goes on that isn't full, once versions of the first of two runs were passed over. It is None also where
     // these two alone don't tell.
     fn next_two(
@@ -118,10 +138,14 @@ impl PageMaker {
             let Some(two) = first_two_of(runs, back) else {
                 return Ok(None);
             };
-            let mut next = Some(two);
-            'ahead: while let Some((at, other)) = next {
-                self.look_at(&mut runs[at])?;
-                next = self.next_two(runs, at, other, back, max);
+            if two.1.is_none() {
+                self.look_on(&mut runs[two.0], max)?;
+            } else {
+                let mut next = Some(two);
+                'ahead: while let Some((at, other)) = next {
+                    self.look_at(&mut runs[at])?;
+                    next = self.next_two(runs, at, other, back, max);
+                }
             }
         }
         Ok(None)

@@ -65,6 +65,7 @@ impl TableRun {
     }
 
     /// Whether nothing is in memory, but a block is to come.
+    #[inline(always)]
     pub fn is_dry(&self) -> bool
         ensures { IsTrue result ↔ IsDryPart self.now }
     {
@@ -132,6 +133,7 @@ impl TableRun {
     }
 
     // Passes the first version over.
+    #[inline(always)]
     pub(crate) fn skip(&mut self)
         ensures left { left_of self.new ≡ drop 1 (left_of self.old) }
         ensures ahead { self.new.ahead ≡ self.old.ahead }
@@ -149,6 +151,7 @@ impl TableRun {
 impl Run for TableRun {
     ghost left = { left_of };
 
+    #[inline(always)]
     fn first(&self) -> Option<TableEntry<'_>>
         ensures { option_map seen result ≡ slice_get (left_of self.now) 0 }
     {
@@ -164,6 +167,7 @@ impl Run for TableRun {
         Some(block.entry(self.start))
     }
 
+    #[inline(always)]
     fn is_empty(&self) -> bool
         ensures { IsTrue result ↔ (left_of self.now ≡ []) }
     {

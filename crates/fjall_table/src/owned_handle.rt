@@ -42,6 +42,7 @@ impl OwnedHandle {
     }
 
     // How its key compares with one that is looked for.
+    #[inline(always)]
     fn compare(&self, sought: &Sought<'_>) -> Ordering
         ensures { result ≡ byte_order self.now.first_key sought.now.key.now }
     {
@@ -53,6 +54,7 @@ impl OwnedHandle {
     }
 
     /// Whether its block begins with a key below it.
+    #[inline(always)]
     pub(crate) fn is_below(&self, sought: &Sought<'_>) -> bool
         ensures { result ≡ is_lt (byte_order self.now.first_key sought.now.key.now) }
     {
@@ -60,6 +62,7 @@ impl OwnedHandle {
     }
 
     /// Whether its block begins with a key at most it.
+    #[inline(always)]
     pub(crate) fn is_at_most(&self, sought: &Sought<'_>) -> bool
         ensures { result ≡ is_le (byte_order self.now.first_key sought.now.key.now) }
     {

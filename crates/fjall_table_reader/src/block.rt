@@ -105,6 +105,7 @@ impl Block {
     }
 
     /// An entry, counted from 0 on. Key and value are parts of the block's text.
+    #[inline(always)]
     pub fn entry(&self, at: usize) -> TableEntry<'_>
         requires { at < length self.now }
         ensures { slice_get self.now at ≡ Some (seen result) }
@@ -119,6 +120,7 @@ impl Block {
 
     /// An entry without its key. Its value is a part of the block's text, and keeps it. It is refused for want of memory
     /// alone.
+    #[inline(always)]
     pub fn found(&self, at: usize) -> Result<Found>
         requires { at < length self.now }
         ensures found { IfOk result (λ f. IfSome (slice_get self.now at) (λ e. entry_found e.key f ≡ e)) }
@@ -133,6 +135,7 @@ impl Block {
     }
 
     /// The key of an entry and its value, where it has one. Both are parts of the block's text, and keep it.
+    #[inline(always)]
     pub fn pair(&self, at: usize) -> result::Result<(UserKey, Option<UserValue>), AllocError>
         requires { at < length self.now }
         ensures { IfOk result (λ pair. option_map (λ e. (e.key, e.value)) (slice_get self.now at) ≡ Some pair) }
@@ -145,6 +148,7 @@ impl Block {
 
     /// Where the newest version of a key stands that is numbered below an instant, by binary search; None where no version
     /// is.
+    #[inline(always)]
     pub fn newest(&self, key: &[u8], instant: u64) -> Option<usize>
         ensures version { slice_get (versions_at key.now instant self.now) 0 ≡ option_and_then (slice_get self.now) result }
         ensures within { IfSome result (λ at. at < length self.now) }
@@ -161,6 +165,7 @@ impl Block {
     }
 
     /// That version, as `found` gives it.
+    #[inline(always)]
     pub(crate) fn find(&self, key: &[u8], instant: u64) -> Result<Option<Found>>
         ensures found { IfOk result (λ f. IsFound key.now f (slice_get (versions_at key.now instant self.now) 0)) }
         ensures only { IsOkUnless result Error.OutOfMemory }
@@ -222,6 +227,7 @@ impl Block {
 
     /// Whether an entry stands before all those of a key with this front that are numbered below an instant; with no instant,
     /// before all of the key.
+    #[inline(always)]
     fn is_ahead(&self, at: usize, front: u128, key: &[u8], instant: Option<u64>) -> bool
         requires within { at < length self.now }
         requires front { to_be_bytes w128 front ≡ padded 16 key.now }

@@ -55,6 +55,7 @@ impl EntryPlace {
     }
 
     /// The key that stands there.
+    #[inline(always)]
     pub(crate) fn key_in<'a>(&self, text: &'a [u8]) -> &'a [u8]
         requires { end_of self.now ≤ length text.now }
         ensures { result.now ≡ key_at text.now self.now }
@@ -63,6 +64,7 @@ impl EntryPlace {
     }
 
     /// The value that stands behind the key.
+    #[inline(always)]
     pub(crate) fn value_in<'a>(&self, text: &'a [u8]) -> Option<&'a [u8]>
         requires { end_of self.now ≤ length text.now }
         ensures { option_map (λ v. v.now) result ≡ value_at text.now self.now }
@@ -75,6 +77,7 @@ impl EntryPlace {
     }
 
     /// The key as a part of the text that keeps it: nothing is copied.
+    #[inline(always)]
     pub(crate) fn shared_key(&self, text: &Bytes) -> Result<UserKey, AllocError>
         requires { end_of self.now ≤ length text.now }
         ensures { IfOk result (λ k. k ≡ key_at text.now self.now) }
@@ -85,6 +88,7 @@ impl EntryPlace {
     }
 
     /// The same of the value that stands behind it.
+    #[inline(always)]
     pub(crate) fn shared_value(&self, text: &Bytes) -> Result<Option<UserValue>, AllocError>
         requires { end_of self.now ≤ length text.now }
         ensures { IfOk result (λ v. v ≡ value_at text.now self.now) }

@@ -212,6 +212,7 @@ impl TableReader {
     }
 
     /// Whether a block is among the recent ones.
+    #[inline(always)]
     fn is_recent(&self, at: usize) -> bool
         requires { at < length self.now.handles }
         ensures recent { IsTrue result → IsRecent at self.now }
@@ -221,6 +222,7 @@ impl TableReader {
     }
 
     /// A recent block.
+    #[inline(always)]
     fn recent_block(&self, at: usize) -> &Arc<Block, Global>
         requires { IsRecent at self.now }
         ensures { slice_get self.now.recent at ≡ Some (Some result.now.value) }

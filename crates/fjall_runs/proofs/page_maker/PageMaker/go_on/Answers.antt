@@ -1,9 +1,10 @@
-use Rattle.std.proofs.Common.{◌≡◌, None, ap, arith, get_or, length, map, rules, slice_set, subst, sym, take, ◌∙◌, ◌<◌, ◌≤◌, position}
-use Rattle.fjall_memtable.specs.Sorted.{flat, in_turn, sorted}
+use Rattle.std.proofs.Common.{◌≡◌, ℕ, List, [], Option, None, ap, arith, get_or, length, map, rules, slice_set, subst, sym, take, ◌∙◌, ◌<◌, ◌≤◌, position}
+use Rattle.fjall_table.specs.Blocks.{Entry}
+use Rattle.fjall_memtable.specs.Sorted.{IsFirst, flat, in_turn, sorted}
 use Rattle.fjall_runs.proofs.RunPaging.{fewer_left, got_run, set_run}
 use Rattle.fjall_runs.specs.Pages.{made, made_with}
 use Rattle.fjall_runs.specs.Runs.{ahead_of, all_behind, all_of, is_dry, left_in}
-use Rattle.fjall_runs.proofs.Paging.{IsNext, all_undry, full, going_more, joined_all, leading, next_of, none_dry, passed_on, same_ahead}
+use Rattle.fjall_runs.proofs.Paging.{IsNext, all_undry, flat_fewer, full, going_more, going_on, joined_all, leading, next_of, none_dry, passed_on, same_ahead}
 use Rattle.fjall_runs.proofs.page_maker.PageMaker.go_on.Goals as goal
 
 pub returns-in_default-first_two_of-clause-done : goal.returns-in_default-first_two_of-clause-done
@@ -48,11 +49,30 @@ ahead-preserved c =
       next_of c.args.back c.args.max c.versions.runs c.look_at.new.self (slice_set runs at new) c.next_two-next.result fewer n.room (n.next passed.undry passed.second),
     )
 
-pub versions-smaller : goal.versions-smaller
-versions-smaller c = subst (IsNext c.args.back c.args.max c.versions.runs c.ahead.self c.ahead.runs) c.in_default-next.is c.ahead.invariant.1
+pub versions-smaller-in-Continue-1 : goal.versions-smaller-in-Continue-1
+versions-smaller-in-Continue-1 c =
+    let runs = c.versions.runs in
+    let at = c.in-Some-first_two_of.two.0 in
+    let new = c.look_on.new.run in
+    subst (λ (rs : List (List Entry)). length (flat rs) < length (flat (map left_in runs))) (sym (set_run left_in runs at new))
+    (flat_fewer (map left_in runs) at (left_in (get_or runs at c.index-runs-two.result)) (left_in new) (got_run left_in runs at c.index-runs-two.result c.in-Some-first_two_of.ensures.within) c.in_ok-look_on.ensures.fewer)
 
-pub versions-preserved : goal.versions-preserved
-versions-preserved c = c.ahead.invariant.0
+pub versions-preserved-in-Continue-1 : goal.versions-preserved-in-Continue-1
+versions-preserved-in-Continue-1 c =
+    let runs = c.versions.runs in
+    let two = c.in-Some-first_two_of in
+    let len = c.len.ensures in
+    let test = c.versions-test.true in
+    let none : c.first_dry.result ≡ None = search rules in
+    let single : two.two.1 ≡ None = search rules in
+    let alone = subst (λ (other : Option ℕ). IsFirst c.args.back (slice_set (map left_in runs) two.two.0 []) other) single two.ensures.second in
+    let e = c.in_ok-look_on.ensures in
+    going_on c.args.back c.args.max c.args.self.now c.versions.self c.look_on.new.self c.args.runs.now runs two.two.0 c.index-runs-two.result c.look_on.new.run c.versions.invariant (omega (arith, len, test))
+    (all_undry runs (sym c.first_dry.ensures ∙ none)) alone two.ensures.within e.ahead e.back e.looked e.few
+
+pub returns-in_err-look_on-clause-ahead : goal.returns-in_err-look_on-clause-ahead
+returns-in_err-look_on-clause-ahead c =
+    same_ahead c.versions.runs c.in-Some-first_two_of.two.0 c.index-runs-two.result c.look_on.new.run c.in-Some-first_two_of.ensures.within c.in_err-look_on.ensures.ahead ∙ c.versions.invariant.ahead
 
 pub returns-in_err-look_at-clause-ahead : goal.returns-in_err-look_at-clause-ahead
 returns-in_err-look_at-clause-ahead c =
