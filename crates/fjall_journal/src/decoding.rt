@@ -15,6 +15,7 @@ use std::io::ErrorKind;
 // Bytes that end within a field.
 const SHORT: Error = Error::Io(ErrorKind::UnexpectedEof);
 
+#[inline(always)]
 fn compression_named(b: u8) -> Result<CompressionType>
     ensures { Gives (λ compression. compression) result (compression_of b) }
 {
@@ -25,6 +26,7 @@ fn compression_named(b: u8) -> Result<CompressionType>
 }
 
 #[tactic(auto, unfolding(crate::specs::Reading::start_at))]
+#[inline(always)]
 fn start_of(bytes: &[u8]) -> Result<(Entry, &[u8])>
     ensures { Gives (λ x. (x.0, x.1.now)) result (start_at bytes.now) }
 {
@@ -38,6 +40,7 @@ fn start_of(bytes: &[u8]) -> Result<(Entry, &[u8])>
 }
 
 /// That many bytes at the front, as a part of the text whose rest this is, and the bytes after them.
+#[inline(always)]
 fn part_of<'a>(text: &Bytes, bytes: &'a [u8], len: usize) -> Result<(Slice, &'a [u8])>
     requires { IsRestOf text.now bytes.now }
     ensures gives { Gives (λ x. (x.0, x.1.now)) result (bytes_at len bytes.now) }
@@ -52,6 +55,7 @@ fn part_of<'a>(text: &Bytes, bytes: &'a [u8], len: usize) -> Result<(Slice, &'a 
 }
 
 #[tactic(auto, unfolding(crate::specs::Reading::item_at))]
+#[inline(always)]
 fn item_of<'a>(text: &Bytes, bytes: &'a [u8]) -> Result<(Entry, &'a [u8])>
     requires { IsRestOf text.now bytes.now }
     ensures { Gives (λ x. (x.0, x.1.now)) result (item_at bytes.now) }
@@ -95,6 +99,7 @@ fn item_of<'a>(text: &Bytes, bytes: &'a [u8]) -> Result<(Entry, &'a [u8])>
 }
 
 #[tactic(auto, unfolding(crate::specs::Reading::end_at))]
+#[inline(always)]
 fn end_of(bytes: &[u8]) -> Result<(Entry, &[u8])>
     ensures { Gives (λ x. (x.0, x.1.now)) result (end_at bytes.now) }
 {
@@ -113,6 +118,7 @@ fn end_of(bytes: &[u8]) -> Result<(Entry, &[u8])>
 }
 
 #[tactic(auto, unfolding(crate::specs::Reading::clear_at))]
+#[inline(always)]
 fn clear_of(bytes: &[u8]) -> Result<(Entry, &[u8])>
     ensures { Gives (λ x. (x.0, x.1.now)) result (clear_at bytes.now) }
 {
@@ -123,6 +129,7 @@ fn clear_of(bytes: &[u8]) -> Result<(Entry, &[u8])>
 }
 
 #[tactic(auto, unfolding(crate::specs::Reading::entry_at))]
+#[inline(always)]
 pub(crate) fn entry_of<'a>(text: &Bytes, bytes: &'a [u8]) -> Result<(Entry, &'a [u8])>
     requires { IsRestOf text.now bytes.now }
     ensures { Gives (λ x. (x.0, x.1.now)) result (entry_at bytes.now) }

@@ -14,12 +14,14 @@ use bytes::Bytes;
 use fjall_base::{Error, JournalRecoveryError, Result, checksum};
 use std::alloc::{AllocError, Global};
 
+#[inline(always)]
 fn is_same(found: &[u8; 8], sum: &[u8; 8]) -> bool
     ensures { result ≡ bytes_eq found.now sum.now }
 {
     found == sum
 }
 
+#[inline(always)]
 fn entry_or_torn<'a>(text: &Bytes, bytes: &'a [u8]) -> std::result::Result<(Entry, &'a [u8]), Stop>
     requires { IsRestOf text.now bytes.now }
     ensures gives { ReadsStep (λ x. (x.0, x.1.now)) result (or_torn (entry_at bytes.now)) }
@@ -34,6 +36,7 @@ fn entry_or_torn<'a>(text: &Bytes, bytes: &'a [u8]) -> std::result::Result<(Entr
 }
 
 #[tactic(auto, unfolding(crate::specs::Steps::opening_at))]
+#[inline(always)]
 fn opening_of<'a>(
     text: &Bytes,
     bytes: &'a [u8],
@@ -53,6 +56,7 @@ fn opening_of<'a>(
 }
 
 #[tactic(auto, unfolding(crate::specs::Steps::change_at))]
+#[inline(always)]
 fn change_of<'a>(text: &Bytes, bytes: &'a [u8]) -> std::result::Result<(Entry, &'a [u8]), Stop>
     requires { IsRestOf text.now bytes.now }
     ensures gives { ReadsStep (λ x. (x.0, x.1.now)) result (change_at bytes.now) }
@@ -69,6 +73,7 @@ fn change_of<'a>(text: &Bytes, bytes: &'a [u8]) -> std::result::Result<(Entry, &
 
 /// The check in the End at the front, and the bytes after it.
 #[tactic(auto, unfolding(crate::specs::Steps::ending_at))]
+#[inline(always)]
 fn ending_of<'a>(text: &Bytes, bytes: &'a [u8]) -> std::result::Result<([u8; 8], &'a [u8]), Stop>
     requires { IsRestOf text.now bytes.now }
     ensures gives { ReadsStep (λ x. (x.0, x.1.now)) result (ending_at bytes.now) }
@@ -85,6 +90,7 @@ fn ending_of<'a>(text: &Bytes, bytes: &'a [u8]) -> std::result::Result<([u8; 8],
 }
 
 #[tactic(auto, unfolding(crate::specs::Steps::closing_at))]
+#[inline(always)]
 fn closing_of<'a>(
     text: &Bytes,
     sum: &[u8; 8],
@@ -103,6 +109,7 @@ fn closing_of<'a>(
 }
 
 /// Puts an item or a clear to its kind.
+#[inline(always)]
 fn put_change(
     items: &mut Vec<ReadBatchItem>,
     clears: &mut Vec<u64>,
@@ -131,6 +138,7 @@ fn put_change(
 }
 
 /// That many changes, apart by their kind, and the bytes after them.
+#[inline(always)]
 fn changes_of<'a>(
     alloc: Global,
     text: &Bytes,
@@ -155,6 +163,7 @@ fn changes_of<'a>(
 
 /// A batch up to its End, and the bytes from there.
 #[tactic(auto, unfolding(crate::specs::Steps::unclosed_at))]
+#[inline(always)]
 fn unclosed_of<'a>(
     alloc: Global,
     text: &Bytes,
@@ -176,6 +185,7 @@ fn unclosed_of<'a>(
 }
 
 #[tactic(auto, unfolding(crate::specs::Steps::batch_at))]
+#[inline(always)]
 fn parse_batch<'a>(
     alloc: Global,
     text: &Bytes,
