@@ -36,9 +36,9 @@ fn make_page(alloc: Global, numbers: &[u64]) -> Result<Vec<KvPair>> {
     let text = Bytes::copy_from_slice(alloc, &record_of(0))?;
     let mut pairs = Vec::new(alloc);
     for _ in numbers {
-        let key = text.slice(0..KEY_LEN)?;
-        let value = text.slice(KEY_LEN..KEY_LEN + VALUE_LEN)?;
-        pairs.push((Slice::from(key), Slice::from(value)))?;
+        let key = Slice::part_of(&text, 0..KEY_LEN)?;
+        let value = Slice::part_of(&text, KEY_LEN..KEY_LEN + VALUE_LEN)?;
+        pairs.push((key, value))?;
     }
     Ok(pairs)
 }

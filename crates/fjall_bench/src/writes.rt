@@ -3,16 +3,10 @@
 use crate::data::{key_of, value_of};
 use crate::database::flush;
 use crate::rows::{Action, PAIRS_TOGETHER};
-use fjall_base::{Disk, KvPair, Result, Slice};
-use fjall_core::{BatchItem, Engine, Op, PersistMode};
+use fjall_base::{Disk, Result};
+use fjall_core::{BatchItem, Engine, PersistMode};
+use fjall_writes::OwnedWriteBatch;
 use std::alloc::Global;
-
-// The pair of a number.
-fn pair_of(alloc: Global, number: u64) -> Result<KvPair> {
-    let key = Slice::new(alloc, &key_of(number))?;
-    let value = Slice::new(alloc, &value_of(number))?;
-    Ok((key, value))
-}
 
 // Flushes a keyspace whose memtable is full.
 fn flush_full<D: Disk>(alloc: Global, core: &mut Engine<D>, id: u64) -> Result<()> {
@@ -52,12 +46,11 @@ pub fn write_each<D: Disk>(
 
 // A batch of numbers' pairs.
 fn batch(alloc: Global, id: u64, numbers: &[u64]) -> Result<Vec<BatchItem>> {
-    let mut items = Vec::with_capacity(alloc, numbers.len())?;
+    let mut writes = OwnedWriteBatch::with_capacity(alloc, (), numbers.len())?;
     for number in numbers {
-        let (key, value) = pair_of(alloc, *number)?;
-        items.push((id, key, Op::Put(value)))?;
+        writes.insert_copied(&id, &key_of(*number), &value_of(*number))?;
     }
-    Ok(items)
+    Ok(writes.into_items())
 }
 
 /// Writes the numbers' pairs in batches, each handed to the system, into a keyspace that is flushed whenever its memtable is full.

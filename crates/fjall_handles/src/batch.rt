@@ -45,10 +45,7 @@ impl<D: Disk + Drop> OwnedWriteBatch<D> {
     /// Refusals, after which the batch is as before: `KeyEmpty`, `KeyTooLong` above 65,535 bytes, `ValueTooLong` above 4,294,967,295,
     /// `TooManyItems` where it has 4,294,967,295 items, `OutOfMemory`.
     pub fn insert<I: Identified>(&mut self, keyspace: &I, key: &[u8], value: &[u8]) -> Result<()> {
-        check_item(key, value)?;
-        let alloc = self.inner.alloc;
-        let (key, value) = (Slice::new(alloc, key)?, Slice::new(alloc, value)?);
-        self.writes.insert(keyspace, key, value)
+        self.writes.insert_copied(keyspace, key, value)
     }
 
     /// Takes a key of a keyspace and its value away. It is refused as [`insert`](OwnedWriteBatch::insert) is.

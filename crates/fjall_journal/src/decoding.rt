@@ -1,5 +1,5 @@
-//! An entry at the front of some bytes. The key and the value of an item are parts of the text that the bytes stand in: none of
-//! their bytes is copied.
+//! An entry at the front of some bytes. The key and the value of an item are parts of the text that the bytes stand in
+//! (`Slice::part_of`).
 
 ghost use Rattle.std.specs.Prelude.{drop, ℕ, IfOk, Ok};
 ghost use Rattle.fjall_journal.specs.declared.entry.Entry.{Entry};
@@ -50,8 +50,8 @@ fn part_of<'a>(text: &Bytes, bytes: &'a [u8], len: usize) -> Result<(Slice, &'a 
         return Err(SHORT);
     }
     let at = text.len() - bytes.len();
-    let part = text.slice(at..at + len)?;
-    Ok((Slice::from(part), &bytes[len..]))
+    let part = Slice::part_of(text, at..at + len)?;
+    Ok((part, &bytes[len..]))
 }
 
 #[tactic(auto, unfolding(crate::specs::Reading::item_at))]

@@ -1,5 +1,5 @@
 -- Pages that are being made.
-use Rattle.std.specs.Prelude.{◌≡◌, ℕ, ◌-◌, List, ◌++◌, Option, Some, None, length, slice_get}
+use Rattle.std.specs.Prelude.{◌≡◌, ◌-◌, List, ◌++◌, Option, Some, None, length, slice_get}
 use Rattle.std.specs.Option.{option_map}
 use Rattle.fjall_base.specs.Pairs.{Bytes}
 use Rattle.fjall_table.specs.Blocks.{Entry}

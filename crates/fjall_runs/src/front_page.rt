@@ -14,7 +14,7 @@ use fjall_table::TableEntry;
 use std::alloc::{AllocError, Global};
 
 // Room for so many pairs is made with the first one.
-const FIRST_PAIRS: usize = 16;
+pub(crate) const FIRST_PAIRS: usize = 64;
 
 /// A page that is made of versions in order, from the start, by one look at each.
 #[derive(Drop)]

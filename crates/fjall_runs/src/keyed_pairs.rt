@@ -4,13 +4,11 @@ ghost use Rattle.std.specs.Prelude.{◌≡◌, [], None, Some, length, reverse, 
 ghost use Rattle.std.specs.Option.{option_map};
 ghost use Rattle.fjall_runs.specs.Keyed.{key_of, settled};
 
+use crate::front_page::FIRST_PAIRS;
 use fjall_base::{KvPair, UserKey, UserValue};
 use std::alloc::{AllocError, Global};
 use std::marker::Model;
 use std::mem;
-
-// Room for so many pairs is made with the first one.
-const FIRST_PAIRS: usize = 16;
 
 /// Pairs, and behind them the key that was set last, with its value if it has one. Contracts see the pairs and that key.
 #[derive(Drop)]

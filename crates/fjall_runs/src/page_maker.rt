@@ -73,7 +73,8 @@ impl PageMaker {
         Ok(())
     }
 
-    // Looks at the first versions of a run, one at least, of which there are no more than what the page has room for.
+    // Looks at versions of a run: of a table's run one after another, until the page is full or none is in memory, and of a memtable's
+    // run at one.
     fn look_on(&mut self, run: &mut PageRun<'_>, max: usize) -> Result<(), AllocError>
         requires some { left_in run.old ≡ [] → ⊥ }
         requires room { length (made self.old) < max }

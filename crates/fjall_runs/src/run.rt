@@ -33,7 +33,7 @@ pub trait Run {
 
 /// Runs of which pages are made.
 pub trait PageVersions: Run {
-    /// The version that comes first, owned: as parts of its block's text, where it stands in one, and else as copies.
+    /// The version that comes first, owned: as parts of its block's text (`Slice::part_of`), where it stands in one, and else as copies.
     fn first_owned(&self, alloc: Global) -> Result<Option<OwnedVersion>, AllocError>
         ensures { IfOk result (λ version. version ≡ option_map keyed_in (slice_get (Self.left self.now) 0)) };
 }

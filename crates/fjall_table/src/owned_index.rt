@@ -45,9 +45,9 @@ fn take_key(rest: &mut Bytes, len: usize) -> Result<Slice>
     ensures rest { OnOk result (rest.new ≡ drop len rest.old) }
     ensures only { IsOkUnless result Error.OutOfMemory }
 {
-    let key = rest.slice(0..len)?;
+    let key = Slice::part_of(rest, 0..len)?;
     rest.advance(len);
-    Ok(Slice::from(key))
+    Ok(key)
 }
 
 // The same handles, whose keys are parts of one text.

@@ -118,9 +118,8 @@ impl Block {
         }
     }
 
-    /// An entry without its key. Its value is a part of the block's text, and keeps it. It is refused for want of memory
-    /// alone.
-    #[inline(always)]
+    /// An entry without its key. Its value is a part of the block's text, as [`Slice::part_of`](fjall_base::Slice::part_of) answers
+    /// one. It is refused for want of memory alone.
     pub fn found(&self, at: usize) -> Result<Found>
         requires { at < length self.now }
         ensures found { IfOk result (λ f. IfSome (slice_get self.now at) (λ e. entry_found e.key f ≡ e)) }
@@ -134,7 +133,7 @@ impl Block {
         })
     }
 
-    /// The key of an entry and its value, where it has one. Both are parts of the block's text, and keep it.
+    /// The key of an entry and its value, where it has one: parts of the block's text in the same way.
     #[inline(always)]
     pub fn pair(&self, at: usize) -> result::Result<(UserKey, Option<UserValue>), AllocError>
         requires { at < length self.now }
@@ -148,7 +147,6 @@ impl Block {
 
     /// Where the newest version of a key stands that is numbered below an instant, by binary search; None where no version
     /// is.
-    #[inline(always)]
     pub fn newest(&self, key: &[u8], instant: u64) -> Option<usize>
         ensures version { slice_get (versions_at key.now instant self.now) 0 ≡ option_and_then (slice_get self.now) result }
         ensures within { IfSome result (λ at. at < length self.now) }
@@ -165,7 +163,6 @@ impl Block {
     }
 
     /// That version, as `found` gives it.
-    #[inline(always)]
     pub(crate) fn find(&self, key: &[u8], instant: u64) -> Result<Option<Found>>
         ensures found { IfOk result (λ f. IsFound key.now f (slice_get (versions_at key.now instant self.now) 0)) }
         ensures only { IsOkUnless result Error.OutOfMemory }

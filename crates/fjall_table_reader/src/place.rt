@@ -76,15 +76,14 @@ impl EntryPlace {
         Some(&text[start..start + self.value_len as usize])
     }
 
-    /// The key as a part of the text that keeps it: nothing is copied.
+    /// The key as a part of the text (`Slice::part_of`).
     #[inline(always)]
     pub(crate) fn shared_key(&self, text: &Bytes) -> Result<UserKey, AllocError>
         requires { end_of self.now ≤ length text.now }
         ensures { IfOk result (λ k. k ≡ key_at text.now self.now) }
     {
         let key = self.key_in(text.as_slice());
-        let key = text.slice(self.at..self.at + key.len())?;
-        Ok(Slice::from(key))
+        Slice::part_of(text, self.at..self.at + key.len())
     }
 
     /// The same of the value that stands behind it.
@@ -97,8 +96,7 @@ impl EntryPlace {
             return Ok(None);
         };
         let start = self.at + self.key_len as usize;
-        let value = text.slice(start..start + value.len())?;
-        Ok(Some(Slice::from(value)))
+        Ok(Some(Slice::part_of(text, start..start + value.len())?))
     }
 }
 

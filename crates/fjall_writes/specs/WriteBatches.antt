@@ -1,6 +1,7 @@
 -- Batches of writes that no engine has taken yet.
 use Rattle.std.specs.Prelude.{◌-◌, ◌^◌, Bool, List, [], ◌∷◌, ◌++◌, Option, Some, None, if◌then◌else◌, length, nat_le}
 use Rattle.std.specs.Option.{option_or}
+use Rattle.fjall_base.specs.Pairs.{Bytes}
 use Rattle.fjall_base.specs.Limits.{item_refusal}
 use Rattle.fjall_base.specs.declared.error.Error.{Error}
 use Rattle.fjall_base.specs.declared.error.Error.TheVariants.{TooManyItems}
@@ -21,6 +22,10 @@ with_item item batch = record batch { items = batch.items ++ item ∷ [] }
 abbrev pub is_full : List BatchItem → Bool
 is_full items = nat_le (2 ^ 32 - 1) (length items)
 
--- Why a write is not taken behind these items: its key or its value is one that no item can have, before there are too many.
+-- Why a key and a value are not taken behind these items: they are such that no item can have them, before there are too many.
+abbrev pub refusal_of : Bytes → Bytes → List BatchItem → Option Error
+refusal_of key value items = option_or (item_refusal key value) (if is_full items then Some TooManyItems else None)
+
+-- the same of a write
 abbrev pub write_refusal : BatchItem → List BatchItem → Option Error
-write_refusal item items = option_or (item_refusal item.1 (bytes_in item.2)) (if is_full items then Some TooManyItems else None)
+write_refusal item items = refusal_of item.1 (bytes_in item.2) items

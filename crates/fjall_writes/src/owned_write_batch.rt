@@ -1,19 +1,29 @@
 //! Batches of writes: each item of one can stand in the journal.
 
-ghost use Rattle.std.specs.Prelude.{◌≡◌, ◌==◌, [], None, length, MatchOption, IfOk, IsOkUnless, OnOk, OnErr};
+ghost use Rattle.std.specs.Prelude.{◌≡◌, ◌==◌, [], None, Ok, length, MatchOption, IfOk, IsOkUnless, OnOk, OnErr};
 ghost use Rattle.fjall_base.specs.declared.error.Error.TheVariants.{OutOfMemory};
 ghost use Rattle.fjall_journal.specs.declared.op.Op.TheVariants.{Put, Remove, RemoveWeak};
 ghost use Rattle.fjall_journal.specs.Ops.{items_refusal};
-ghost use Rattle.fjall_writes.specs.WriteBatches.{with_item, write_refusal};
+ghost use Rattle.fjall_writes.specs.WriteBatches.{refusal_of, with_item, write_refusal};
 
-use fjall_base::{Error, Result, UserKey, UserValue, check_item};
+use bytes::BytesMut;
+use fjall_base::{Error, Result, Slice, UserKey, UserValue, check_item};
 use fjall_journal::{BatchItem, Op, PersistMode};
 use fjall_reading::Identified;
-use std::alloc::Global;
+use std::alloc::{AllocError, Global};
 use std::marker::Model;
+use std::result;
 
 /// The most items that a batch has.
 const MOST_ITEMS: usize = 4_294_967_295;
+
+/// How much memory is asked for at a time, of which values are cut.
+const ROOM_LEN: usize = 4_096;
+
+/// Values of fewer bytes aren't cut of it, since they stand in their slices, and those of more have memory of their own.
+const LEAST_CUT: usize = 25;
+
+const MOST_CUT: usize = 512;
 
 /// A batch of writes to any keyspaces, which an engine takes all at once. It belongs to a database of which it has a handle, or
 /// stands beside an engine, and then has `()`.
@@ -22,6 +32,23 @@ pub struct OwnedWriteBatch<H> {
     handle: H,
     items: Vec<BatchItem>,
     mode: Option<PersistMode>,
+    /// Memory of which the next values are cut.
+    room: BytesMut,
+}
+
+/// A slice with a copy of these bytes, cut of the room where they are as many as that.
+fn copy_of(room: &mut BytesMut, bytes: &[u8]) -> result::Result<Slice, AllocError>
+    ensures { IfOk result (λ s. s ≡ bytes.now) }
+{
+    if bytes.len() < LEAST_CUT || bytes.len() > MOST_CUT {
+        return Slice::new(*room.allocator(), bytes);
+    }
+    room.clear();
+    if room.capacity() < bytes.len() {
+        room.reserve(ROOM_LEN)?;
+    }
+    room.extend_from_slice(bytes)?;
+    Ok(Slice::from(room.freeze_to(bytes.len())?))
 }
 
 impl<H> Model for OwnedWriteBatch<H> {
@@ -46,23 +73,50 @@ impl<H: Drop> OwnedWriteBatch<H> {
             handle,
             items: Vec::with_capacity(alloc, capacity)?,
             mode: None,
+            room: BytesMut::new(alloc),
         })
     }
 }
 
 impl<H> OwnedWriteBatch<H> {
+    // Refuses one item more with this key and these bytes of a value.
+    fn refuse(&self, key: &[u8], value: &[u8]) -> Result<()>
+        ensures { MatchOption (refusal_of key.now value.now self.now.items) (result ≡ Ok tt) (λ e. result ≡ Err e) }
+    {
+        check_item(key, value)?;
+        if self.items.len() >= MOST_ITEMS {
+            return Err(Error::TooManyItems);
+        }
+        Ok(())
+    }
+
     // One item more.
     fn push(&mut self, item: BatchItem) -> Result<()>
         ensures ok { OnOk result (self.new ≡ with_item item self.old) }
         ensures unchanged { OnErr result (self.new ≡ self.old) }
         ensures refused { MatchOption (write_refusal item self.old.items) (IsOkUnless result OutOfMemory) (λ e. result ≡ Err e) }
     {
-        check_item(item.1.as_slice(), item.2.bytes())?;
-        if self.items.len() >= MOST_ITEMS {
-            return Err(Error::TooManyItems);
-        }
+        self.refuse(item.1.as_slice(), item.2.bytes())?;
         self.items.push(item)?;
         Ok(())
+    }
+
+    /// Gives the key of a keyspace this value, and copies both. A short value is cut of memory that others of the batch are cut of
+    /// too, so that it needs no request for memory of its own. It is refused as [`insert`](Self::insert) is.
+    pub fn insert_copied<K: Identified>(
+        &mut self,
+        keyspace: &K,
+        key: &[u8],
+        value: &[u8],
+    ) -> Result<()>
+        ensures ok { OnOk result (self.new ≡ with_item (K.identity keyspace.now, key.now, Put value.now) self.old) }
+        ensures unchanged { OnErr result (self.new ≡ self.old) }
+        ensures refused { MatchOption (write_refusal (K.identity keyspace.now, key.now, Put value.now) self.old.items) (IsOkUnless result OutOfMemory) (λ e. result ≡ Err e) }
+    {
+        self.refuse(key, value)?;
+        let key = Slice::new(*self.room.allocator(), key)?;
+        let value = copy_of(&mut self.room, value)?;
+        self.push((keyspace.id(), key, Op::Put(value)))
     }
 
     /// Gives the key of a keyspace this value.

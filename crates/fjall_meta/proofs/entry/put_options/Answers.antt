@@ -11,10 +11,8 @@ pair_of-pair-requires c = rw (c.deref.ensures.value, c.in_ok-pairs.ensures.ok) (
 pub loop-option-preserved : goal.loop-option-preserved
 loop-option-preserved c =
     let k = c.args.keyspace.now in
-    let h = c.in_ok-clone.ensures.cases in
-    let i = c.in_ok-clone-2.ensures.cases in
-    let key : c.in_ok-clone.field-0 ≡ c.pair_of-pair.result.now.0 = sym h.3 ∙ h.4 ∙ h.2 in
-    let value : c.in_ok-clone-2.field-0 ≡ c.pair_of-pair.result.now.1 = sym i.3 ∙ i.4 ∙ i.2 in
+    let key : c.in_ok-clone.field-0 ≡ c.pair_of-pair.result.now.0 = c.in_ok-clone.ensures.cases in
+    let value : c.in_ok-clone-2.field-0 ≡ c.pair_of-pair.result.now.1 = c.in_ok-clone-2.ensures.cases in
     let found : c.pair_of-pair.result.now ≡ config_pair k.id k.options (item c.loop-option.option-index) = c.pair_of-pair.ensures ∙ rw (c.deref.ensures.value, c.in_ok-pairs.ensures.ok) (pair_at k.id k.options (item c.loop-option.option-index) c.pair_of-pair.result.now) in
     let next = one_more (option_entry k) options_by_name c.loop-option.option-index c.loop-option-test.true in
     rw (c.in_ok-push.ensures.items, next, c.loop-option.invariant, key, value, found) (append_assoc c.args.entries.now.items (map (option_entry k) (take c.loop-option.option-index options_by_name)) (option_entry k (item c.loop-option.option-index) ∷ []))

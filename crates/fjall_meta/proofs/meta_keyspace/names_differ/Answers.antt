@@ -12,8 +12,7 @@ loop-keyspace-preserved c =
     let living = c.args.living.now in
     let i = c.loop-keyspace.keyspace-index in
     let k = c.keyspace-item.result in
-    let h = c.in_ok-clone.ensures.cases in
-    let same : c.in_ok-clone.field-0 ≡ k.name = sym h.3 ∙ h.4 ∙ h.2 in
+    let same : c.in_ok-clone.field-0 ≡ k.name = c.in_ok-clone.ensures.cases in
     let listed : List (List ℕ) = map (λ (j : LivingKeyspace). j.name) (take i living) in
     let more : map (λ (j : LivingKeyspace). j.name) (take (i + 1) living) ≡ listed ++ c.in_ok-clone.field-0 ∷ [] =
     map_more (λ (j : LivingKeyspace). j.name) living i k c.loop-keyspace-test.true ∙ ap (λ (j : LivingKeyspace). listed ++ j.name ∷ []) (sym c.keyspace-item.is) ∙ ap (λ (n : List ℕ). listed ++ n ∷ []) (sym same) in

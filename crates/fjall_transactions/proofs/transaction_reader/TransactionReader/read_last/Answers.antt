@@ -4,6 +4,7 @@ use Rattle.fjall_tx.specs.Owns.{Own}
 use Rattle.fjall_reading.specs.Readers.{all_of, last_of}
 use Rattle.fjall_transactions.specs.Transactions.{Tx}
 use Rattle.fjall_transactions.specs.Laid.{laid}
+use Rattle.fjall_transactions.specs.ReadsGoing.{due_cause}
 use Rattle.fjall_transactions.specs.Seeing.{whole_of}
 use Rattle.fjall_transactions.proofs.Laying.{read_marked, sees_on}
 use Rattle.fjall_transactions.proofs.transaction_reader.TransactionReader.read_last.Goals as goal
@@ -37,3 +38,8 @@ returns-clause-reads g c =
     let self = c.args.self.now in
     let grown = read_marked self.transaction.now c.mark_range.new.self (whole_of c.args.id) c.in_ok-mark_range.ensures.ok in
     record { reads = search rules; grown = grown; lent = search rules }
+
+pub returns-in_err-mark_range-clause-cause : goal.returns-in_err-mark_range-clause-cause
+returns-in_err-mark_range-clause-cause g c =
+    let self = c.args.self.now in
+    due_cause self.reader.core.now c.laid_last.new.reader.core.now self.reader.view c.args.id c.from_residual-in_err-mark_range.result c.in_ok-found.ensures.due (search rules)
