@@ -7,8 +7,8 @@ use fjall_core::{Engine, View};
 use std::alloc::Global;
 use std::ops::Bound;
 
-/// So many pairs stand on a page that an iterator of a keyspace fetches.
-pub const PAGE_PAIRS: usize = 128;
+/// So many pairs stand on a page that an iterator of a keyspace fetches, behind its first ones.
+pub const PAGE_PAIRS: usize = 512;
 
 /// Looks each number's key up, and says how many pairs were found.
 pub fn count_hits<D: Disk>(core: &mut Engine<D>, id: u64, numbers: &[u64]) -> Result<u64> {

@@ -9,7 +9,7 @@ use fjall_shared::View;
 use std::alloc::Global;
 use std::sync::Wait;
 
-/// A database, read at its present or in a snapshot: each read takes the lock, and one of many pairs takes it for each page of 128.
+/// A database, read at its present or in a snapshot: each read takes the lock, and one of many pairs takes it for each page, of 32 pairs at first and then of up to 512.
 ///
 /// Refusals of each read: `SnapshotClosed`, `UnknownKeyspace`, `KeyspaceDeleted`, `OutOfMemory`, `Io` where the disk fails, which poisons
 /// nothing, `Storage(TableDamaged)` where it comes to a block of a table that is wrong; `Poisoned` once the database is closed.

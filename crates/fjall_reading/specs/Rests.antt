@@ -1,5 +1,5 @@
 -- What an iterator has left, and what taking from its ends does.
-use Rattle.std.specs.Prelude.{◌≡◌, ◌-◌, List, [], ◌∷◌, ◌++◌, drop, length, take, Option, Some, None, Result, Ok, Err}
+use Rattle.std.specs.Prelude.{◌≡◌, ◌-◌, ℕ, List, [], ◌∷◌, ◌++◌, drop, length, take, Option, Some, None, Result, Ok, Err}
 use Rattle.std.specs.declared.ops.Bound.TheVariants.{Excluded}
 use Rattle.fjall_base.specs.Pairs.{Bytes, KeyRange, Pairs, pairs_between}
 use Rattle.fjall_base.specs.declared.error.Error.{Error}
@@ -9,17 +9,17 @@ abbrev pub middle : Option KeyRange → Pairs → List (Bytes × Bytes)
 middle None pairs = []
 middle (Some range) pairs = pairs_between range pairs
 
--- what is left of a range behind a page of it, where the page was its first 128 pairs
-abbrev pub IsLeftBehind : List (Bytes × Bytes) → KeyRange → Option KeyRange → Type 0
-IsLeftBehind page range rest = (pairs : Pairs) → page ≡ take 128 (pairs_between range pairs) → page ++ middle rest pairs ≡ pairs_between range pairs
+-- what is left of a range behind a page of it, where the page was its first pairs, so many at most
+abbrev pub IsLeftBehind : ℕ → List (Bytes × Bytes) → KeyRange → Option KeyRange → Type 0
+IsLeftBehind len page range rest = (pairs : Pairs) → page ≡ take len (pairs_between range pairs) → page ++ middle rest pairs ≡ pairs_between range pairs
 
--- the last 128 of some pairs, or all of them
-abbrev pub last_page : List (Bytes × Bytes) → List (Bytes × Bytes)
-last_page pairs = drop (length pairs - 128) pairs
+-- the last so many of some pairs, or all of them
+abbrev pub last_page : ℕ → List (Bytes × Bytes) → List (Bytes × Bytes)
+last_page len pairs = drop (length pairs - len) pairs
 
--- and ahead of a page, where it was its last 128
-abbrev pub IsLeftAhead : List (Bytes × Bytes) → KeyRange → Option KeyRange → Type 0
-IsLeftAhead page range rest = (pairs : Pairs) → page ≡ last_page (pairs_between range pairs) → middle rest pairs ++ page ≡ pairs_between range pairs
+-- and ahead of a page, where it was its last ones
+abbrev pub IsLeftAhead : ℕ → List (Bytes × Bytes) → KeyRange → Option KeyRange → Type 0
+IsLeftAhead len page range rest = (pairs : Pairs) → page ≡ last_page len (pairs_between range pairs) → middle rest pairs ++ page ≡ pairs_between range pairs
 
 -- The answer of `next`: the first of what is left, or none where nothing is. A fault leaves nothing.
 abbrev pub TakesFirst : List (Bytes × Bytes) → Option (Result (Bytes × Bytes) Error) → List (Bytes × Bytes) → Type 0

@@ -1,13 +1,13 @@
 //! Pairs from both ends of a range, page by page.
 
-ghost use Rattle.std.specs.Prelude.{◌≡◌, ◌++◌, [], ◌∷◌, ℕ, IfOk, IsOkUnless, OnOk, None, MatchOption, IfNone, IfSome, true, false};
+ghost use Rattle.std.specs.Prelude.{◌≡◌, ◌<◌, ◌++◌, [], ◌∷◌, ℕ, IfOk, IsOkUnless, OnOk, None, MatchOption, IfNone, IfSome, true, false};
 ghost use Rattle.std.specs.Result.{result_err};
 ghost use Rattle.fjall_base.specs.Pairs.{Bytes, Pairs, page, pairs_between};
 ghost use Rattle.fjall_base.specs.declared.error.Error.TheVariants.{OutOfMemory};
 ghost use Rattle.fjall_reading.specs.Rests.{IsLeftAhead, IsLeftBehind, TakesFirst, TakesLast, error_in};
 ghost use Rattle.fjall_reading.specs.Cursors.{IsOver, left};
 
-use crate::pages::{KeyRange, PAGE, Pages};
+use crate::pages::{FIRST_PAGE, KeyRange, LARGEST_PAGE, Pages};
 use fjall_base::{KvPair, Result};
 use std::alloc::Global;
 use std::mem;
@@ -20,6 +20,8 @@ pub struct Cursor {
     middle: Option<KeyRange>,
     front: Vec<KvPair>,
     back: Vec<KvPair>,
+    /// How many pairs the last page was to have.
+    page_len: usize,
 }
 
 impl Drop for Cursor {
@@ -29,6 +31,7 @@ impl Drop for Cursor {
             middle: _middle,
             front: _front,
             back: _back,
+            page_len: _,
         } = self;
     }
 }
@@ -44,6 +47,7 @@ impl Cursor {
             middle: Some(range),
             front: Vec::new(alloc),
             back: Vec::new(alloc),
+            page_len: 0,
         }
     }
 
@@ -57,6 +61,7 @@ impl Cursor {
             middle: None,
             front: Vec::new(alloc),
             back: Vec::new(alloc),
+            page_len: 0,
         }
     }
 
@@ -91,8 +96,9 @@ impl Cursor {
         let Some(range) = self.middle.take() else {
             return Ok(());
         };
-        let mut found = pages.page(self.id, &range, false, PAGE)?;
-        self.middle = behind_page(&found, range)?;
+        self.page_len = len_after(self.page_len);
+        let mut found = pages.page(self.id, &range, false, self.page_len)?;
+        self.middle = behind_page(&found, range, self.page_len)?;
         found.reverse();
         self.front = found;
         Ok(())
@@ -165,8 +171,9 @@ impl Cursor {
         let Some(range) = self.middle.take() else {
             return Ok(());
         };
-        let found = pages.page(self.id, &range, true, PAGE)?;
-        self.middle = ahead_of_page(&found, range)?;
+        self.page_len = len_after(self.page_len);
+        let found = pages.page(self.id, &range, true, self.page_len)?;
+        self.middle = ahead_of_page(&found, range, self.page_len)?;
         self.back = found;
         Ok(())
     }
@@ -225,13 +232,21 @@ impl Cursor {
     }
 }
 
-// What is left of a range ahead of its last page.
-fn ahead_of_page(found: &[KvPair], range: KeyRange) -> Result<Option<KeyRange>>
-    ensures left { IfOk result (λ rest. IsLeftAhead found.now range rest) }
+// How many pairs a page has behind one of so many, or where that is 0 the first one.
+fn len_after(len: usize) -> usize
+    ensures { 0 < result }
+{
+    len.saturating_mul(2).max(FIRST_PAGE).min(LARGEST_PAGE)
+}
+
+// What is left of a range ahead of its last page, which was to have so many pairs.
+fn ahead_of_page(found: &[KvPair], range: KeyRange, len: usize) -> Result<Option<KeyRange>>
+    requires { 0 < len }
+    ensures left { IfOk result (λ rest. IsLeftAhead len found.now range rest) }
     ensures none { IfOk result (λ rest. found.now ≡ [] → rest ≡ None) }
     ensures only { IsOkUnless result OutOfMemory }
 {
-    if found.len() != PAGE {
+    if found.len() != len {
         return Ok(None);
     }
     match found.first() {
@@ -240,13 +255,14 @@ fn ahead_of_page(found: &[KvPair], range: KeyRange) -> Result<Option<KeyRange>>
     }
 }
 
-// What is left of a range behind its first page.
-pub(crate) fn behind_page(found: &[KvPair], range: KeyRange) -> Result<Option<KeyRange>>
-    ensures left { IfOk result (λ rest. IsLeftBehind found.now range rest) }
+// What is left of a range behind its first page, which was to have so many pairs.
+pub(crate) fn behind_page(found: &[KvPair], range: KeyRange, len: usize) -> Result<Option<KeyRange>>
+    requires { 0 < len }
+    ensures left { IfOk result (λ rest. IsLeftBehind len found.now range rest) }
     ensures none { IfOk result (λ rest. found.now ≡ [] → rest ≡ None) }
     ensures only { IsOkUnless result OutOfMemory }
 {
-    if found.len() != PAGE {
+    if found.len() != len {
         return Ok(None);
     }
     match found.last() {

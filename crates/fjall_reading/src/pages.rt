@@ -13,8 +13,11 @@ use std::ops::Bound;
 /// Where a range of keys begins and where it ends. Between reversed bounds lies no key.
 pub type KeyRange = (Bound<UserKey>, Bound<UserKey>);
 
-/// How many pairs a page has that is fetched ahead.
-pub(crate) const PAGE: usize = 128;
+/// How many pairs the first page has that is fetched ahead. Each has twice as many as the one before.
+pub(crate) const FIRST_PAGE: usize = 32;
+
+/// And how many one has at most.
+pub(crate) const LARGEST_PAGE: usize = 512;
 
 /// What shows a map of each keyspace, and gives the pairs of it page by page.
 pub trait Pages {

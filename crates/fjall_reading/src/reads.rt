@@ -8,7 +8,7 @@ ghost use Rattle.fjall_reading.specs.Readers.{FindsOf, all_of, count_of, first_o
 
 use crate::cursor::behind_page;
 use crate::guard::Guard;
-use crate::pages::{PAGE, Pages};
+use crate::pages::{LARGEST_PAGE, Pages};
 use fjall_base::Result;
 use std::ops::Bound;
 
@@ -59,9 +59,9 @@ pub fn pair_count<P: Pages>(pages: &mut P, id: u64) -> Result<usize>
         if count == usize::MAX {
             return Ok(count);
         }
-        let found = pages.page(id, &range, false, PAGE)?;
+        let found = pages.page(id, &range, false, LARGEST_PAGE)?;
         count = count.saturating_add(found.len());
-        rest = behind_page(&found, range)?;
+        rest = behind_page(&found, range, LARGEST_PAGE)?;
     }
     Ok(count)
 }
