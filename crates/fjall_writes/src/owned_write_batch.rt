@@ -116,7 +116,8 @@ impl<H> OwnedWriteBatch<H> {
         self.refuse(key, value)?;
         let key = Slice::new(*self.room.allocator(), key)?;
         let value = copy_of(&mut self.room, value)?;
-        self.push((keyspace.id(), key, Op::Put(value)))
+        self.items.push((keyspace.id(), key, Op::Put(value)))?;
+        Ok(())
     }
 
     /// Gives the key of a keyspace this value.
