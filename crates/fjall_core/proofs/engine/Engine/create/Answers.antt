@@ -32,31 +32,31 @@ pub take_back-requires : goal.take_back-requires
 take_back-requires g c =
     let there = ap (λ (h : Held). h.memory) c.self-in-Err.view_is
     ∙ undone_memory c.self.view_is c.args.name.now c.args.options c.requires.due c.in_ok-id.ensures.lawful c.requires.fresh (subst AreOptions c.options.view_is c.options.invariant)
-    c.in_ok-id.ensures.id c.seqno-number.ensures c.in_ok-id.ensures.ok c.in_ok-name.ensures (IsTrue g.D.Disk.honest) c.make.new.self c.in-Err.error c.in-Err.ensures.made in
+    c.in_ok-id.ensures.id c.seqno-number.ensures c.in_ok-id.ensures.ok c.in_ok-name.ensures.value (IsTrue g.D.Disk.honest) c.make.new.self c.in-Err.error c.in-Err.ensures.made in
     (c.args.name.now, c.args.options, c.self.inside.memory, c.in_ok-id.ensures.lawful, there)
 
 pub returns-in-Ok-clause-serves : goal.returns-in-Ok-clause-serves
 returns-in-Ok-clause-serves g c = done_serves c.self.view_is c.args.name.now c.args.options c.requires.due c.in_ok-id.ensures.lawful c.requires.fresh (subst AreOptions c.options.view_is c.options.invariant)
-    c.in_ok-id.ensures.id c.seqno-number.ensures c.in_ok-id.ensures.ok c.in_ok-name.ensures (IsTrue g.D.Disk.honest) c.make.new.self c.in-Ok.ensures.made
+    c.in_ok-id.ensures.id c.seqno-number.ensures c.in_ok-id.ensures.ok c.in_ok-name.ensures.value (IsTrue g.D.Disk.honest) c.make.new.self c.in-Ok.ensures.made
 
 pub returns-in-Ok-clause-owes : goal.returns-in-Ok-clause-owes
 returns-in-Ok-clause-owes g c = done_owes c.self.view_is c.args.name.now c.args.options c.requires.due c.in_ok-id.ensures.lawful c.requires.fresh (subst AreOptions c.options.view_is c.options.invariant)
-    c.in_ok-id.ensures.id c.seqno-number.ensures c.in_ok-id.ensures.ok c.in_ok-name.ensures (IsTrue g.D.Disk.honest) c.make.new.self c.in-Ok.ensures.made
+    c.in_ok-id.ensures.id c.seqno-number.ensures c.in_ok-id.ensures.ok c.in_ok-name.ensures.value (IsTrue g.D.Disk.honest) c.make.new.self c.in-Ok.ensures.made
 
 pub returns-in-Err-clause-serves : goal.returns-in-Err-clause-serves
 returns-in-Err-clause-serves g c =
     let there = ap (λ (h : Held). h.memory) c.self-in-Err.view_is
     ∙ undone_memory c.self.view_is c.args.name.now c.args.options c.requires.due c.in_ok-id.ensures.lawful c.requires.fresh (subst AreOptions c.options.view_is c.options.invariant)
-    c.in_ok-id.ensures.id c.seqno-number.ensures c.in_ok-id.ensures.ok c.in_ok-name.ensures (IsTrue g.D.Disk.honest) c.make.new.self c.in-Err.error c.in-Err.ensures.made in
+    c.in_ok-id.ensures.id c.seqno-number.ensures c.in_ok-id.ensures.ok c.in_ok-name.ensures.value (IsTrue g.D.Disk.honest) c.make.new.self c.in-Err.error c.in-Err.ensures.made in
     let back = taken_back c.self-in-Err.view_is (c.take_back.ensures c.args.name.now c.args.options c.self.inside.memory c.in_ok-id.ensures.lawful there) in
     undone_serves c.self.view_is c.args.name.now c.args.options c.requires.due c.in_ok-id.ensures.lawful c.requires.fresh (subst AreOptions c.options.view_is c.options.invariant)
-    c.in_ok-id.ensures.id c.seqno-number.ensures c.in_ok-id.ensures.ok c.in_ok-name.ensures (IsTrue g.D.Disk.honest) c.make.new.self c.in-Err.error c.in-Err.ensures.made back c.poison_by.ensures
+    c.in_ok-id.ensures.id c.seqno-number.ensures c.in_ok-id.ensures.ok c.in_ok-name.ensures.value (IsTrue g.D.Disk.honest) c.make.new.self c.in-Err.error c.in-Err.ensures.made back c.poison_by.ensures
 
 pub returns-in-Err-clause-owes : goal.returns-in-Err-clause-owes
 returns-in-Err-clause-owes g c =
     let there = ap (λ (h : Held). h.memory) c.self-in-Err.view_is
     ∙ undone_memory c.self.view_is c.args.name.now c.args.options c.requires.due c.in_ok-id.ensures.lawful c.requires.fresh (subst AreOptions c.options.view_is c.options.invariant)
-    c.in_ok-id.ensures.id c.seqno-number.ensures c.in_ok-id.ensures.ok c.in_ok-name.ensures (IsTrue g.D.Disk.honest) c.make.new.self c.in-Err.error c.in-Err.ensures.made in
+    c.in_ok-id.ensures.id c.seqno-number.ensures c.in_ok-id.ensures.ok c.in_ok-name.ensures.value (IsTrue g.D.Disk.honest) c.make.new.self c.in-Err.error c.in-Err.ensures.made in
     let back = taken_back c.self-in-Err.view_is (c.take_back.ensures c.args.name.now c.args.options c.self.inside.memory c.in_ok-id.ensures.lawful there) in
     undone_owes c.self.view_is c.args.name.now c.args.options c.requires.due c.in_ok-id.ensures.lawful c.requires.fresh (subst AreOptions c.options.view_is c.options.invariant)
-    c.in_ok-id.ensures.id c.seqno-number.ensures c.in_ok-id.ensures.ok c.in_ok-name.ensures (IsTrue g.D.Disk.honest) c.make.new.self c.in-Err.error c.in-Err.ensures.made back c.poison_by.ensures
+    c.in_ok-id.ensures.id c.seqno-number.ensures c.in_ok-id.ensures.ok c.in_ok-name.ensures.value (IsTrue g.D.Disk.honest) c.make.new.self c.in-Err.error c.in-Err.ensures.made back c.poison_by.ensures

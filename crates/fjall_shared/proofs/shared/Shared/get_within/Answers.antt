@@ -23,5 +23,5 @@ returns-clause-value g c is =
     let got : c.get_at.result ≡ Ok c.in_ok-found.found = c.in_ok-found.was in
     let reads = subst (λ (x : Ticket × Result (Option Bytes) Error). Does g.D.Disk.honest old (OfRead (At x.0) c.args.id (Get c.args.key.now)) (value_reply x.1) c.get_at.new.self) (λ i. (c.ticket.ensures i, got i)) c.get_at.ensures in
     let found = got_at g.D.Disk.honest old c.get_at.new.self tx.ticket c.args.id c.args.key.now c.in_ok-found.found is reads in
-    subst (λ (x : Own × Bytes). c.in_ok-seen.seen ≡ lookup (map_at (own_written maps x.0) c.args.id) x.1) (λ i. (c.own.ensures i, c.in_ok-name.ensures i))
-    (c.in_ok-seen.ensures.ok maps (found ∙ ap (λ (k : Bytes). lookup (map_at maps c.args.id) k) (sym c.in_ok-name.ensures)))
+    subst (λ (x : Own × Bytes). c.in_ok-seen.seen ≡ lookup (map_at (own_written maps x.0) c.args.id) x.1) (λ i. (c.own.ensures i, c.in_ok-name.ensures.value i))
+    (c.in_ok-seen.ensures.ok maps (found ∙ ap (λ (k : Bytes). lookup (map_at maps c.args.id) k) (sym c.in_ok-name.ensures.value)))

@@ -33,7 +33,7 @@ returns-in_err-mark_read-clause-same g c =
 pub returns-clause-ok : goal.returns-clause-ok
 returns-clause-ok g c map (below, shown, is) =
     let a = c.args in
-    seen_laid c.own.result.now a.id below map a.key.now c.in_ok-name.name c.in_ok-found.found c.in_ok-seen.seen c.in_ok-seen.ensures.ok c.in_ok-name.ensures (c.in_ok-found.ensures.ok below shown)
+    seen_laid c.own.result.now a.id below map a.key.now c.in_ok-name.name c.in_ok-found.found c.in_ok-seen.seen c.in_ok-seen.ensures.ok c.in_ok-name.ensures.value (c.in_ok-found.ensures.ok below shown)
     (is ∙ ap (λ (own : Own). laid own a.id below) (sym c.own.ensures))
 
 pub returns-clause-same : goal.returns-clause-same

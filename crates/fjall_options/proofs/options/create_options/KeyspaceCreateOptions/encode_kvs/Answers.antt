@@ -6,7 +6,7 @@ use Rattle.fjall_options.proofs.options.create_options.KeyspaceCreateOptions.enc
 pub loop-option-preserved : goal.loop-option-preserved
 loop-option-preserved c =
     let next = one_more (config_pair c.args.keyspace_id c.args.self.now) stored_options c.loop-option.option-index c.loop-option-test.true in
-    rw (c.in_ok-push.ensures.items, next, c.loop-option.invariant, c.in_ok-key.ensures.ok, c.name.ensures, c.in_ok-value.ensures, c.value.ensures.value) refl
+    rw (c.in_ok-push.ensures.items, next, c.loop-option.invariant, c.in_ok-key.ensures.ok, c.name.ensures, c.in_ok-value.ensures.value, c.value.ensures.value) refl
 
 pub returns-clause-back : goal.returns-clause-back
 unfolding config_pairs

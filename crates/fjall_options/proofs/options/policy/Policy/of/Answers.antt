@@ -21,5 +21,5 @@ invariant_of-result g c =
     let xs = c.args.entries.items in
     let same = c.deref-entry-items.ensures.value in
     let all = take_all c.loop-entry.entry-index xs (rw same at c.loop-entry-test.false) in
-    let text : c.in_ok-new.field-0 ≡ policy_bytes g.T.PolicyEntry.spelled xs = c.in_ok-new.ensures ∙ c.deref.ensures.value ∙ rw all at c.loop-entry.invariant.so_far in
+    let text : c.in_ok-new.field-0 ≡ policy_bytes g.T.PolicyEntry.spelled xs = c.in_ok-new.ensures.value ∙ c.deref.ensures.value ∙ rw all at c.loop-entry.invariant.so_far in
     (c.requires.some, c.requires.few, text, λ rest. rw text (policy_back g.T.PolicyEntry.entry_at g.T.PolicyEntry.spelled xs rest c.requires.some (rw all at c.loop-entry.invariant.back)))
