@@ -29,7 +29,7 @@ returns-in_ok-new-in-Ok-clause-spelled c =
     spelled c.args.word.now c.in_ok-new-in-Ok.field-0
     ((is_empty_is c.args.word.now c.is_empty.result c.is_empty.ensures).1 c.if-is_empty.false)
     (cc (c.has_upper_case.ensures, c.if-has_upper_case.false))
-    (c.in-Ok.ensures.ok ∙ ap Ok (sym (c.in_ok-new-in-Ok.ensures ∙ c.as_slice.ensures.value)))
+    (c.in-Ok.ensures.ok ∙ ap Ok (sym (c.in_ok-new-in-Ok.ensures.value ∙ c.as_slice.ensures.value)))
 
 pub returns-in_ok-new-in-Ok-clause-all_found : goal.returns-in_ok-new-in-Ok-clause-all_found
 returns-in_ok-new-in-Ok-clause-all_found c b bytes e =
@@ -37,7 +37,7 @@ returns-in_ok-new-in-Ok-clause-all_found c b bytes e =
       | inl none ↦
           let same = (bytes_eq-Decides c.args.word.now (codes "-")).1 none.1 in
           cc (c.eq.ensures, c.if-eq.false, same)
-      | inr word ↦ cc (word.read, c.in-Ok.ensures.ok, c.in_ok-new-in-Ok.ensures, c.as_slice.ensures.value)
+      | inr word ↦ cc (word.read, c.in-Ok.ensures.ok, c.in_ok-new-in-Ok.ensures.value, c.as_slice.ensures.value)
     ]
 
 pub returns-in_default : goal.returns-in_default
