@@ -8,7 +8,7 @@ use std::alloc::Global;
 use std::sync::Wait;
 
 /// The pairs of a range of a keyspace, in the order of their keys, from both ends. It reads a snapshot of its own, so that what is written
-/// meanwhile doesn't show, and holds at most two pages of pairs, each of at most 512.
+/// meanwhile doesn't show, and has two pages of at most 512 pairs in memory at most.
 ///
 /// Where its snapshot, or memory for its bounds, was refused that is its one item. Behind a fault it ends.
 pub struct Iter<'a, R: Wait, D: Disk + Drop = FolderDisk> {
