@@ -56,7 +56,7 @@ closing_moves s t id closes = OneMove (times s) (times t) (times t) (shape_moves
 closing_history : (s t : State) (id : ℕ) → StepOf s (OfTickets (Close id)) Done t → t.history ≡ s.history
 closing_history s t id closes = ap (λ (k : State). k.history) closes.1.1
 
-counted_instants : (visible : ℕ) (t : Tickets) → (counted visible t).instants ≡ t.instants
+pub counted_instants : (visible : ℕ) (t : Tickets) → (counted visible t).instants ≡ t.instants
 counted_instants visible t =
     elim (t.closings + 1 == 10000) as (λ b. (cond b (collected visible (record t { closings = 0 })) (record t { closings = t.closings + 1 })).instants ≡ t.instants) [
       | true ↦ refl
@@ -64,7 +64,7 @@ counted_instants visible t =
     ]
 
 -- the ticket is open no more
-closing_closes : (s t : State) (id : ℕ) → StepOf s (OfTickets (Close id)) Done t → get t.tickets.instants id ≡ None
+pub closing_closes : (s t : State) (id : ℕ) → StepOf s (OfTickets (Close id)) Done t → get t.tickets.instants id ≡ None
 closing_closes s t id closes =
     ap (λ (k : Tickets). get k.instants id) closes.1.0.1
     ∙ ap (λ (m : FinMap nat_cmp ℕ). get m id) (counted_instants (number s.history) (record s.tickets { instants = remove s.tickets.instants id }))

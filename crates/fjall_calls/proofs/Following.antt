@@ -31,7 +31,7 @@ pub record GoesOn (old new : Told) : Type 0 where
 
 -- ---- ids
 
-counted_next : (visible : ℕ) (t : Tickets) → (counted visible t).next ≡ t.next
+pub counted_next : (visible : ℕ) (t : Tickets) → (counted visible t).next ≡ t.next
 counted_next visible t =
     elim (t.closings + 1 == 10000) as (λ b. (cond b (collected visible (record t { closings = 0 })) (record t { closings = t.closings + 1 })).next ≡ t.next) [
       | true ↦ refl

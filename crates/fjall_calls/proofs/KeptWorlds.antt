@@ -31,7 +31,7 @@ use Rattle.fjall_calls.specs.declared.call.Kind.{Kind}
 use Rattle.fjall_calls.specs.declared.call.TxCall.{TxCall}
 use Rattle.fjall_calls.specs.declared.call.Within.{Within}
 use Rattle.fjall_calls.specs.Acting.{Acts, AsksCore, AsksFor, AsksNothing, call_for, heard_by}
-use Rattle.fjall_calls.specs.Names.{is_of_kind}
+use Rattle.fjall_calls.specs.Names.{Takes, is_of_kind}
 use Rattle.fjall_calls.specs.Steps.{IsBegun, IsEnded, IsHeldBack, IsNotBegun, IsRolledBack, IsUnknown, IsWithin, NoCall, OfCore, OneCall, TxRun, TxStep, first_marks, gone_by, gone_with, has_name}
 use Rattle.fjall_calls.specs.Worlds.{Going, Gone, Heard, World, along}
 use Rattle.fjall_calls.specs.Hearing.{IsOfView, StandsIn, tx_of}
@@ -147,7 +147,7 @@ known_begun w s place marks ticket sound goes (none, ((told, opens), is)) =
 -- ---- within
 
 -- a ticket that is open reads at some instant
-open_at : (t : Tickets) (id : ℕ) → is_open t id ≡ true → (instant : ℕ) × (get t.instants id ≡ Some instant)
+pub open_at : (t : Tickets) (id : ℕ) → is_open t id ≡ true → (instant : ℕ) × (get t.instants id ≡ Some instant)
 open_at t id there = either (get t.instants id) refl
   where
     either : (o : Option ℕ) → get t.instants id ≡ o → (instant : ℕ) × (get t.instants id ≡ Some instant)
@@ -225,6 +225,18 @@ committed_here w g outcome new follows known step longer =
       stands = record { here = commit_stands_last w.told new (tx_of g) outcome known.reads step longer; heard = now.heard };
     }
 
+-- behind a commit
+pub kept_ended : (w : World) (kind : Kind) (name : ℕ) (g : Going) (others : List Going) (outcome : CommitOutcome Error) (new : Told) → IsKept w → Takes (has_name w name (Some kind)) w.going (Some g) others
+    → CommitStep w.told (tx_of g) outcome new → IsKept (record w { told = new; going = others; gone = gone_with w.gone g w.told new })
+kept_ended w kind name g others outcome new kept takes step =
+    let goes = commit_goes_on w.told new (tx_of g) outcome kept.sound step in
+    let known = of_taken (IsKnown w.told) (has_name w name (Some kind)) w.going others g takes kept.going in
+    record {
+      sound = goes.sound;
+      going = all_known_on w.told new goes.follows others (of_others (IsKnown w.told) (has_name w name (Some kind)) w.going others g takes kept.going);
+      gone = all_gone_with (HasCommitted new) w.gone g w.told new (all_committed_on w.told new goes.follows w.gone kept.gone) (committed_here w g outcome new goes.follows known step);
+    }
+
 -- ---- steps
 
 -- a step goes on
@@ -264,14 +276,7 @@ kept_step w v before call reply made told kept (IsWithin name c g others takes r
           (known_within w g at c r m t s after kept.sound goes known there acts);
       gone = on.gone;
     }
-kept_step w v before call reply made told kept (IsEnded kind name g others takes outcome m t commits new step) =
-    let goes = commit_goes_on w.told new (tx_of g) outcome kept.sound step in
-    let known = of_taken (IsKnown w.told) (has_name w name (Some kind)) w.going others g takes kept.going in
-    record {
-      sound = goes.sound;
-      going = all_known_on w.told new goes.follows others (of_others (IsKnown w.told) (has_name w name (Some kind)) w.going others g takes kept.going);
-      gone = all_gone_with (HasCommitted new) w.gone g w.told new (all_committed_on w.told new goes.follows w.gone kept.gone) (committed_here w g outcome new goes.follows known step);
-    }
+kept_step w v before call reply made told kept (IsEnded kind name g others takes outcome m t commits new step) = kept_ended w kind name g others outcome new kept takes step
 kept_step w v before call reply made told kept (IsRolledBack name g others takes r s step) =
     let on = kept_along w s kept (core_goes_on w (CloseSnapshot (tx_of g).ticket) r s kept.sound step) in
     record {

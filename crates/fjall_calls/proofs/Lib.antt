@@ -11,11 +11,11 @@ mod Beginning
 mod Quiet
 mod Listed
 mod Ending
-mod Lists
-mod Following
-mod Marking
+pub mod Lists
+pub mod Following
+pub mod Marking
 mod Answering
-mod Commits
-mod KeptWorlds
-mod Standing
+pub mod Commits
+pub mod KeptWorlds
+pub mod Standing
 mod Writing

@@ -1,0 +1,353 @@
+-- One life after another.
+use Rattle.std.proofs.Common.{◌≡◌, inl, inr, ℕ, zero, suc, ◌<◌, Bool, true, false, cond, List, [], ◌∷◌, ◌++◌, length, take, All, Option, None, Some, IsSome, IsTrue, Result, Ok, Err, refl, sym, ◌∙◌, ap, subst, append_assoc, arith, length-append}
+use Rattle.std.proofs.lemmas.Bool.{true≢false}
+use Rattle.std.proofs.lemmas.Option.{none-some}
+use Rattle.std.proofs.lemmas.List.Elements.{All-nil}
+use Rattle.std.specs.Prelude.{Contains, slice_get}
+use Rattle.std.specs.FinMap.{contains_key, empty, get, get-empty, get-retain_keys, nat_cmp-IsAntisymmetric, retain_keys}
+use Rattle.std.specs.Ordering.{nat_cmp}
+use Rattle.fjall_contents.proofs.Slots.{same_maps}
+use Rattle.std.proofs.lemmas.List.{append-nil, append_cancel_right}
+use Rattle.fjall_base.specs.Crash.{IsHoused}
+use Rattle.fjall_base.specs.Disk.{DiskState, Meaning, disk_of, standing, state_in}
+use Rattle.fjall_base.specs.Store.{Command, Store, fold, kept}
+use Rattle.fjall_base.specs.declared.error.Error.{Error}
+use Rattle.fjall_base.specs.declared.error.Error.TheVariants as error
+use Rattle.fjall_contents.proofs.Kept.{kept_along, kept_twice}
+use Rattle.fjall_contents.proofs.Slots.{fold-append}
+use Rattle.fjall_contents.specs.Replays.{bare}
+use Rattle.fjall_journal.specs.declared.recovery_mode.RecoveryMode.{RecoveryMode}
+use Rattle.fjall_journal.specs.declared.recovery_mode.RecoveryMode.TheVariants.{RefuseTornTail, TolerateCorruptTail}
+use Rattle.fjall_meta.specs.Keyspaces.{no_keyspaces}
+use Rattle.fjall_history.specs.Histories.{commands_of, latest}
+use Rattle.fjall_history.specs.declared.reply.Reply.{Reply}
+use Rattle.fjall_history.specs.declared.ticket.Ticket.{Ticket}
+use Rattle.fjall_history.proofs.Moving.{sound_opening}
+use Rattle.fjall_machine.specs.Machine.{present}
+use Rattle.fjall_recovery.specs.Amid.{HoldsAmid}
+use Rattle.fjall_recovery.specs.Amid as amid
+use Rattle.fjall_recovery.specs.Folders.{Contents, ImageStandsFor}
+use Rattle.fjall_recovery.specs.Held.{IsOpenFolder}
+use Rattle.fjall_recovery.specs.Refusals.{HasTornTail, IsDue, IsTornTail}
+use Rattle.fjall_core.specs.Crashes.{RunOn, at_most_one}
+use Rattle.fjall_core.specs.Durables.{Passes}
+use Rattle.fjall_core.specs.Holding.{Held}
+use Rattle.fjall_core.specs.Openings.{OpensAmid, OpensAs}
+use Rattle.fjall_core.specs.Standing.{RunsOn}
+use Rattle.fjall_core.proofs.CrashedDisks.{crash_holds}
+use Rattle.fjall_core.proofs.CrashesInRuns.{no_more, run_passes}
+use Rattle.fjall_core.proofs.Reopening.{a_core_holds_amid, holds_store_amid}
+use Rattle.fjall_lives.specs.Lives.{begun, start_of}
+use Rattle.fjall_lives.proofs.CrashedDisks.{new_disk_holds}
+use Rattle.fjall_transactions.specs.Standing.{StandFor, Told}
+use Rattle.fjall_transactions.specs.Transactions.{Kept, none_kept}
+use Rattle.fjall_transactions.proofs.Standing.{opening_stands}
+use Rattle.fjall_calls.specs.declared.call.TxCall.{TxCall}
+use Rattle.fjall_calls.specs.Serving.{RunsTx}
+use Rattle.fjall_calls.specs.Worlds.{Going, World}
+use Rattle.fjall_calls.specs.Worlds as worlds
+use Rattle.fjall_calls.proofs.Standing.{kept_beginning}
+use Rattle.fjall_consistency.specs.Alike.{AreAlike}
+use Rattle.fjall_consistency.specs.Consistency.{AreAnswers, AreLives, IsBeginning, IsLeft, IsLife, IsSyncAt, Known, NoLife, OneLife, RunsOut, after, all_attempted, attempted, begins, no_store}
+use Rattle.fjall_consistency.specs.Links.{EndsAs, GoesOn, IsClosed, IsFresh, IsLet, IsTurned, IsUnclosed, Leaves, LivesOn, PassesOn, ServesOn}
+use Rattle.fjall_consistency.specs.declared.life.Life.{Life}
+use Rattle.fjall_consistency.specs.declared.life.Told as lives
+use Rattle.fjall_consistency.proofs.Alike.{AllAlike, alike_front, alike_itself, alike_length, begins_longer, fold_alike, kept_alike, same_front, shorter}
+use Rattle.fjall_consistency.proofs.Attempting.{all_tried, synced_at}
+use Rattle.fjall_consistency.proofs.Known.{IsGoing, IsKnown, IsWritersOwn, no_id}
+use Rattle.fjall_consistency.proofs.Telling.{all_told}
+
+-- ---- an opening
+
+-- the state that a core opened as, of which nothing is accepted since
+abbrev told_as : (core : Held) (store : Store) → OpensAs core store → Told
+told_as core store opens = record { state = start_of core store opens; accepted = [] }
+
+stands_as : (core : Held) (store : Store) (opens : OpensAs core store) → StandFor core none_kept (told_as core store opens)
+stands_as core store opens = let state = start_of core store opens in opening_stands core state opens.state (sound_opening state.history) refl
+
+-- as a list begins behind an opening, nothing is known but the store
+known_first : (core : Held) (store start : Store) (opens : OpensAs core store) → AreAlike store start → IsKnown (worlds.begins (told_as core store opens) None) [] (begins start)
+known_first core store start opens alike = record {
+  kept = kept_beginning core none_kept (told_as core store opens) None (stands_as core store opens);
+  alike = alike;
+  small = omega arith;
+  undamaged = refl;
+  well = λ poisoned. absurd (true≢false (sym poisoned));
+  snapshots = refl;
+  transactions = refl;
+  shown = λ place. record { given = inr refl; there = λ instant found. absurd (none-some instant (sym (get-empty nat_cmp no_id) ∙ found)); closed = λ none. refl };
+  one_each = λ place other some same. absurd (some refl);
+  going = All-nil (IsGoing (worlds.begins (told_as core store opens) None) [] (begins start));
+  apart = tt;
+  found = λ place tx is. absurd (none-some tx is);
+  written = All-nil (IsWritersOwn (worlds.begins (told_as core store opens) None));
+  writer_given = λ ticket is. absurd (none-some ticket is);
+  writer = λ ticket is there. absurd (none-some ticket is);
+}
+
+-- ---- what a run leaves
+
+-- what is attempted by the first calls of a list is a beginning of what is attempted
+first_attempted : (k : Known) (calls : List TxCall) (replies : List Reply) (n : ℕ) → IsBeginning (all_attempted k (take n calls) (take n replies)) (all_attempted k calls replies)
+first_attempted k calls replies zero = (all_attempted k calls replies, refl)
+first_attempted k [] [] (suc n) = ([], refl)
+first_attempted k [] (r ∷ replies) (suc n) = ([], refl)
+first_attempted k (c ∷ calls) [] (suc n) = ([], refl)
+first_attempted k (c ∷ calls) (r ∷ replies) (suc n) =
+    let more = first_attempted (after k c r) calls replies n in
+    (more.0, append_assoc (attempted k c r) _ more.0 ∙ ap (λ (l : List Command). attempted k c r ++ l) more.1)
+
+-- Calls that a core served which opened as this store: the calls of the core that they came to, over the disk.
+module _ (honest : Bool) (h : IsTrue honest) (core new : Held) (beside : Kept) (store : Store) (calls : List TxCall) (replies : List Reply) (opens : OpensAs core store) (ran : RunsTx honest core none_kept calls replies new beside) where
+  run : RunsOn core ran.made ran.told new (start_of core store opens) (begun core store)
+  run = ran.safe h (start_of core store opens) (begun core store) opens.state opens.reads opens.base
+
+  -- some beginning passed into the base
+  passed : Passes (begun core store) run.tried run.durable
+  passed = run_passes (start_of core store opens) run.state (begun core store) run.durable ran.made ran.told run.tried opens.base.rests run.run
+
+  left_is : (safe : List Command) → kept run.durable.base ≡ kept (fold store safe) → (front : List Command) → kept (fold run.durable.base front) ≡ kept (fold store (safe ++ front))
+  left_is safe base front = kept_along run.durable.base (fold store safe) front base ∙ ap kept (sym (fold-append store safe front))
+
+  -- what was tried is all that was attempted, where no fault poisoned the engine
+  all_there : run.state.poisoned ≡ false → present run.state ≡ fold store run.tried
+  all_there well = by run.accepted.refused run.accepted.all run.accepted.fault
+    where
+      by : (refused : Option Command) → run.tried ≡ commands_of run.accepted.accepted ++ at_most_one refused → (IsSome refused → run.state.poisoned ≡ true) → present run.state ≡ fold store run.tried
+      by None all fault = ap latest run.accepted.history ∙ ap (λ (l : List Command). fold store l) (sym (append-nil (commands_of run.accepted.accepted)) ∙ sym all)
+      by (Some command) all fault = absurd (true≢false (sym (fault refl) ∙ well))
+
+  -- the same calls, where callers know a store that is alike
+  module _ (start : Store) (alike : AreAlike store start) where
+    known : IsKnown (worlds.begins (told_as core store opens) None) [] (begins start)
+    known = known_first core store start opens alike
+
+    answered : AreAnswers (begins start) calls replies
+    answered = let (v, stands, reads, through) = ran.runs h (told_as core store opens) (stands_as core store opens) opens.reads in
+        all_told (worlds.begins (told_as core store opens) None) v [] (begins start) calls replies ran.made ran.told known through
+
+    tries : AllAlike run.tried (all_attempted (begins start) calls replies)
+    tries = let (v, stands, reads, through) = ran.runs h (told_as core store opens) (stands_as core store opens) opens.reads in
+        all_tried (worlds.begins (told_as core store opens) None) v [] (begins start) calls replies ran.made ran.told (start_of core store opens) run.state (begun core store) run.durable run.tried known through alike run.run
+
+    -- What a sync followed is in whatever beginning has what passed into the base.
+    synced : (safe : List Command) → safe ++ run.durable.pending ≡ run.tried → (front other : List Command) → AllAlike (safe ++ front) other → IsBeginning other (all_attempted (begins start) calls replies) → (i : ℕ) → IsSyncAt (begins start) calls replies i
+        → IsBeginning (all_attempted (begins start) (take (suc i) calls) (take (suc i) replies)) other
+    synced safe rest front other each begins_all i sync =
+        let (v, stands, reads, through) = ran.runs h (told_as core store opens) (stands_as core store opens) opens.reads in
+        let there = synced_at (worlds.begins (told_as core store opens) None) v [] (begins start) calls replies ran.made ran.told (start_of core store opens) run.state (begun core store) run.durable run.tried known through alike run.run i sync in
+        let at = run.synced there.place there.sync in
+        let same : at.settled.safe ≡ safe = append_cancel_right at.settled.safe safe run.durable.pending (at.settled.rest ∙ sym rest) in
+        let upto = all_attempted (begins start) (take (suc i) calls) (take (suc i) replies) in
+        let n = alike_length at.before upto (there.so_far at.mid at.on at.before at.so_far) in
+        let m = alike_length (safe ++ front) other each in
+        let all : (at.before ++ at.settled.has.0) ++ front ≡ safe ++ front = ap (λ (l : List Command). l ++ front) (at.settled.has.1 ∙ same) in
+        let a = length-append (at.before ++ at.settled.has.0) front in
+        let b = length-append at.before at.settled.has.0 in
+        let c : length ((at.before ++ at.settled.has.0) ++ front) ≡ length (safe ++ front) = ap length all in
+        begins_longer upto other (all_attempted (begins start) calls replies) (first_attempted (begins start) calls replies (suc i)) begins_all (omega (arith, n, m, a, b, c))
+
+    -- so it is of each beginning of what waits
+    left : (safe : List Command) → safe ++ run.durable.pending ≡ run.tried → (front : List Command) → amid.IsBeginning front run.durable.pending
+        → (other : List Command) × AllAlike (safe ++ front) other × IsLeft (begins start) calls replies other
+    left safe rest front waits =
+        let (other, each, begins_all) = alike_front (safe ++ front) run.tried (all_attempted (begins start) calls replies) tries (waits.0, append_assoc safe front waits.0 ∙ ap (λ (l : List Command). safe ++ l) waits.1 ∙ rest) in
+        (other, each, record { within = begins_all; holds = λ i sync. synced safe rest front other each begins_all i sync })
+
+-- ---- one life
+
+module _ (honest : Bool) (h : IsTrue honest) (core new : Held) (beside : Kept) (store : Store) (life : Life) (told : lives.Told) (opens : OpensAs core store) (ran : RunsTx honest core none_kept life.calls.items told.replies.items new beside) where
+  abbrev ran_on : RunsOn core ran.made ran.told new (start_of core store opens) (begun core store)
+  ran_on = run honest h core new beside store life.calls.items told.replies.items opens ran
+
+  -- an engine that didn't close leaves so
+  open_life : told.closed ≡ false → (front : List Command) → amid.IsBeginning front ran_on.durable.pending → (next : Store) → next ≡ kept (fold ran_on.durable.base front) → LivesOn store life (Ok told) next
+  open_life unclosed front waits next is start alike =
+      let p = passed honest h core new beside store life.calls.items told.replies.items opens ran in
+      let (other, each, leaves) = left honest h core new beside store life.calls.items told.replies.items opens ran start alike p.safe p.rest front waits in (
+        kept (fold start other),
+        (answered honest h core new beside store life.calls.items told.replies.items opens ran start alike, other, leaves, λ closed. absurd (true≢false (sym closed ∙ unclosed)), refl),
+        subst (λ (s : Store). AreAlike s (kept (fold start other))) (sym (is ∙ left_is honest h core new beside store life.calls.items told.replies.items opens ran p.safe p.base front))
+            (kept_alike (fold store (p.safe ++ front)) (fold start other) (fold_alike (p.safe ++ front) other store start each alike)),
+      )
+
+  -- and one that closed so
+  closed_life : life.closes ≡ true → ran_on.state.poisoned ≡ false → (next : Store) → next ≡ kept (present ran_on.state) → LivesOn store life (Ok told) next
+  closed_life closes well next is start alike =
+      let p = passed honest h core new beside store life.calls.items told.replies.items opens ran in
+      let tried = tries honest h core new beside store life.calls.items told.replies.items opens ran start alike in
+      let attempts = all_attempted (begins start) life.calls.items told.replies.items in
+      let pending = ran_on.durable.pending in
+      let (other, each, leaves) = left honest h core new beside store life.calls.items told.replies.items opens ran start alike p.safe p.rest pending ([], append-nil pending) in
+      let n = alike_length (p.safe ++ pending) other each in
+      let m = alike_length ran_on.tried attempts tried in
+      let c : length (p.safe ++ pending) ≡ length ran_on.tried = ap length p.rest in
+      let all : other ≡ attempts = same_front other attempts attempts leaves.within ([], append-nil attempts) (omega (arith, n, m, c)) in (
+        kept (fold start other),
+        (answered honest h core new beside store life.calls.items told.replies.items opens ran start alike, other, leaves, λ closed. (closes, all), refl),
+        subst (λ (s : Store). AreAlike s (kept (fold start other)))
+            (sym (is ∙ ap kept (all_there honest h core new beside store life.calls.items told.replies.items opens ran well) ∙ ap (λ (l : List Command). kept (fold store l)) (sym p.rest)))
+            (kept_alike (fold store (p.safe ++ pending)) (fold start other) (fold_alike (p.safe ++ pending) other store start each alike)),
+      )
+
+  -- however the engine ended
+  pub ends_so : (closed : Bool) (disk : Meaning) → told.closed ≡ closed → (closed ≡ true → life.closes ≡ true) → EndsAs new closed disk → Leaves store life (Ok told) disk
+  ends_so closed disk is asked (IsLet housed) =
+      let d = ran_on.durable in
+      let there : IsHoused (state_in d.meaning) = subst (λ (m : Meaning). IsHoused (state_in m)) (sym ran_on.on.same) housed in
+      record {
+        next = d.base;
+        waits = d.pending;
+        holds = subst (λ (m : Meaning). HoldsAmid (state_in m) d.base d.pending) ran_on.on.same (a_core_holds_amid new ran_on.state.parts.entries d ran_on.on there);
+        each = λ front waits. open_life is front waits (kept (fold d.base front)) refl;
+      }
+  ends_so closed disk is asked (IsUnclosed error gone safely) =
+      let d = ran_on.durable in
+      let closes = safely ran_on.state d ran_on.stands ran_on.reads ran_on.on in
+      let e = closes.after in
+      let p = closes.passes in
+      record {
+        next = e.base;
+        waits = e.pending;
+        holds = closes.amid;
+        each = λ front waits.
+            let all : (p.safe ++ front) ++ waits.0 ≡ d.pending = append_assoc p.safe front waits.0 ∙ ap (λ (l : List Command). p.safe ++ l) waits.1 ∙ p.rest ∙ append-nil d.pending in
+            open_life is (p.safe ++ front) (waits.0, all) (kept (fold e.base front))
+            (kept_along e.base (fold d.base p.safe) front p.base ∙ ap kept (sym (fold-append d.base p.safe front)));
+      }
+  ends_so closed disk is asked (IsClosed gone owes safely) =
+      let closes = safely ran_on.state ran_on.durable ran_on.stands ran_on.reads ran_on.on in
+      record {
+        next = kept (present ran_on.state);
+        waits = [];
+        holds = holds_store_amid (state_in gone) (kept (present ran_on.state)) closes.closed;
+        each = λ front waits. closed_life (asked refl) (ran_on.stands.remembered.poisoned ∙ owes.0) (kept (fold (kept (present ran_on.state)) front))
+            (ap (λ (l : List Command). kept (fold (kept (present ran_on.state)) l)) (no_more front waits.0 waits.1) ∙ kept_twice (present ran_on.state));
+      }
+
+-- so it is of a core without transactions that opened as whatever store
+pub run_served : (honest : Bool) → IsTrue honest → (core new : Held) (none beside : Kept) (life : Life) (told : lives.Told) (closed : Bool) (disk : Meaning) → RunsTx honest core none life.calls.items told.replies.items new beside
+    → told.closed ≡ closed → (closed ≡ true → life.closes ≡ true) → EndsAs new closed disk → ServesOn core none life (Ok told) disk
+run_served honest h core new none beside life told closed disk ran is asked ended fresh start same opens =
+    ends_so honest h core new beside start life told opens (subst (λ (k : Kept). RunsTx honest core k life.calls.items told.replies.items new beside) fresh ran) closed disk is asked ended
+
+-- want of memory
+pub used_up : (e : Error) → e ≡ error.OutOfMemory → RunsOut e
+used_up e is = subst RunsOut (sym is) tt
+
+-- a life that was refused as a whole changed nothing
+refused_life : (store : Store) (life : Life) (error : Error) (next : Store) → RunsOut error → next ≡ store → LivesOn store life (Err error) next
+refused_life store life error next out is start alike = (start, (out, refl), subst (λ (s : Store). AreAlike s start) (sym is) alike)
+
+-- what a list leaves that was refused as a whole
+pub none_served : (core : Held) (store : Store) (life : Life) (error : Error) → RunsOut error → kept store ≡ store → OpensAs core store → IsHoused (state_in core.disk) → Leaves store life (Err error) core.disk
+none_served core store life error out is opens housed = record {
+  next = store;
+  waits = [];
+  holds = a_core_holds_amid core opens.entries (begun core store) opens.base housed;
+  each = λ front waits. refused_life store life error (kept (fold store front)) out (ap (λ (l : List Command). kept (fold store l)) (no_more front waits.0 waits.1) ∙ is);
+}
+
+-- ---- from one disk to another
+
+-- an engine that opened amid commands went on from one of their beginnings
+pub opened_passes : (old : Meaning) (core : Held) (beside : Kept) (life : Life) (told : Result lives.Told Error) (new : Meaning) → ((base : Store) (pending : List Command) → HoldsAmid (state_in old) base pending → OpensAmid old core base pending)
+    → beside ≡ none_kept → ServesOn core beside life told new → PassesOn old life told new
+opened_passes old core beside life told new amid none serves base pending holds =
+    let opened = amid base pending holds in
+    let leaves = serves none (kept (fold base opened.front)) (kept_twice (fold base opened.front)) opened.opens in
+    record { next = leaves.next; waits = leaves.waits; holds = leaves.holds; each = λ front waits. (opened.front, opened.within, leaves.each front waits) }
+
+-- an opening that was refused changed nothing
+pub stays_passes : (base : Store) (pending : List Command) (life : Life) (error : Error) (new : Meaning) → RunsOut error → HoldsAmid (state_in new) base pending → GoesOn base pending life (Err error) new
+stays_passes base pending life error new out holds = record { next = base; waits = pending; holds = holds; each = λ front waits. (front, waits, refused_life (kept (fold base front)) life error (kept (fold base front)) out refl) }
+
+-- what stands for a store opens
+pub some_folder : (disk : DiskState) (base : Store) (pending : List Command) → HoldsAmid disk base pending → (folder : Option Contents) × IsOpenFolder (standing disk) folder
+some_folder disk base pending holds = by holds.now.stands
+  where
+    by : {store : Store} → ImageStandsFor (standing disk) store → (folder : Option Contents) × IsOpenFolder (standing disk) folder
+    by (inl (c, sound, is)) = (Some c, sound.openable)
+    by (inr (unfinished, is)) = (None, unfinished)
+
+not_strict : (mode : RecoveryMode) → mode ≡ TolerateCorruptTail → mode ≡ RefuseTornTail → ⊥
+not_strict mode is other = let bad : TolerateCorruptTail ≡ RefuseTornTail = sym is ∙ other in cc
+
+-- so an opening in the mode that cuts a torn tail off is refused where something ran out alone
+pub opening_runs_out : (mode : RecoveryMode) (IsTorn : Type 0) (e : Error) → mode ≡ TolerateCorruptTail → IsDue (IsTornTail mode IsTorn) e → RunsOut e
+opening_runs_out mode IsTorn error.OutOfMemory is due = tt
+opening_runs_out mode IsTorn (error.Io kind) is due = tt
+opening_runs_out mode IsTorn error.NumbersUsedUp is due = tt
+opening_runs_out mode IsTorn error.TooManyItems is due = tt
+opening_runs_out mode IsTorn e is due = absurd (not_strict mode is due.0)
+
+-- ---- lives
+
+one_more : (start next end : Store) (some : List Life) (tells : List (Result lives.Told Error)) (life : Life) (told : Result lives.Told Error) → AreLives start some tells next → IsLife next life told end → AreLives start (some ++ life ∷ []) (tells ++ told ∷ []) end
+one_more start next end some tells life told (NoLife s) is = OneLife s end end life told [] [] is (NoLife end)
+one_more start next end some tells life told (OneLife s mid e first heard rest others lived more) is = OneLife s mid end first heard (rest ++ life ∷ []) (others ++ told ∷ []) lived (one_more mid next end rest others life told more is)
+
+-- The disk holds a store with a beginning of what waits, and each of them is alike one to which the lives led so far.
+pub record HasCome (some : List Life) (tells : List (Result lives.Told Error)) (disk : Meaning) : Type 0 where
+  pub base : Store
+  pub pending : List Command
+  pub holds : HoldsAmid (state_in disk) base pending
+  pub each : (front : List Command) → amid.IsBeginning front pending → (end : Store) × AreLives no_store some tells end × AreAlike (kept (fold base front)) end
+
+retained_none : {X : Type 0} (p : ℕ → Bool) → retain_keys (empty {K = ℕ} {X = X} {R = nat_cmp}) p ≡ empty
+retained_none {X = X} p = same_maps (retain_keys (empty {K = ℕ} {X = X} {R = nat_cmp}) p) (empty {K = ℕ} {X = X} {R = nat_cmp}) (λ q. get-retain_keys (empty {K = ℕ} {X = X} {R = nat_cmp}) p q (λ x e. ap p (sym (nat_cmp-IsAntisymmetric q x e))) ∙ by q (p q) refl ∙ sym (get-empty nat_cmp q))
+  where
+    by : (q : ℕ) (b : Bool) → p q ≡ b → cond (p q) (get (empty {K = ℕ} {X = X} {R = nat_cmp}) q) None ≡ None
+    by q true e = ap (λ (x : Bool). cond x (get (empty {K = ℕ} {X = X} {R = nat_cmp}) q) None) e ∙ get-empty nat_cmp q
+    by q false e = ap (λ (x : Bool). cond x (get (empty {K = ℕ} {X = X} {R = nat_cmp}) q) None) e
+
+nothing_kept : kept (bare no_keyspaces) ≡ no_store
+nothing_kept =
+    let p = contains_key (bare no_keyspaces).names in
+    λ i. record { names = (bare no_keyspaces).names; maps = retained_none p i; options = retained_none p i; next = 1 }
+
+pub none_yet : (disk : Meaning) → IsFresh disk → HasCome [] [] disk
+none_yet disk fresh = record {
+  base = bare no_keyspaces;
+  pending = [];
+  holds = holds_store_amid (state_in disk) (bare no_keyspaces) (new_disk_holds (state_in disk) fresh);
+  each = λ front waits. (
+    no_store,
+    NoLife no_store,
+    subst (λ (s : Store). AreAlike s no_store) (sym (ap (λ (l : List Command). kept (fold (bare no_keyspaces) l)) (no_more front waits.0 waits.1) ∙ nothing_kept)) (alike_itself no_store),
+  );
+}
+
+pub one_more_life : (some : List Life) (tells : List (Result lives.Told Error)) (life : Life) (told : Result lives.Told Error) (old new : Meaning) → HasCome some tells old → PassesOn old life told new → HasCome (some ++ life ∷ []) (tells ++ told ∷ []) new
+one_more_life some tells life told old new come passes =
+    let on = passes come.base come.pending come.holds in
+    record {
+      base = on.next;
+      pending = on.waits;
+      holds = on.holds;
+      each = λ front waits.
+          let (before, begun_so, goes) = on.each front waits in
+          let (next, are, alike) = come.each before begun_so in
+          let (end, is, alike_end) = goes next alike in
+          (end, one_more no_store next end some tells life told are is, alike_end);
+    }
+
+-- a crash picks one of them
+pub turned : (some : List Life) (tells : List (Result lives.Told Error)) (old new : Meaning) → HasCome some tells old → IsTurned old new → HasCome some tells new
+turned some tells old new come (inl same) = record { base = come.base; pending = come.pending; holds = subst (λ (st : DiskState). HoldsAmid st come.base come.pending) (sym same) come.holds; each = come.each }
+turned some tells old new come (inr (image, is, put)) =
+    let left_amid = come.holds.crash image is in
+    let store = kept (fold come.base left_amid.front) in
+    record {
+      base = store;
+      pending = [];
+      holds = subst (λ (st : DiskState). HoldsAmid st store []) (sym put) (holds_store_amid (disk_of image) store (crash_holds (state_in old) [] image store is left_amid.stands));
+      each = λ front waits.
+          let (end, are, alike) = come.each left_amid.front left_amid.within in
+          (end, are, subst (λ (s : Store). AreAlike s end) (sym (ap (λ (l : List Command). kept (fold store l)) (no_more front waits.0 waits.1) ∙ kept_twice (fold come.base left_amid.front))) alike);
+    }
+
+-- so there is an end
+pub come_to : (some : List Life) (tells : List (Result lives.Told Error)) (disk : Meaning) → HasCome some tells disk → (end : Store) × AreLives no_store some tells end
+come_to some tells disk come = let (end, are, alike) = come.each [] (come.pending, refl) in (end, are)

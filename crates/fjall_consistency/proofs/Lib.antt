@@ -1,0 +1,16 @@
+pub mod Alike
+pub mod Attempting
+pub mod BeginTelling
+pub mod Causes
+pub mod CoreTelling
+pub mod EndTelling
+pub mod Going
+pub mod Known
+pub mod Lasting
+pub mod Lawful
+pub mod Marking
+pub mod Serial
+pub mod Steps
+pub mod Telling
+pub mod Turning
+pub mod WithinTelling

@@ -1,0 +1,4 @@
+pub mod Alike
+pub mod Consistency
+pub mod Links
+pub mod Serial
