@@ -6,7 +6,7 @@ use Rattle.std.proofs.lemmas.Bool.Decides.{nat_tests}
 use Rattle.fjall_base.specs.Pairs.{Bytes}
 use Rattle.fjall_base.specs.Store.{Clear, Command, Create, Delete, Item, Options, Store, Write, fold}
 use Rattle.fjall_base.specs.declared.error.Error.{Error}
-use Rattle.fjall_base.specs.declared.error.Error.TheVariants.{Io, SnapshotClosed}
+use Rattle.fjall_base.specs.declared.error.Error.TheVariants.{Io}
 use Rattle.fjall_journal.specs.Changes.{Items}
 use Rattle.fjall_journal.specs.Ops.{BatchItem, item_in, value_in, write_of}
 use Rattle.fjall_journal.specs.declared.op.Op.{Op}
@@ -20,7 +20,7 @@ use Rattle.fjall_tx.specs.Owns.{Own, item_of, items_of, key_order}
 use Rattle.fjall_tx.proofs.Keys.{no_entries}
 use Rattle.fjall_history.specs.declared.job.JobId.{JobId}
 use Rattle.fjall_history.specs.declared.reply.Reply.{Reply}
-use Rattle.fjall_history.specs.declared.reply.Reply.TheVariants.{Began, Done, Flag, Number, Opened, Refused}
+use Rattle.fjall_history.specs.declared.reply.Reply.TheVariants.{Began, Done, Flag, Opened, Refused}
 use Rattle.fjall_history.specs.declared.ticket.Ticket.{Ticket}
 use Rattle.fjall_history.specs.Histories.{latest}
 use Rattle.fjall_history.specs.Moves.{Times}
@@ -309,10 +309,6 @@ begin_none k kind (Refused error) = refl
 begin_none k kind r = refl
 
 -- and nothing of them takes effect
-begin_nothing : (k : Known) (kind : Kind) (r : Reply) → accepted k (Begin kind) r ≡ []
-begin_nothing k kind (Refused error) = refl
-begin_nothing k kind r = refl
-
 rollback_none : (k : Known) (name : ℕ) (r : Reply) → attempted k (Rollback name) r ≡ []
 rollback_none k name (Refused (Io fault)) = refl
 rollback_none k name (Refused error) = refl
@@ -502,12 +498,13 @@ flush_begins s t id job false (told, same) = absurd cc
 -- a sync of a call of the core is one of the engine
 core_syncs : (s t : State) (k : Known) (before : List Reply) (c : Call) (r : Reply) → AreAlike (present s) k.present → StepOf s (shape_of (resolved before c)) r t → IsSync k (Core c) r
     → core.IsSync s (shape_of (resolved before c)) r
-core_syncs s t k before (calls.Persist mode) Done alike step sync = sync_mode (Some mode) sync
-core_syncs s t k before (calls.CommitBatch items mode) Done alike step sync = batch_syncs s items.items mode sync.0 sync.1
-core_syncs s t k before (calls.Keyspace name options) (Number id) alike step sync = sym (ap (λ names. stores.has_name (record k.present { names = names }) name) alike.names) ∙ sync
-core_syncs s t k before (calls.DeleteKeyspace id) Done alike step sync = sym (ap (λ names. is_living (record k.present { names = names }) id) alike.names) ∙ sync
-core_syncs s t k before (calls.Ingest id items) Done alike step sync = ingestion_syncs s id items.items sync
-core_syncs s t k before calls.RotateJournal Done alike step sync = tt
+core_syncs s t k before c (Refused error) alike step sync = absurd sync
+core_syncs s t k before (calls.Persist mode) r alike step sync = sync_mode (Some mode) sync
+core_syncs s t k before (calls.CommitBatch items mode) r alike step sync = batch_syncs s items.items mode sync.0 sync.1
+core_syncs s t k before (calls.Keyspace name options) r alike step sync = sym (ap (λ names. stores.has_name (record k.present { names = names }) name) alike.names) ∙ sync
+core_syncs s t k before (calls.DeleteKeyspace id) r alike step sync = sym (ap (λ names. is_living (record k.present { names = names }) id) alike.names) ∙ sync
+core_syncs s t k before (calls.Ingest id items) r alike step sync = ingestion_syncs s id items.items sync
+core_syncs s t k before calls.RotateJournal r alike step sync = tt
 core_syncs s t k before (calls.FlushBegin id) (Began (Some job)) alike step sync = flush_begins s t id job (begins_flush s.parts.trees id) step.1
 core_syncs s t k before c r alike step sync = absurd sync
 
@@ -521,10 +518,15 @@ core_synced k before c r s t d e later heard tried alike (mid, on, rest, step, p
   so_far = λ from end old new first like up. subst (AllAlike first) (sym (append-nil (attempted k (Core c) r))) (core_goes k before c r from end old new first like up).tries;
 }
 
--- no refusal is a sync
-refused_none : (k : Known) (call : TxCall) (error : Error) → IsSync k call (Refused error) → ⊥
-refused_none k (Core (calls.Persist mode)) error sync = sync
-refused_none k call error sync = sync
+-- no call within a transaction is a sync
+within_no_sync : (k : Known) (name : ℕ) (c : Inner) (r : Reply) → IsSync k (Within name c) r → ⊥
+within_no_sync k name c (Refused error) sync = sync
+within_no_sync k name c r sync = sync
+
+-- and no rollback
+rollback_no_sync : (k : Known) (name : ℕ) (r : Reply) → IsSync k (Rollback name) r → ⊥
+rollback_no_sync k name (Refused error) sync = sync
+rollback_no_sync k name r sync = sync
 
 -- a commit that is a sync is one by its batch
 ended_synced : (k : Known) (kind : Kind) (name : ℕ) (tx : Tx) (outcome : CommitOutcome Error) (made : List Call) (told : List Reply) (s t : State) (d e : Durable) (later : List Call) (heard : List Reply)
@@ -554,11 +556,11 @@ step_synced w v before k call reply made told s t d e later heard tried known (O
 step_synced w v before k call reply made told s t d e later heard tried known (IsHeldBack due) alike ran sync = absurd sync
 step_synced w v before k call reply made told s t d e later heard tried known (IsNotBegun kind free error u step) alike ran sync = absurd sync
 step_synced w v before k call reply made told s t d e later heard tried known (IsBegun kind free ticket u step) alike ran sync = absurd sync
-step_synced w v before k call reply made told s t d e later heard tried known (IsUnknown c name kind is none) alike ran sync = absurd (refused_none k c SnapshotClosed sync)
-step_synced w v before k call reply made told s t d e later heard tried known (IsWithin name c g others takes r m o u after_it acts) alike ran sync = absurd sync
+step_synced w v before k call reply made told s t d e later heard tried known (IsUnknown c name kind is none) alike ran sync = absurd sync
+step_synced w v before k call reply made told s t d e later heard tried known (IsWithin name c g others takes r m o u after_it acts) alike ran sync = absurd (within_no_sync k name c r sync)
 step_synced w v before k call reply made told s t d e later heard tried known (IsEnded kind name g others takes outcome m o commits new step) alike ran sync =
     ended_synced k kind name (tx_of g) outcome m o s t d e later heard tried alike (named_so w before k name kind g others known takes) commits ran sync
-step_synced w v before k call reply made told s t d e later heard tried known (IsRolledBack name g others takes r u step) alike ran sync = absurd sync
+step_synced w v before k call reply made told s t d e later heard tried known (IsRolledBack name g others takes r u step) alike ran sync = absurd (rollback_no_sync k name r sync)
 
 -- so it is of each sync of a list
 synced : (w v : World) (before : List Reply) (k : Known) (calls : List TxCall) (replies : List Reply) (made : List Call) (told : List Reply) (s t : State) (d e : Durable) (tried : List Command)

@@ -1,9 +1,10 @@
 -- What the beginning of a transaction is told in a list, and a call that names none, and what is known after it.
 use Rattle.std.proofs.Common.{◌≡◌, ◌≢◌, ◌⊎◌, inl, inr, ⊎_elim, ℕ, zero, suc, ◌+◌, ◌<◌, ◌==◌, ◌&&◌, ◌||◌, Bool, true, false, if◌then◌else◌, cond, not, List, [], ◌∷◌, ◌++◌, length, map, get_or, All, Option, None, Some, is_none, is_some, unwrap_or, refl, sym, ap, subst, ◌∙◌, arith, append-nil, length-append}
+use Rattle.std.proofs.Math.Bool.{or-false}
 use Rattle.std.proofs.lemmas.Bool.{and_from, eq-eqb, not-false, true≢false}
 use Rattle.std.proofs.lemmas.Bool.Decides.{nat_tests}
 use Rattle.std.proofs.lemmas.List.{length-map}
-use Rattle.std.proofs.lemmas.List.Elements.{All-contains, All-push, Contains-append_left, Contains-push}
+use Rattle.std.proofs.lemmas.List.Elements.{All-contains, All-nil, All-push, Contains-append_left, Contains-push}
 use Rattle.std.proofs.lemmas.Option.{get_or_from_slice_get, none-some, same_Some, slice_get_read, slice_get_within, some_pair_parts}
 use Rattle.std.specs.Cmp.{nat_cmp_total}
 use Rattle.std.specs.FinMap.{FinMap, empty, get, get-insert, insert}
@@ -43,7 +44,7 @@ use Rattle.fjall_consistency.specs.Alike.{AreAlike}
 use Rattle.fjall_consistency.specs.Consistency.{HasCause, IsWriting, Known, NamesNone, Transaction, after as known_after, is_fault, met_by, named}
 use Rattle.fjall_consistency.proofs.Going.{IsOfKind, IsSame, new_transaction, same_begun}
 use Rattle.fjall_consistency.proofs.Known.{AreApart, AreTwo, IsGoing, IsKnown, IsShown, IsWritersOwn, Tells, no_id}
-use Rattle.fjall_consistency.proofs.Steps.{refused_times, stays_well, turned_history}
+use Rattle.fjall_consistency.proofs.Steps.{refused_times, stays_poisoned, stays_well, turned_history}
 use Rattle.fjall_consistency.proofs.Turning.{SameOn, Turns, all_shown, along_same, apart_push, core_turns, going_on, named_after, never_open, none_shown, one_each_still, real_id, still_turns}
 
 -- ---- what is known where no transaction ends
@@ -83,18 +84,20 @@ module _ (w v : World) (before : List Reply) (k after : Known) (reply : Reply) (
   still_given ticket is_writer = let given = known.writer_given ticket is_writer in let up = turns.goes.follows.given in omega (arith, given, up)
 
   -- what is known after it stands beside the world after it, where so do the transactions
-  known_on : IsKept v → AreAlike (present v.told.state) after.present → v.told.state.damaged ≡ [] → (v.told.state.poisoned ≡ true → after.failed ≡ true) → after.snapshots ≡ k.snapshots ++ None ∷ []
+  known_on : IsKept v → AreAlike (present v.told.state) after.present → v.told.state.damaged ≡ [] → (v.told.state.poisoned ≡ true → after.failed ≡ true)
+      → (after.broken ≡ true → v.told.state.poisoned ≡ true) → after.snapshots ≡ k.snapshots ++ None ∷ []
       → All (IsGoing v (before ++ reply ∷ []) after) v.going → AreApart v.going
       → ((place : ℕ) (tx : Transaction) → named after place ≡ Some tx → (g : Going) × Contains v.going g × (g.named.place ≡ place))
       → All (IsWritersOwn v) v.going → ((ticket : Ticket) → v.writer ≡ Some ticket → ticket.id < v.told.state.tickets.next)
       → ((ticket : Ticket) → v.writer ≡ Some ticket → is_open v.told.state.tickets ticket.id ≡ true → (g : Going) × Contains v.going g × ((tx_of g).ticket ≡ ticket) × ((tx_of g).marks ≡ None))
       → IsKnown v (before ++ reply ∷ []) after
-  known_on kept alike undamaged well snapshots going apart found written writer_given writer = record {
+  known_on kept alike undamaged well broken snapshots going apart found written writer_given writer = record {
     kept = kept;
     alike = alike;
     small = turns.small;
     undamaged = undamaged;
     well = well;
+    broken = broken;
     snapshots = ap length snapshots ∙ length-append k.snapshots (None ∷ []) ∙ ap (λ n. n + 1) known.snapshots ∙ sym (length-append before (reply ∷ []));
     transactions =
         ap length all ∙ length-append (map (option_map (met_by [])) k.transactions) (more ∷ [])
@@ -114,17 +117,23 @@ module _ (w v : World) (before : List Reply) (k after : Known) (reply : Reply) (
 
 -- what is known behind a call that changed nothing, whether it met a fault or not
 abbrev unchanged : Known → Bool → Known
-unchanged k fault = record { present = k.present; snapshots = k.snapshots ++ None ∷ []; transactions = map (option_map (met_by [])) k.transactions ++ None ∷ []; failed = k.failed || fault }
+unchanged k fault = record {
+  present = k.present;
+  snapshots = k.snapshots ++ None ∷ [];
+  transactions = map (option_map (met_by [])) k.transactions ++ None ∷ [];
+  failed = k.failed || fault;
+  broken = k.broken || false;
+}
 
 -- it stands beside the world after it
 unchanged_known : (w : World) (new : Told) (before : List Reply) (k : Known) (reply : Reply) (fault : Bool) → IsKnown w before k → Turns w.told new None → SameOn w.told new [] → id_opened (Some reply) ≡ no_id
     → IsKept (record w { told = new }) → present new.state ≡ present w.told.state → new.state.damaged ≡ w.told.state.damaged → (new.state.poisoned ≡ true → (w.told.state.poisoned ≡ true) ⊎ (fault ≡ true))
-    → IsKnown (record w { told = new }) (before ++ reply ∷ []) (unchanged k fault)
-unchanged_known w new before k reply fault known turns same none kept still undamaged well =
+    → (w.told.state.poisoned ≡ true → new.state.poisoned ≡ true) → IsKnown (record w { told = new }) (before ++ reply ∷ []) (unchanged k fault)
+unchanged_known w new before k reply fault known turns same none kept still undamaged well poisoned_still =
     let v : World = record w { told = new } in
     let now : Known = unchanged k fault in
     known_on w v before k now reply None known turns same none refl kept (subst (λ (s : Store). AreAlike s k.present) (sym still) known.alike) (undamaged ∙ known.undamaged)
-    (λ poisoned. failed_on k.failed fault (⊎_elim (λ was. inl (known.well was)) inr (well poisoned))) refl
+    (λ poisoned. failed_on k.failed fault (⊎_elim (λ was. inl (known.well was)) inr (well poisoned))) (λ broken. poisoned_still (known.broken (sym (or-false k.broken) ∙ broken))) refl
     (each_goes_on w v before k now reply None known turns same none refl) known.apart
     (λ place tx at. ⊎_elim (λ found. found) (λ begins. absurd (none-some tx begins.1)) (found_before w v before k now reply None known turns same none refl place tx at))
     known.written
@@ -134,7 +143,7 @@ unchanged_known w new before k reply fault known turns same none kept still unda
 -- where no call of the core was made
 nothing_known : (w : World) (before : List Reply) (k : Known) (reply : Reply) → IsKnown w before k → id_opened (Some reply) ≡ no_id → IsKnown w (before ++ reply ∷ []) (unchanged k false)
 nothing_known w before k reply known none =
-    unchanged_known w w.told before k reply false known (still_turns w known.kept known.small) (same_here w.told) none known.kept refl refl (λ poisoned. inl poisoned)
+    unchanged_known w w.told before k reply false known (still_turns w known.kept known.small) (same_here w.told) none known.kept refl refl (λ poisoned. inl poisoned) (λ poisoned. poisoned)
 
 -- ---- the single writer
 
@@ -168,7 +177,7 @@ writing w before k known written = by w.writer refl written
 -- where the single writer's may not begin, one is open
 pub held_back_tells : (w : World) (before : List Reply) (k : Known) → IsKnown w before k → may_begin w Single ≡ false → Tells w before k (Begin Single) (Refused TransactionOpen)
 held_back_tells w before k known due = record {
-  answer = writing w before k known (not-false (is_written w) due);
+  answer = (refl, writing w before k known (not-false (is_written w) due));
   known = nothing_known w before k (Refused TransactionOpen) known refl;
 }
 
@@ -227,7 +236,8 @@ not_begun_tells w before k kind error s known step =
           subst (IsKnown (along w s) (before ++ Refused error ∷ [])) (not_begun_after k kind error)
           (unchanged_known w (along w s).told before k (Refused error) (is_fault (Refused error)) known turns (along_same w s known.kept turns.goes) refl
           (kept_step w (along w s) before (Core Snapshot) (Refused error) (Snapshot ∷ []) (Refused error ∷ []) known.kept (OfCore Snapshot (Refused error) s step))
-          (ap (λ (t : Times). latest t.history) (refused_times w.told.state s (OfTickets Open) error step)) well.0 well.1);
+          (ap (λ (t : Times). latest t.history) (refused_times w.told.state s (OfTickets Open) error step)) well.0 well.1
+          (stays_poisoned w.told.state s (OfTickets Open) (Refused error) step));
     }
 
 -- ---- one begins
@@ -344,7 +354,8 @@ module _ (w : World) (before : List Reply) (k : Known) (kind : Kind) (ticket : T
       known_on w v before k now Done more known turns same refl refl
       (kept_step w v before (Begin kind) Done (Snapshot ∷ []) (Opened ticket ∷ []) known.kept (IsBegun kind free ticket s step))
       (subst (λ (h : History). AreAlike (latest h) k.present) (sym history_is) known.alike)
-      (well.0 ∙ known.undamaged) (λ poisoned. failed_on k.failed false (⊎_elim (λ was. inl (known.well was)) inr (well.1 poisoned))) refl
+      (well.0 ∙ known.undamaged) (λ poisoned. failed_on k.failed false (⊎_elim (λ was. inl (known.well was)) inr (well.1 poisoned)))
+      (λ broken. stays_poisoned w.told.state s (OfTickets Open) (Opened ticket) step (known.broken (sym (or-false k.broken) ∙ broken))) refl
       (All-push (IsGoing v (before ++ Done ∷ []) now) w.going new (each_goes_on w v before k now Done more known turns same refl refl) begins)
       (apart_push w.going new known.apart (λ i d lt. two (get_or w.going i d) (known.going i d lt) (known.kept.going i d lt)))
       found written writer_given writer
@@ -379,8 +390,8 @@ single_begun w before k ticket s known free step =
 
 pub begun_tells : (w : World) (before : List Reply) (k : Known) (kind : Kind) (ticket : Ticket) (s : State) → IsKnown w before k → may_begin w kind ≡ true → Step w.told.state Snapshot (Opened ticket) s
     → Tells (with_begun (along w s) kind (length before) ticket) before k (Begin kind) Done
-begun_tells w before k Optimistic ticket s known free step = record { answer = refl; known = optimistic_begun w before k ticket s known step }
-begun_tells w before k Single ticket s known free step = record { answer = (refl, none_writing w before k known free); known = single_begun w before k ticket s known free step }
+begun_tells w before k Optimistic ticket s known free step = record { answer = (refl, All-nil _, λ broken. refl); known = optimistic_begun w before k ticket s known step }
+begun_tells w before k Single ticket s known free step = record { answer = ((refl, none_writing w before k known free), All-nil _, λ broken. refl); known = single_begun w before k ticket s known free step }
 
 -- ---- none is named
 

@@ -33,7 +33,7 @@ use Rattle.fjall_machine.specs.Machine as machine
 use Rattle.fjall_calls.specs.declared.call.TxCall.{TxCall}
 use Rattle.fjall_calls.specs.declared.call.TxCall.TheVariants.{Core}
 use Rattle.fjall_consistency.specs.Alike.{AreAlike}
-use Rattle.fjall_consistency.specs.Consistency.{HasCause, Known, NamesNone, WritesSettings, ids_in, is_living, items_in, shown}
+use Rattle.fjall_consistency.specs.Consistency.{ChangesKeyspaces, HasCause, IsMade, Known, NamesNone, ids_in, is_living, items_in, shown}
 
 -- What is known of the state where a call is refused.
 pub record Knows (s : State) (before : List Reply) (k : Known) : Type 0 where
@@ -63,7 +63,7 @@ refused P s t shape error None caused may fails = may fails
 
 -- what may go wrong is no damage, or a setting that is too long, or the engine was poisoned, or something runs out
 failing : (s t : State) (k : Known) (call : TxCall) (shape : CallShape) (error : Error)
-    → (ReadsDamaged s shape → ⊥) → (TooLong (present s) shape → WritesSettings call) → (FinishesLate s shape → k.failed ≡ true) → MayFail shape error s t → HasCause k call error
+    → (ReadsDamaged s shape → ⊥) → (TooLong (present s) shape → ChangesKeyspaces call) → (FinishesLate s shape → k.failed ≡ true) → MayFail shape error s t → HasCause k call error
 failing s t k call shape (Io kind) whole long late fails = tt
 failing s t k call shape OutOfMemory whole long late fails = tt
 failing s t k call shape (Storage told) whole long late (is, damaged, same) = absurd (whole damaged)
@@ -120,9 +120,9 @@ empty_is bytes empty = short_is bytes (omega (arith, eqb-true (length bytes) 0 e
 
 -- ---- keyspaces
 
--- no keyspace has the id, by the store that callers know; or it lives there no more
+-- no keyspace was made under the id, by the store that callers know; or it lives there no more
 abbrev IsNone : Known → ℕ → Type 0
-IsNone k id = (id ≡ 0) ⊎ (k.present.next ≤ id)
+IsNone k id = IsMade k.present id → ⊥
 
 abbrev IsGone : Known → ℕ → Type 0
 IsGone k id = is_living k.present id ≡ false
@@ -132,15 +132,15 @@ unknown_there : (s : State) (k : Known) (id : ℕ) → AreAlike (present s) k.pr
 unknown_there s k id alike is = by (or_cases (id == 0) (nat_le (present s).next id) is)
   where
     by : ((id == 0) ≡ true) ⊎ (nat_le (present s).next id ≡ true) → IsNone k id
-    by (inl none) = inl (eqb-true id 0 none)
-    by (inr above) = inr (omega (arith, alike.next, leb-true (present s).next id above))
+    by (inl none) made = let zero : id ≡ 0 = eqb-true id 0 none in let up = made.0 in omega (arith, zero, up)
+    by (inr above) made = let most = leb-true (present s).next id above in let same = alike.next in let up = made.1 in omega (arith, most, same, up)
 
 deleted_there : (s : State) (k : Known) (id : ℕ) → AreAlike (present s) k.present → machine.is_living (present s) id ≡ false → IsGone k id
 deleted_there s k id alike gone = ap (λ names. contains_key names id) alike.names ∙ gone
 
 -- of a keyspace that a call names
 unknown : (s : State) (k : Known) (call : TxCall) (id : ℕ) → AreAlike (present s) k.present → Contains (ids_in k call) id → is_unknown (present s) id ≡ true → HasCause k call UnknownKeyspace
-unknown s k call id alike named is = inr (some_there (IsNone k) (ids_in k call) id named (unknown_there s k id alike is))
+unknown s k call id alike named is = inl (some_there (IsNone k) (ids_in k call) id named (unknown_there s k id alike is))
 
 deleted : (s : State) (k : Known) (call : TxCall) (id : ℕ) → AreAlike (present s) k.present → Contains (ids_in k call) id → machine.is_living (present s) id ≡ false → HasCause k call KeyspaceDeleted
 deleted s k call id alike named gone = some_there (IsGone k) (ids_in k call) id named (deleted_there s k id alike gone)
@@ -216,7 +216,7 @@ change_due s k call (first ∷ rest) how error alike well within named is =
         (
           λ some. inr (some_passes HasLongValue (items_in k call) item_in (λ item. nat_le (2 ^ 32) (length (bytes_in item.2))) items within (λ item. long_value item.2) some),
           (
-            λ some. inr (some_passes (IsNone k) (ids_in k call) (λ (item : BatchItem). item.0) (λ item. is_unknown (present s) item.0) items named (λ item. unknown_there s k item.0 alike) some),
+            λ some. inl (some_passes (IsNone k) (ids_in k call) (λ (item : BatchItem). item.0) (λ item. is_unknown (present s) item.0) items named (λ item. unknown_there s k item.0 alike) some),
             (
               some_passes (IsGone k) (ids_in k call) (λ (item : BatchItem). item.0) (λ item. is_deleted (present s) item.0) items named (λ item gone. deleted_there s k item.0 alike (not-true _ gone)),
               (well, (λ many. tt, (λ full. tt, tt))),
@@ -341,21 +341,21 @@ nothing_shown s before k (At ticket) knows shut = knows.closed ticket.id shut
 -- ---- calls of the core
 
 -- only a creation or a deletion meets a setting that is too long
-writes_settings : (s : Store) (before : List Reply) (c : Call) → TooLong s (shape_of (resolved before c)) → WritesSettings (Core c)
-writes_settings s before (core.Keyspace name options) long = tt
-writes_settings s before (core.DeleteKeyspace id) long = tt
-writes_settings s before c long = absurd long
+changes_keyspaces : (s : Store) (before : List Reply) (c : Call) → TooLong s (shape_of (resolved before c)) → ChangesKeyspaces (Core c)
+changes_keyspaces s before (core.Keyspace name options) long = tt
+changes_keyspaces s before (core.DeleteKeyspace id) long = tt
+changes_keyspaces s before c long = absurd long
 
 -- what is due for a call of the core has a cause
 core_due : (s : State) (before : List Reply) (k : Known) (c : Call) (error : Error) → Knows s before k → due s (shape_of (resolved before c)) ≡ Some error → HasCause k (Core c) error
 core_due s before k (core.Keyspace name options) error knows is =
     first_caused (HasCause k (Core (core.Keyspace name options))) (creation_refusals (facts s) name) error
-    (λ bad. invalid_is name (and_cases _ _ (not-true _ bad)), (λ late. knows.well (and_parts _ _ late).1, (λ full. tt, tt))) is
+    (λ bad. (name, options, refl, invalid_is name (and_cases _ _ (not-true _ bad))), (λ late. knows.well (and_parts _ _ late).1, (λ full. tt, tt))) is
 core_due s before k (core.DeleteKeyspace id) error knows is =
     let call = Core (core.DeleteKeyspace id) in first_caused (HasCause k call) (deletion_refusals (facts s) id) error (deletion_caused s k call id knows.alike knows.well (alone id)) is
 core_due s before k (core.Retain id) error knows is =
     let call = Core (core.Retain id) in first_caused (HasCause k call) (handle_refusals (facts s) OneMore id) error (retain_caused s k call id knows.alike (alone id)) is
-core_due s before k (core.Release id) error knows is = first_caused (HasCause k (Core (core.Release id))) (handle_refusals (facts s) OneLess id) error (λ none. inl tt, (λ none. inl tt, tt)) is
+core_due s before k (core.Release id) error knows is = first_caused (HasCause k (Core (core.Release id))) (handle_refusals (facts s) OneLess id) error (λ none. inr (id, refl), (λ none. inr (id, refl), tt)) is
 core_due s before k (core.Insert id key value) error knows is =
     let items : List BatchItem = (id, key, Put value) ∷ [] in
     change_due s k (Core (core.Insert id key value)) items (AsKeyspace id) error knows.alike knows.well
@@ -409,4 +409,4 @@ pub core_cause : (s t : State) (before : List Reply) (k : Known) (c : Call) (err
 core_cause s t before k c error knows refuses =
     let shape : CallShape = shape_of (resolved before c) in
     refused (HasCause k (Core c)) s t shape error (due s shape) (λ e is. core_due s before k c e knows is)
-    (failing s t k (Core c) shape error (reads_whole s shape knows.undamaged) (writes_settings (present s) before c) (λ late. knows.well (finishes_late s shape late))) refuses
+    (failing s t k (Core c) shape error (reads_whole s shape knows.undamaged) (changes_keyspaces (present s) before c) (λ late. knows.well (finishes_late s shape late))) refuses

@@ -1,23 +1,24 @@
 -- What a call of the core is told in a list, and what is known after it.
-use Rattle.std.proofs.Common.{◌≡◌, ◌≢◌, ◌⊎◌, inl, inr, ⊎_elim, ℕ, zero, suc, ◌+◌, ◌<◌, ◌≤◌, ◌^◌, ◌==◌, nat_le, ◌||◌, Bool, true, false, cond, if◌then◌else◌, List, [], ◌∷◌, ◌++◌, length, map, Option, None, Some, unwrap_or, is_some, refl, sym, ap, subst, ◌∙◌, arith, length-append, length-set}
-use Rattle.std.specs.Prelude.{slice_get, slice_set, option_map}
+use Rattle.std.proofs.Common.{◌≡◌, ◌≢◌, ◌⊎◌, inl, inr, ⊎_elim, ℕ, zero, suc, ◌+◌, ◌<◌, ◌≤◌, ◌^◌, ◌==◌, nat_le, ◌||◌, All, Bool, true, false, cond, if◌then◌else◌, List, [], ◌∷◌, ◌++◌, length, map, Option, None, Some, unwrap_or, is_some, refl, sym, ap, subst, ◌∙◌, arith, length-append, length-set}
+use Rattle.std.specs.Prelude.{nat_lt, slice_get, slice_set, option_map}
 use Rattle.std.specs.FinMap.{FinMap, contains_key, get, insert, values}
 use Rattle.std.specs.List.{list_any}
 use Rattle.std.specs.Ordering.{nat_cmp}
 use Rattle.std.specs.Str.{bytes_eq}
-use Rattle.std.proofs.lemmas.Bool.{true≢false, leb-false}
+use Rattle.std.proofs.lemmas.Bool.{true≢false, and_parts, leb-false, leb-true, ltb-true, or_cases}
 use Rattle.std.proofs.lemmas.Bool.Decides.{nat_tests}
 use Rattle.std.proofs.lemmas.List.{length-map}
 use Rattle.std.proofs.lemmas.List.Elements.{All-cons, All-nil, All-weaker}
 use Rattle.std.proofs.lemmas.Option.{none-some}
 use Rattle.fjall_base.specs.Pairs.{Bytes, Pairs}
 use Rattle.fjall_base.specs.Store.{Command, Create, Delete, Item, Options, Store, Write, fold, map_at}
-use Rattle.fjall_base.specs.declared.error.Error.TheVariants.{SnapshotClosed}
+use Rattle.fjall_base.specs.declared.error.Error.TheVariants.{Io, SnapshotClosed}
 use Rattle.fjall_journal.specs.Changes.{Items}
 use Rattle.fjall_journal.specs.Ops.{BatchItem, item_in, some_key_empty, some_key_too_long, value_in}
 use Rattle.fjall_journal.specs.declared.op.Op.TheVariants.{Put, Remove, RemoveWeak}
 use Rattle.fjall_compaction.specs.Ingests.{batch_items}
 use Rattle.fjall_writes.specs.Ingestions.{KeyOp}
+use Rattle.fjall_meta.specs.Keyspaces.{is_name}
 use Rattle.fjall_contents.specs.Replays.{option_pairs}
 use Rattle.fjall_contents.proofs.Slots.{get_put}
 use Rattle.fjall_history.specs.declared.reply.Reply.{Reply}
@@ -31,12 +32,12 @@ use Rattle.fjall_history.specs.Queries.{Get, Page, Query, Tells as Answered}
 use Rattle.fjall_history.specs.Tickets.{Tickets, is_open, opened}
 use Rattle.fjall_history.proofs.Maps.{found_in}
 use Rattle.fjall_history.proofs.Views.{view_of_all}
-use Rattle.fjall_machine.specs.Machine.{Answers, CreatesOrFinds, State, Step, due, facts, instant_of, maps_in, present, times, view_refusals}
+use Rattle.fjall_machine.specs.Machine.{Answers, CreatesOrFinds, State, Step, clear_refusals, creation_refusals, deletion_refusals, due, facts, first_due, handle_refusals, instant_of, maps_in, present, rotation_refusals, times, view_refusals}
 use Rattle.fjall_machine.specs.Machine as machine
-use Rattle.fjall_machine.proofs.Dues.{is_so, neither, none_due}
+use Rattle.fjall_machine.proofs.Dues.{below, is_so, neither, none_due}
 use Rattle.fjall_machine.proofs.Viewing.{first_or, latest_grown, second_or}
 use Rattle.fjall_machine.specs.Places.{id_opened, resolved, view_at}
-use Rattle.fjall_machine.specs.Shapes.{AsKeyspace, ByMode, OfChange, OfIngestion, OfRead, Persistence, shape_of}
+use Rattle.fjall_machine.specs.Shapes.{AsKeyspace, ByMode, OfChange, OfIngestion, OfRead, OneMore, Persistence, shape_of}
 use Rattle.fjall_machine.specs.declared.call.Call.{Call}
 use Rattle.fjall_machine.specs.declared.call.Call.TheVariants as core
 use Rattle.fjall_core.specs.Crashes as crashes
@@ -46,11 +47,11 @@ use Rattle.fjall_calls.specs.Steps.{OfCore}
 use Rattle.fjall_calls.specs.Worlds.{Going, World, along}
 use Rattle.fjall_calls.proofs.KeptWorlds.{kept_step}
 use Rattle.fjall_consistency.specs.Alike.{AreAlike}
-use Rattle.fjall_consistency.specs.Consistency.{AreLawful, IsAnswer, IsTold, Known, accepted, after, asked, has_name, is_fault, is_living, met_by, one_write, opens, shown, snapshots_after}
+use Rattle.fjall_consistency.specs.Consistency.{AreLawful, IsAnswer, IsMade, IsTold, Known, NamesMade, accepted, after, asked, attempted, has_name, is_fault, is_living, met_by, one_write, opens, shown, snapshots_after}
 use Rattle.fjall_consistency.proofs.Alike.{AllAlike, creates_alike, does_alike, fold_alike}
 use Rattle.fjall_consistency.proofs.Causes.{Knows, core_cause}
 use Rattle.fjall_consistency.proofs.Known.{IsGoing, IsKnown, IsShown, Tells, no_id}
-use Rattle.fjall_consistency.proofs.Steps.{answered_present, no_other, refused_times, stays_well}
+use Rattle.fjall_consistency.proofs.Steps.{answered_present, fault_poisons, no_other, poisoned_refuses, refused_times, stays_poisoned, stays_well}
 use Rattle.fjall_consistency.proofs.Turning.{Turns, all_shown, along_same, closed_by, core_turns, going_on, named_after, never_open, none_shown, one_each_still, real_id}
 
 -- ---- what is asked
@@ -109,6 +110,29 @@ asks_alike s before k (core.Clear id) alike = all_themselves (asked k (Core (cor
 asks_alike s before k (core.CommitBatch items mode) alike = batch_alike s (ByMode mode) items.items
 asks_alike s before k (core.Ingest id items) alike = ingestion_alike s id items.items
 asks_alike s before k c alike = tt
+
+-- what is alike to nothing is nothing
+nothing_alike : (cs ds : List Command) → AllAlike cs ds → cs ≡ [] → ds ≡ []
+nothing_alike [] [] alike none = refl
+nothing_alike [] (d ∷ ds) alike none = absurd alike
+nothing_alike (c ∷ cs) ds alike none = absurd cc
+
+-- a poisoned engine refuses a call that asks for something
+none_asked : (s : State) (before : List Reply) (k : Known) (c : Call) → AreAlike (present s) k.present → s.poisoned ≡ true → due s (shape_of (resolved before c)) ≡ None → asked k (Core c) ≡ []
+none_asked s before k c alike poisoned none =
+    nothing_alike (crashes.asked s (shape_of (resolved before c))) (asked k (Core c)) (asks_alike s before k c alike) (poisoned_refuses s (shape_of (resolved before c)) poisoned none)
+
+-- nothing is more than itself
+never_more : (n : ℕ) → nat_lt n n ≡ true → ⊥
+never_more n more = let less : n < n = ltb-true n n more in omega (arith, less)
+
+-- a call that attempted more than was accepted met a fault, which poisons the engine
+breaks : (s t : State) (before : List Reply) (k : Known) (c : Call) (reply : Reply) → AreAlike (present s) k.present → Step s (resolved before c) reply t
+    → nat_lt (length (accepted k (Core c) reply)) (length (attempted k (Core c) reply)) ≡ true → t.poisoned ≡ true
+breaks s t before k c (Refused (Io kind)) alike step more =
+    fault_poisons s t (shape_of (resolved before c)) kind
+    (λ none. never_more 0 (ap (λ (cs : List Command). nat_lt 0 (length cs)) (sym (nothing_alike (crashes.asked s (shape_of (resolved before c))) (asked k (Core c)) (asks_alike s before k c alike) none)) ∙ more)) step
+breaks s t before k c reply alike step more = absurd (never_more (length (accepted k (Core c) reply)) more)
 
 -- ---- the store afterwards
 
@@ -221,6 +245,83 @@ lawful_ingestion s k id (item ∷ items) alike none =
     lawful_ingested s k id (item ∷ items)
     (ap (λ (names : FinMap nat_cmp Bytes). contains_key names id) alike.names ∙ is_so (machine.is_living (present s) id) apart.1.1.1.1.1.0) apart.0 apart.1.0
 
+-- ---- the keyspaces that are named were made
+
+-- one that isn't unknown
+made_there : (s : State) (k : Known) (id : ℕ) → AreAlike (present s) k.present → machine.is_unknown (present s) id ≡ false → IsMade k.present id
+made_there s k id alike is =
+    let apart = neither (id == 0) (nat_le (present s).next id) is in
+    let some : 0 < id = grind (arith, nat_tests, apart.0) in
+    let under = below id (present s).next apart.1 in
+    let same = alike.next in
+    (some, omega (arith, under, same))
+
+-- one alone
+one_made : (k : Known) (id : ℕ) → IsMade k.present id → All (IsMade k.present) (id ∷ [])
+one_made k id is = All-cons (IsMade k.present) id [] is (All-nil (IsMade k.present))
+
+-- those of the items of a batch
+batch_made : (s : State) (k : Known) (items : List BatchItem) → AreAlike (present s) k.present → machine.some_unknown (present s) items ≡ false
+    → All (IsMade k.present) (map (λ (i : Item). i.id) (map item_in items))
+batch_made s k [] alike known = All-nil (IsMade k.present)
+batch_made s k (item ∷ items) alike known =
+    let apart = neither (machine.is_unknown (present s) item.0) (machine.some_unknown (present s) items) known in
+    All-cons (IsMade k.present) item.0 (map (λ (i : Item). i.id) (map item_in items)) (made_there s k item.0 alike apart.0) (batch_made s k items alike apart.1)
+
+-- of a change that nothing refuses
+change_made : (s : State) (k : Known) (items : List BatchItem) (how : Persistence) → AreAlike (present s) k.present → due s (OfChange (Items items) how) ≡ None
+    → All (IsMade k.present) (map (λ (i : Item). i.id) (map item_in items))
+change_made s k [] how alike none = All-nil (IsMade k.present)
+change_made s k (item ∷ items) how alike none = batch_made s k (item ∷ items) alike (none_due (machine.items_refusals (facts s) (item ∷ items)) none).1.1.1.0
+
+-- those of the items of an ingestion
+ingested_made : (k : Known) (id : ℕ) (items : List KeyOp) → IsMade k.present id → All (IsMade k.present) (map (λ (i : Item). i.id) (map (ingested_in id) items))
+ingested_made k id [] is = All-nil (IsMade k.present)
+ingested_made k id (item ∷ items) is = All-cons (IsMade k.present) id (map (λ (i : Item). i.id) (map (ingested_in id) items)) is (ingested_made k id items is)
+
+-- of one that nothing refuses
+ingestion_made : (s : State) (k : Known) (id : ℕ) (items : List KeyOp) → AreAlike (present s) k.present → due s (OfIngestion id items) ≡ None
+    → All (IsMade k.present) (map (λ (i : Item). i.id) (map (ingested_in id) items))
+ingestion_made s k id [] alike none = All-nil (IsMade k.present)
+ingestion_made s k id (item ∷ items) alike none =
+    ingested_made k id (item ∷ items) (made_there s k id alike (none_due (machine.ingestion_refusals (facts s) id (item ∷ items)) none).1.1.1.1.0)
+
+-- that of a read that nothing refuses
+read_made : (s : State) (k : Known) (v : View) (id : ℕ) → AreAlike (present s) k.present → first_due (view_refusals (facts s) v id) ≡ None → All (IsMade k.present) (id ∷ [])
+read_made s k Present id alike none = one_made k id (made_there s k id alike (none_due (view_refusals (facts s) Present id) none).0)
+read_made s k (At ticket) id alike none = one_made k id (made_there s k id alike (none_due (view_refusals (facts s) (At ticket) id) none).1.0)
+
+-- that of a rotation, or of a flush or a merge that is to begin
+rotation_made : (s : State) (k : Known) (id : ℕ) → AreAlike (present s) k.present → first_due (rotation_refusals (facts s) id) ≡ None → All (IsMade k.present) (id ∷ [])
+rotation_made s k id alike none = one_made k id (made_there s k id alike (none_due (rotation_refusals (facts s) id) none).0)
+
+-- those of any call of the core
+names_made : (s : State) (before : List Reply) (k : Known) (c : Call) → AreAlike (present s) k.present → due s (shape_of (resolved before c)) ≡ None → NamesMade k (Core c)
+names_made s before k (core.DeleteKeyspace id) alike none = one_made k id (made_there s k id alike (none_due (deletion_refusals (facts s) id) none).0)
+names_made s before k (core.Retain id) alike none = one_made k id (made_there s k id alike (none_due (handle_refusals (facts s) OneMore id) none).0)
+names_made s before k (core.Clear id) alike none = one_made k id (made_there s k id alike (none_due (clear_refusals (facts s) id) none).0)
+names_made s before k (core.RotateMemtable id) alike none = rotation_made s k id alike none
+names_made s before k (core.FlushBegin id) alike none = rotation_made s k id alike none
+names_made s before k (core.MergeBegin id) alike none = rotation_made s k id alike none
+names_made s before k (core.MajorBegin id) alike none = rotation_made s k id alike none
+names_made s before k (core.GetAt v id key) alike none = read_made s k (view_at before v) id alike none
+names_made s before k (core.PageAt v id range back max) alike none = read_made s k (view_at before v) id alike none
+names_made s before k (core.Insert id key value) alike none = change_made s k ((id, key, Put value) ∷ []) (AsKeyspace id) alike none
+names_made s before k (core.Remove id key) alike none = change_made s k ((id, key, Remove) ∷ []) (AsKeyspace id) alike none
+names_made s before k (core.RemoveWeak id key) alike none = change_made s k ((id, key, RemoveWeak) ∷ []) (AsKeyspace id) alike none
+names_made s before k (core.CommitBatch items mode) alike none = change_made s k items.items (ByMode mode) alike none
+names_made s before k (core.Ingest id items) alike none = ingestion_made s k id items.items alike none
+names_made s before k c alike none = All-nil (IsMade k.present)
+
+-- ---- an answer
+
+-- what is a name has 1 to 255 bytes
+is_some_name : (name : Bytes) → is_name name ≡ true → name ≢ []
+is_some_name name is none = true≢false (sym (ap is_name (sym none) ∙ is))
+
+is_short_name : (name : Bytes) → is_name name ≡ true → length name ≤ 255
+is_short_name name is = leb-true (length name) 255 (and_parts (nat_le 1 (length name)) (nat_le (length name) 255) is).1
+
 -- an answer is what callers may rely on
 told : (s t : State) (before : List Reply) (k : Known) (c : Call) (reply : Reply) → AreAlike (present s) k.present → AreShown s before k → due s (shape_of (resolved before c)) ≡ None
     → Answers s (shape_of (resolved before c)) reply t → IsTold k (Core c) reply
@@ -233,11 +334,15 @@ told s t before k (core.PageAt v id range back max) reply alike all none answers
 told s t before k (core.Keyspace name options) reply alike all none answers = (
   answers.0,
   answers.1,
+  is_some_name name (is_so (is_name name) (none_due (creation_refusals (facts s) name) none).0),
+  is_short_name name (is_so (is_name name) (none_due (creation_refusals (facts s) name) none).0),
   ap (λ (names : FinMap nat_cmp Bytes). get names answers.0) (answered_alike s t before k (core.Keyspace name options) reply alike answers).names
       ∙ name_there s t name options answers.0 answers.2,
 )
 told s t before k (core.KeyspaceExists name) reply alike all none answers =
     answers.0 ∙ ap (λ (names : FinMap nat_cmp Bytes). Flag (list_any (λ other. bytes_eq other name) (values names))) (sym alike.names)
+told s t before k (core.Clear id) reply alike all none answers =
+    ap (λ (names : FinMap nat_cmp Bytes). contains_key names id) alike.names ∙ is_so (machine.is_living (present s) id) (none_due (clear_refusals (facts s) id) none).1.0
 told s t before k (core.Insert id key value) reply alike all none answers = lawful_change s k ((id, key, Put value) ∷ []) (AsKeyspace id) alike none
 told s t before k (core.Remove id key) reply alike all none answers = lawful_change s k ((id, key, Remove) ∷ []) (AsKeyspace id) alike none
 told s t before k (core.RemoveWeak id key) reply alike all none answers = lawful_change s k ((id, key, RemoveWeak) ∷ []) (AsKeyspace id) alike none
@@ -257,7 +362,11 @@ knows w before k known = record {
 -- a call of the core is told what callers may rely on
 answer : (w : World) (before : List Reply) (k : Known) (c : Call) (reply : Reply) (s : State) → IsKnown w before k → Step w.told.state (resolved before c) reply s → IsAnswer k (Core c) reply
 answer w before k c (Refused error) s known refuses = core_cause w.told.state s before k c error (knows w before k known) refuses
-answer w before k c reply s known (none, answers) = told w.told.state s before k c reply known.alike known.shown none answers
+answer w before k c reply s known (none, answers) = (
+  told w.told.state s before k c reply known.alike known.shown none answers,
+  names_made w.told.state before k c known.alike none,
+  λ broken. none_asked w.told.state before k c known.alike (known.broken broken) none,
+)
 
 -- ---- tickets that are opened
 
@@ -396,6 +505,10 @@ still_known w before k c reply s known step = record {
   small = turns.small;
   undamaged = well.0 ∙ known.undamaged;
   well = λ poisoned. fails k.failed (is_fault reply) (⊎_elim (λ was. inl (known.well was)) inr (well.1 poisoned));
+  broken = λ is. ⊎_elim
+      (λ was. stays_poisoned old s (shape_of (resolved before c)) reply step (known.broken was))
+      (breaks old s before k c reply known.alike step)
+      (or_cases k.broken (nat_lt (length (accepted k (Core c) reply)) (length (attempted k (Core c) reply))) is);
   snapshots = one_longer (snapshots_after k (Core c) reply) before (opens k (Core c) reply) reply (left_length k c reply ∙ known.snapshots);
   transactions = ap length (transactions_stay k c reply)
       ∙ one_longer (map (option_map (met_by [])) k.transactions) before None reply (length-map k.transactions (option_map (met_by [])) ∙ known.transactions);

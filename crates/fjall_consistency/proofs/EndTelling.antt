@@ -1,12 +1,14 @@
 -- What the end of a transaction is told in a list, and what is known after it.
 use Rattle.std.proofs.lemmas.List.Elements.{All-nil}
-use Rattle.std.proofs.Common.{◌≡◌, ◌≢◌, ◌⊎◌, inl, inr, ⊎_elim, ℕ, zero, suc, ◌+◌, ◌==◌, ◌||◌, not, Bool, true, false, if◌then◌else◌, List, [], ◌∷◌, ◌++◌, length, map, All, Option, None, Some, is_none, is_some, unwrap_or, refl, sym, ap, subst, ◌∙◌, arith, append-nil, length-append}
-use Rattle.std.proofs.lemmas.Bool.{and_parts, eqb-true, true≢false}
+use Rattle.std.proofs.Common.{◌≡◌, ◌≢◌, ◌⊎◌, inl, inr, ⊎_elim, ℕ, zero, suc, ◌+◌, ◌==◌, ◌||◌, nat_lt, not, Bool, true, false, if◌then◌else◌, List, [], ◌∷◌, ◌++◌, length, map, All, Option, None, Some, is_none, is_some, unwrap_or, refl, sym, ap, subst, ◌∙◌, arith, append-nil, length-append}
+use Rattle.std.proofs.Math.Bool.{or-false}
+use Rattle.std.proofs.lemmas.Bool.{and_parts, eqb-true, ltb-true, or_cases, true≢false}
 use Rattle.std.proofs.lemmas.Bool.Decides.{nat_tests}
 use Rattle.std.proofs.lemmas.List.{length-map, length-set}
 use Rattle.std.proofs.lemmas.Option.{none-some, same_Some}
 use Rattle.std.specs.Prelude.{Contains, flat_map, option_map, option_to_list, slice_get, slice_set}
 use Rattle.std.specs.FinMap.{empty, get, remove}
+use Rattle.std.specs.declared.io.ErrorKind.{ErrorKind}
 use Rattle.fjall_base.specs.Pairs.{Bytes}
 use Rattle.fjall_base.specs.Store.{Item, Store, Write, apply, fold}
 use Rattle.fjall_base.specs.declared.error.Error.{Error}
@@ -38,6 +40,7 @@ use Rattle.fjall_calls.specs.Worlds.{Going, World, along}
 use Rattle.fjall_calls.proofs.Following.{GoesOn, counted_next}
 use Rattle.fjall_calls.proofs.KeptWorlds.{IsKept, found_kind, found_open, kept_ended, kept_step, open_at}
 use Rattle.fjall_calls.proofs.Lists.{of_others, of_taken}
+use Rattle.fjall_core.specs.Crashes.{asked as core_asked}
 use Rattle.fjall_transactions.specs.Commits.{change_of}
 use Rattle.fjall_transactions.specs.Standing.{CommitStep, Told, accepted_of, history_of}
 use Rattle.fjall_transactions.specs.Standing as standing
@@ -51,7 +54,7 @@ use Rattle.fjall_consistency.proofs.Causes.{contains_map, items_cause}
 use Rattle.fjall_consistency.proofs.Going.{IsOfKind, IsSame, is_met, met_is, same_met, same_plain, single_unmet}
 use Rattle.fjall_consistency.proofs.Known.{IsWritersOwn, AreTwo, IsGoing, IsKnown, IsShown, Tells, no_id}
 use Rattle.fjall_consistency.proofs.Marking.{item_written, known_marked, marks_known}
-use Rattle.fjall_consistency.proofs.Steps.{answered_open, answered_present, refused_times, stays_well, turned_history}
+use Rattle.fjall_consistency.proofs.Steps.{answered_open, answered_present, fault_poisons, poisoned_refuses, refused_times, stays_poisoned, stays_well, turned_history}
 use Rattle.fjall_consistency.proofs.Turning.{SameOn, Turns, all_shown, along_same, apart_taken, commit_turns, core_turns, going_on, named_after, never_open, none_shown, one_each_still, real_id, taken_or_left}
 
 -- ---- lists
@@ -139,13 +142,14 @@ module _ (w v : World) (before : List Reply) (k after : Known) (is : Going → B
 
   -- so what is known after it stands beside the world after it
   ended_known : IsKept v → AreAlike (present v.told.state) after.present → v.told.state.damaged ≡ [] → (v.told.state.poisoned ≡ true → after.failed ≡ true)
-      → after.snapshots ≡ k.snapshots ++ None ∷ [] → IsKnown v (before ++ reply ∷ []) after
-  ended_known kept alike undamaged well snapshots = record {
+      → (after.broken ≡ true → v.told.state.poisoned ≡ true) → after.snapshots ≡ k.snapshots ++ None ∷ [] → IsKnown v (before ++ reply ∷ []) after
+  ended_known kept alike undamaged well broken snapshots = record {
     kept = kept;
     alike = alike;
     small = turns.small;
     undamaged = undamaged;
     well = well;
+    broken = broken;
     snapshots = ap length snapshots ∙ length-append k.snapshots (None ∷ []) ∙ ap (λ n. n + 1) known.snapshots ∙ sym (length-append before (reply ∷ []));
     transactions =
         ap length all ∙ length-append (map (option_map (met_by keys)) (slice_set k.transactions g.named.place None)) (None ∷ [])
@@ -213,13 +217,14 @@ rolled_back w before k name g others s known takes step =
     let well = stays_well w.told.state s (OfTickets (Close (tx_of g).ticket.id)) Done step in
     let place_is : g.named.place ≡ name = eqb-true g.named.place name (and_parts _ _ takes.0).0 in
     record {
-      answer = refl;
+      answer = (refl, All-nil _, λ broken. refl);
       known =
           ended_known w v before k (after k (Rollback name) Done) (has_name w name None) g Done [] known takes turns (along_same w s known.kept turns.goes) refl
           (closing_next w.told.state s (tx_of g).ticket.id step) refl (ap (λ (i : ℕ). map (option_map (met_by [])) (slice_set k.transactions i None) ++ None ∷ []) (sym place_is))
           (kept_step w v before (Rollback name) Done (CloseSnapshot (tx_of g).ticket ∷ []) (Done ∷ []) known.kept (IsRolledBack name g others takes Done s step))
           (subst (λ (h : History). AreAlike (latest h) k.present) (sym (turned_history w.told.state s (Close (tx_of g).ticket.id) Done step.1)) known.alike)
-          (well.0 ∙ known.undamaged) (λ poisoned. failed_on k.failed false (⊎_elim (λ was. inl (known.well was)) (λ none. inr none) (well.1 poisoned))) refl;
+          (well.0 ∙ known.undamaged) (λ poisoned. failed_on k.failed false (⊎_elim (λ was. inl (known.well was)) (λ none. inr none) (well.1 poisoned)))
+          (λ broken. stays_poisoned w.told.state s (OfTickets (Close (tx_of g).ticket.id)) Done step (known.broken (sym (or-false k.broken) ∙ broken))) refl;
     }
 
 pub rolled_back_tells : (w : World) (before : List Reply) (k : Known) (name : ℕ) (g : Going) (others : List Going) (reply : Reply) (s : State) → IsKnown w before k
@@ -337,6 +342,20 @@ gone_refused : (k : Known) (kind : Kind) (name : ℕ) (error : Error) → (error
 gone_refused k kind name SnapshotClosed other = absurd (other refl)
 gone_refused k kind name error other = refl
 
+-- a change of some items asks for a command
+asks_some : (s : State) (items : List BatchItem) (how : Persistence) → (items ≡ [] → ⊥) → core_asked s (OfChange (Items items) how) ≡ [] → ⊥
+asks_some s [] how some none = some refl
+asks_some s (item ∷ items) how some none = absurd cc
+
+-- nothing breaks where as much is accepted as was attempted
+broken_before : (broken : Bool) (n : ℕ) → (broken || nat_lt n n) ≡ true → broken ≡ true
+broken_before broken n is = ⊎_elim (λ was. was) (λ less. absurd (omega (arith, ltb-true n n less))) (or_cases broken (nat_lt n n) is)
+
+-- a refusal breaks only by a fault of the disk
+refused_breaks : (k : Known) (kind : Kind) (name : ℕ) (error : Error) → (after k (Commit kind name) (Refused error)).broken ≡ true → (k.broken ≡ true) ⊎ ((fault : ErrorKind) × (error ≡ Io fault))
+refused_breaks k kind name (Io fault) is = inr (fault, refl)
+refused_breaks k kind name error is = inl (sym (or-false k.broken) ∙ is)
+
 -- a change of some items leaves what their command makes
 made_present : (s t : State) (items : List BatchItem) (how : Persistence) → (items ≡ [] → ⊥) → Answers s (OfChange (Items items) how) Done t → present t ≡ apply (present s) (write_of items)
 made_present s t [] how some answers = absurd (some refl)
@@ -374,9 +393,10 @@ module _ (w : World) (before : List Reply) (k : Known) (kind : Kind) (name : ℕ
       → SameOn w.told new (commits_of k (Commit kind name) (reply_to outcome)) → new.state.tickets.next ≡ w.told.state.tickets.next
       → transactions_after k (Commit kind name) (reply_to outcome) ≡ slice_set k.transactions name None
       → AreAlike (present new.state) (after k (Commit kind name) (reply_to outcome)).present → new.state.damaged ≡ w.told.state.damaged
-      → (new.state.poisoned ≡ true → (w.told.state.poisoned ≡ true) ⊎ (is_fault (reply_to outcome) ≡ true)) → id_opened (Some (reply_to outcome)) ≡ no_id
+      → (new.state.poisoned ≡ true → (w.told.state.poisoned ≡ true) ⊎ (is_fault (reply_to outcome) ≡ true))
+      → ((after k (Commit kind name) (reply_to outcome)).broken ≡ true → new.state.poisoned ≡ true) → id_opened (Some (reply_to outcome)) ≡ no_id
       → Tells world before k (Commit kind name) (reply_to outcome)
-  commit_tells outcome step answer same next left alike undamaged well none =
+  commit_tells outcome step answer same next left alike undamaged well broken none =
       let reply : Reply = reply_to outcome in
       let keys : List (ℕ × Bytes) = commits_of k (Commit kind name) reply in
       record {
@@ -386,7 +406,7 @@ module _ (w : World) (before : List Reply) (k : Known) (kind : Kind) (name : ℕ
             (commit_turns w (tx_of g) outcome new known.kept known.small step) same none next refl
             (ap (λ (l : List (Option Transaction)). map (option_map (met_by keys)) l ++ None ∷ []) (left ∙ ap (λ (i : ℕ). slice_set k.transactions i None) (sym place_is)))
             (kept_ended w kind name g others outcome new known.kept takes step) alike (undamaged ∙ known.undamaged)
-            (λ poisoned. failed_on k.failed (is_fault reply) (⊎_elim (λ is. inl (known.well is)) (λ is. inr is) (well poisoned))) refl;
+            (λ poisoned. failed_on k.failed (is_fault reply) (⊎_elim (λ is. inl (known.well is)) (λ is. inr is) (well poisoned))) broken refl;
       }
 
   -- it wrote nothing
@@ -398,11 +418,15 @@ module _ (w : World) (before : List Reply) (k : Known) (kind : Kind) (name : ℕ
       let goes = (commit_turns w (tx_of g) outcomes.Ok new known.kept known.small step).goes in
       let nothing : was.tx.own ≡ [] = was.same.own.none none in
       let well = stays_well w.told.state new.state (OfTickets (Close id)) Done closes in
-      commit_tells outcomes.Ok step (was.tx, named_is, kind_is, (subst (AreLawful k.present) (sym nothing) (All-nil _), inl nothing))
+      commit_tells outcomes.Ok step (
+        (was.tx, named_is, kind_is, (subst (AreLawful k.present) (sym nothing) (All-nil _), inl nothing)),
+        tt,
+        λ broken. ap one_write (items_named k kind name was.tx named_is ∙ nothing),
+      )
       (subst (SameOn w.told new) (sym (wrote_named k kind name was.tx named_is ∙ wrote_none kind was.tx nothing)) (same_still w.told new goes same)) (closing_next w.told.state new.state id closes) refl
       (alike_as (present w.told.state) (present new.state) k.present _ (ap latest (turned_history w.told.state new.state (Close id) Done closes.1))
       (ap (λ (items : List Item). fold k.present (one_write items)) (items_named k kind name was.tx named_is ∙ nothing)) known.alike)
-      well.0 well.1 refl
+      well.0 well.1 (λ broken. stays_poisoned w.told.state new.state (OfTickets (Close id)) Done closes (known.broken (broken_before k.broken _ broken))) refl
 
   -- it meets a commit
   conflicts : (instant : ℕ) → get w.told.state.tickets.instants (tx_of g).ticket.id ≡ Some instant → (tx_of g).own ≢ empty → MeetsSome instant (tx_of g).marks (commits (history_of w.told))
@@ -415,10 +439,10 @@ module _ (w : World) (before : List Reply) (k : Known) (kind : Kind) (name : ℕ
       let met : IsMet was.tx =
       met_some (history_of w.told) (tx_of g).ticket.instant (tx_of g).own (tx_of g).marks (tx_of g).mode was.tx was.same
       (subst (λ (i : ℕ). MeetsSome i (tx_of g).marks (commits (history_of w.told))) (instant_is instant opened) meets) in
-      commit_tells outcomes.Conflicted step (was.tx, named_is, kind_is, ((λ nothing. some (was.same.own.no_items nothing)), met))
+      commit_tells outcomes.Conflicted step ((was.tx, named_is, kind_is, ((λ nothing. some (was.same.own.no_items nothing)), met)), tt, λ broken. refl)
       (subst (SameOn w.told new) (sym (conflicts_none k kind name)) (same_still w.told new goes same)) (closing_next w.told.state new.state id closes) refl
       (alike_as (present w.told.state) (present new.state) k.present _ (ap latest (turned_history w.told.state new.state (Close id) Done closes.1)) refl known.alike)
-      well.0 well.1 refl
+      well.0 well.1 (λ broken. stays_poisoned w.told.state new.state (OfTickets (Close id)) Done closes (known.broken (sym (or-false k.broken) ∙ broken))) refl
 
   -- an item of its own writes is among those that are known
   item_known : (item : BatchItem) → Contains (items_of (tx_of g).own) item → Contains (items_in k (Commit kind name)) (item_in item)
@@ -440,11 +464,16 @@ module _ (w : World) (before : List Reply) (k : Known) (kind : Kind) (name : ℕ
       let cause : HasCause k (Commit kind name) error =
       items_cause w.told.state mid k (Commit kind name) (items_of (tx_of g).own) (ByMode (tx_of g).mode) error known.alike known.well item_known
       (λ item there. contains_map (λ (i : Item). i.id) (items_in k (Commit kind name)) (item_in item) (item_known item there)) refused in
+      let breaks : (after k (Commit kind name) (Refused error)).broken ≡ true → mid.poisoned ≡ true =
+      λ broken. ⊎_elim (λ is. stays_poisoned w.told.state mid (change_of (tx_of g)) (Refused error) refused (known.broken is))
+      (λ fault. fault_poisons w.told.state mid (change_of (tx_of g)) fault.0 (asks_some w.told.state (items_of (tx_of g).own) (ByMode (tx_of g).mode) (some_items (tx_of g).own some))
+      (subst (λ (e : Error). StepOf w.told.state (change_of (tx_of g)) (Refused e) mid) fault.1 refused)) (refused_breaks k kind name error broken) in
       commit_tells (outcomes.Aborted error) step cause (subst (SameOn w.told new) (sym (refused_none k kind name error)) (same_still w.told new goes same))
       (closing_next mid new.state id closes ∙ ap (λ (t : Times). t.tickets.next) still)
       (gone_refused k kind name error (λ e. (subst (HasCause k (Commit kind name)) e cause) was.tx named_is kind_is))
       (alike_as (present w.told.state) (present new.state) k.present _ (ap latest (turned_history mid new.state (Close id) Done closes.1 ∙ ap (λ (t : Times). t.history) still)) refl known.alike)
-      (later.0 ∙ first.0) (λ poisoned. ⊎_elim (λ is. first.1 is) (λ none. absurd (true≢false (sym none))) (later.1 poisoned)) refl
+      (later.0 ∙ first.0) (λ poisoned. ⊎_elim (λ is. first.1 is) (λ none. absurd (true≢false (sym none))) (later.1 poisoned))
+      (λ broken. stays_poisoned mid new.state (OfTickets (Close id)) Done closes (breaks broken)) refl
 
   -- its command is accepted
   succeeds : (instant : ℕ) → get w.told.state.tickets.instants (tx_of g).ticket.id ≡ Some instant → (tx_of g).own ≢ empty → (MeetsSome instant (tx_of g).marks (commits (history_of w.told)) → ⊥)
@@ -461,14 +490,19 @@ module _ (w : World) (before : List Reply) (k : Known) (kind : Kind) (name : ℕ
       let something : (was.tx.own ≡ [] → ⊥) = λ nothing. some (was.same.own.no_items nothing) in
       let began : instant ≡ (tx_of g).ticket.instant = instant_is instant opened in
       commit_tells outcomes.Ok step (
-        was.tx,
-        named_is,
-        kind_is,
         (
-          own_lawful k.present own was.tx.own was.same.own (change_lawful w.told.state k.present (items_of own) (ByMode (tx_of g).mode) known.alike made.0),
-          inr (λ met. apart (subst (λ (i : ℕ). MeetsSome i marks (commits (history_of w.told))) (sym began)
-              (some_met (history_of w.told) (tx_of g).ticket.instant own marks (tx_of g).mode was.tx was.same met))),
+          was.tx,
+          named_is,
+          kind_is,
+          (
+            own_lawful k.present own was.tx.own was.same.own (change_lawful w.told.state k.present (items_of own) (ByMode (tx_of g).mode) known.alike made.0),
+            inr (λ met. apart (subst (λ (i : ℕ). MeetsSome i marks (commits (history_of w.told))) (sym began)
+                (some_met (history_of w.told) (tx_of g).ticket.instant own marks (tx_of g).mode was.tx was.same met))),
+          ),
         ),
+        tt,
+        λ broken. absurd (asks_some w.told.state (items_of own) (ByMode (tx_of g).mode) (some_items own some)
+            (poisoned_refuses w.told.state (change_of (tx_of g)) (known.broken broken) made.0)),
       )
       (subst (SameOn w.told new) (sym (wrote_named k kind name was.tx named_is))
       (same_committed w.told new (tx_of g).ticket.instant own marks kind (tx_of g).mode was.tx goes was.same kind_is something
@@ -478,7 +512,9 @@ module _ (w : World) (before : List Reply) (k : Known) (kind : Kind) (name : ℕ
       (ap latest (turned_history mid new.state (Close id) Done closes.1) ∙ made_present w.told.state mid (items_of own) (ByMode (tx_of g).mode) (some_items own some) made.1)
       (ap (λ (items : List Item). fold k.present (one_write items)) (items_named k kind name was.tx named_is) ∙ ap (fold k.present) (one_of was.tx.own something))
       (own_alike own was.tx.own was.same.own (present w.told.state) k.present known.alike))
-      (later.0 ∙ first.0) (λ poisoned. ⊎_elim (λ is. first.1 is) (λ none. absurd (true≢false (sym none))) (later.1 poisoned)) refl
+      (later.0 ∙ first.0) (λ poisoned. ⊎_elim (λ is. first.1 is) (λ none. absurd (true≢false (sym none))) (later.1 poisoned))
+      (λ broken. stays_poisoned mid new.state (OfTickets (Close id)) Done closes
+      (stays_poisoned w.told.state mid (change_of (tx_of g)) Done made (known.broken (broken_before k.broken _ broken)))) refl
 
   -- whatever comes of it
   ends : (outcome : CommitOutcome Error) → CommitStep w.told (tx_of g) outcome new → Tells world before k (Commit kind name) (reply_to outcome)

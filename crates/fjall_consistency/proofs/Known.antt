@@ -1,11 +1,11 @@
 -- What is known of a list of calls, beside the world that an engine goes through.
-use Rattle.std.proofs.Common.{◌≡◌, ◌≢◌, ◌⊎◌, inl, inr, ⊎_elim, ℕ, ◌+◌, ◌-◌, ◌<◌, ◌≤◌, ◌^◌, Bool, true, false, List, [], ◌∷◌, ◌++◌, length, All, Option, None, Some, unwrap_or, refl, sym, ap, subst, ◌∙◌, arith}
+use Rattle.std.proofs.Common.{◌≡◌, ◌≢◌, ◌⊎◌, ℕ, ◌-◌, ◌<◌, ◌≤◌, ◌^◌, true, List, [], ◌∷◌, ◌++◌, length, All, Option, None, Some, unwrap_or}
 use Rattle.std.specs.Prelude.{Contains, slice_get}
 use Rattle.std.specs.FinMap.{get}
 use Rattle.fjall_base.specs.Store.{Store}
 use Rattle.fjall_history.specs.declared.reply.Reply.{Reply}
 use Rattle.fjall_history.specs.declared.ticket.Ticket.{Ticket}
-use Rattle.fjall_history.specs.Histories.{number, view}
+use Rattle.fjall_history.specs.Histories.{view}
 use Rattle.fjall_history.specs.Tickets.{is_open}
 use Rattle.fjall_machine.specs.Machine.{State, present}
 use Rattle.fjall_machine.specs.Places.{id_opened}
@@ -56,6 +56,7 @@ pub record IsKnown (w : World) (before : List Reply) (k : Known) : Type 0 where
   pub small : w.told.state.tickets.next ≤ no_id
   pub undamaged : w.told.state.damaged ≡ []
   pub well : w.told.state.poisoned ≡ true → k.failed ≡ true
+  pub broken : k.broken ≡ true → w.told.state.poisoned ≡ true
   pub snapshots : length k.snapshots ≡ length before
   pub transactions : length k.transactions ≡ length before
   pub shown : (place : ℕ) → IsShown w.told.state (id_opened (slice_get before place)) (unwrap_or (slice_get k.snapshots place) None)

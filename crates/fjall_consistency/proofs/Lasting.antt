@@ -1,9 +1,8 @@
 -- One life after another.
-use Rattle.std.proofs.Common.{◌≡◌, inl, inr, ℕ, zero, suc, ◌<◌, Bool, true, false, cond, List, [], ◌∷◌, ◌++◌, length, take, All, Option, None, Some, IsSome, IsTrue, Result, Ok, Err, refl, sym, ◌∙◌, ap, subst, append_assoc, arith, length-append}
+use Rattle.std.proofs.Common.{◌≡◌, inl, inr, ℕ, zero, suc, ◌≤◌, Bool, true, false, cond, List, [], ◌∷◌, ◌++◌, length, take, Option, None, Some, IsSome, IsTrue, Result, Ok, Err, refl, sym, ◌∙◌, ap, subst, append_assoc, arith, length-append}
 use Rattle.std.proofs.lemmas.Bool.{true≢false}
 use Rattle.std.proofs.lemmas.Option.{none-some}
 use Rattle.std.proofs.lemmas.List.Elements.{All-nil}
-use Rattle.std.specs.Prelude.{Contains, slice_get}
 use Rattle.std.specs.FinMap.{contains_key, empty, get, get-empty, get-retain_keys, nat_cmp-IsAntisymmetric, retain_keys}
 use Rattle.std.specs.Ordering.{nat_cmp}
 use Rattle.fjall_contents.proofs.Slots.{same_maps}
@@ -21,15 +20,14 @@ use Rattle.fjall_journal.specs.declared.recovery_mode.RecoveryMode.TheVariants.{
 use Rattle.fjall_meta.specs.Keyspaces.{no_keyspaces}
 use Rattle.fjall_history.specs.Histories.{commands_of, latest}
 use Rattle.fjall_history.specs.declared.reply.Reply.{Reply}
-use Rattle.fjall_history.specs.declared.ticket.Ticket.{Ticket}
 use Rattle.fjall_history.proofs.Moving.{sound_opening}
 use Rattle.fjall_machine.specs.Machine.{present}
 use Rattle.fjall_recovery.specs.Amid.{HoldsAmid}
 use Rattle.fjall_recovery.specs.Amid as amid
 use Rattle.fjall_recovery.specs.Folders.{Contents, ImageStandsFor}
 use Rattle.fjall_recovery.specs.Held.{IsOpenFolder}
-use Rattle.fjall_recovery.specs.Refusals.{HasTornTail, IsDue, IsTornTail}
-use Rattle.fjall_core.specs.Crashes.{RunOn, at_most_one}
+use Rattle.fjall_recovery.specs.Refusals.{IsDue, IsTornTail}
+use Rattle.fjall_core.specs.Crashes.{at_most_one}
 use Rattle.fjall_core.specs.Durables.{Passes}
 use Rattle.fjall_core.specs.Holding.{Held}
 use Rattle.fjall_core.specs.Openings.{OpensAmid, OpensAs}
@@ -44,7 +42,6 @@ use Rattle.fjall_transactions.specs.Transactions.{Kept, none_kept}
 use Rattle.fjall_transactions.proofs.Standing.{opening_stands}
 use Rattle.fjall_calls.specs.declared.call.TxCall.{TxCall}
 use Rattle.fjall_calls.specs.Serving.{RunsTx}
-use Rattle.fjall_calls.specs.Worlds.{Going, World}
 use Rattle.fjall_calls.specs.Worlds as worlds
 use Rattle.fjall_calls.proofs.Standing.{kept_beginning}
 use Rattle.fjall_consistency.specs.Alike.{AreAlike}
@@ -52,7 +49,7 @@ use Rattle.fjall_consistency.specs.Consistency.{AreAnswers, AreLives, IsBeginnin
 use Rattle.fjall_consistency.specs.Links.{EndsAs, GoesOn, IsClosed, IsFresh, IsLet, IsTurned, IsUnclosed, Leaves, LivesOn, PassesOn, ServesOn}
 use Rattle.fjall_consistency.specs.declared.life.Life.{Life}
 use Rattle.fjall_consistency.specs.declared.life.Told as lives
-use Rattle.fjall_consistency.proofs.Alike.{AllAlike, alike_front, alike_itself, alike_length, begins_longer, fold_alike, kept_alike, same_front, shorter}
+use Rattle.fjall_consistency.proofs.Alike.{AllAlike, alike_front, alike_itself, alike_length, begins_longer, fold_alike, kept_alike, same_front}
 use Rattle.fjall_consistency.proofs.Attempting.{all_tried, synced_at}
 use Rattle.fjall_consistency.proofs.Known.{IsGoing, IsKnown, IsWritersOwn, no_id}
 use Rattle.fjall_consistency.proofs.Telling.{all_told}
@@ -74,6 +71,7 @@ known_first core store start opens alike = record {
   small = omega arith;
   undamaged = refl;
   well = λ poisoned. absurd (true≢false (sym poisoned));
+  broken = λ broke. absurd (true≢false (sym broke));
   snapshots = refl;
   transactions = refl;
   shown = λ place. record { given = inr refl; there = λ instant found. absurd (none-some instant (sym (get-empty nat_cmp no_id) ∙ found)); closed = λ none. refl };
@@ -97,6 +95,12 @@ first_attempted k (c ∷ calls) [] (suc n) = ([], refl)
 first_attempted k (c ∷ calls) (r ∷ replies) (suc n) =
     let more = first_attempted (after k c r) calls replies n in
     (more.0, append_assoc (attempted k c r) _ more.0 ∙ ap (λ (l : List Command). attempted k c r ++ l) more.1)
+
+-- a beginning of one of two lists that go before the same rest is no longer than the other with more behind it
+no_longer : (before settled safe front pending tried : List Command) → IsBeginning before settled → settled ++ pending ≡ tried → safe ++ pending ≡ tried → length before ≤ length (safe ++ front)
+no_longer before settled safe front pending tried has one other =
+    let same : settled ≡ safe = append_cancel_right settled safe pending (one ∙ sym other) in
+    omega (arith, ap length (has.1 ∙ same), length-append before has.0, length-append safe front)
 
 -- Calls that a core served which opened as this store: the calls of the core that they came to, over the disk.
 module _ (honest : Bool) (h : IsTrue honest) (core new : Held) (beside : Kept) (store : Store) (calls : List TxCall) (replies : List Reply) (opens : OpensAs core store) (ran : RunsTx honest core none_kept calls replies new beside) where
@@ -138,15 +142,11 @@ module _ (honest : Bool) (h : IsTrue honest) (core new : Held) (beside : Kept) (
         let (v, stands, reads, through) = ran.runs h (told_as core store opens) (stands_as core store opens) opens.reads in
         let there = synced_at (worlds.begins (told_as core store opens) None) v [] (begins start) calls replies ran.made ran.told (start_of core store opens) run.state (begun core store) run.durable run.tried known through alike run.run i sync in
         let at = run.synced there.place there.sync in
-        let same : at.settled.safe ≡ safe = append_cancel_right at.settled.safe safe run.durable.pending (at.settled.rest ∙ sym rest) in
         let upto = all_attempted (begins start) (take (suc i) calls) (take (suc i) replies) in
         let n = alike_length at.before upto (there.so_far at.mid at.on at.before at.so_far) in
         let m = alike_length (safe ++ front) other each in
-        let all : (at.before ++ at.settled.has.0) ++ front ≡ safe ++ front = ap (λ (l : List Command). l ++ front) (at.settled.has.1 ∙ same) in
-        let a = length-append (at.before ++ at.settled.has.0) front in
-        let b = length-append at.before at.settled.has.0 in
-        let c : length ((at.before ++ at.settled.has.0) ++ front) ≡ length (safe ++ front) = ap length all in
-        begins_longer upto other (all_attempted (begins start) calls replies) (first_attempted (begins start) calls replies (suc i)) begins_all (omega (arith, n, m, a, b, c))
+        let fits = no_longer at.before at.settled.safe safe front run.durable.pending run.tried at.settled.has at.settled.rest rest in
+        begins_longer upto other (all_attempted (begins start) calls replies) (first_attempted (begins start) calls replies (suc i)) begins_all (omega (arith, n, m, fits))
 
     -- so it is of each beginning of what waits
     left : (safe : List Command) → safe ++ run.durable.pending ≡ run.tried → (front : List Command) → amid.IsBeginning front run.durable.pending

@@ -7,20 +7,13 @@ use Rattle.std.specs.List.{list_any}
 use Rattle.fjall_base.specs.Pairs.{Bytes}
 use Rattle.fjall_base.specs.Store.{Item, Store}
 use Rattle.fjall_journal.specs.Changes.{Items}
-use Rattle.fjall_journal.specs.Ops.{BatchItem, item_in, value_in}
-use Rattle.fjall_journal.specs.declared.op.Op.TheVariants.{Put, Remove, RemoveWeak}
+use Rattle.fjall_journal.specs.Ops.{BatchItem, item_in}
 use Rattle.fjall_tx.specs.Owns.{Own, items_of, key_of}
-use Rattle.fjall_writes.specs.Ingestions.{KeyOp}
-use Rattle.fjall_history.specs.declared.reply.Reply.{Reply}
-use Rattle.fjall_machine.specs.Machine.{State, due, facts, ingestion_refusals, is_deleted, items_refusals, present}
-use Rattle.fjall_machine.specs.Places.{resolved}
-use Rattle.fjall_machine.specs.Shapes.{AsKeyspace, ByMode, OfChange, OfIngestion, Persistence, shape_of}
-use Rattle.fjall_machine.specs.declared.call.Call.{Call}
-use Rattle.fjall_machine.specs.declared.call.Call.TheVariants as core
+use Rattle.fjall_machine.specs.Machine.{State, due, facts, is_deleted, items_refusals, present}
+use Rattle.fjall_machine.specs.Shapes.{OfChange, Persistence}
 use Rattle.fjall_machine.proofs.Dues.{below, none_due}
-use Rattle.fjall_calls.specs.declared.call.TxCall.TheVariants.{Core}
 use Rattle.fjall_consistency.specs.Alike.{AreAlike}
-use Rattle.fjall_consistency.specs.Consistency.{AreLawful, Known, is_living, items_in}
+use Rattle.fjall_consistency.specs.Consistency.{AreLawful, is_living}
 use Rattle.fjall_consistency.proofs.Alike.{IsOwn}
 use Rattle.fjall_consistency.proofs.Causes.{contains_map}
 use Rattle.fjall_consistency.proofs.Marking.{item_there}
@@ -53,27 +46,6 @@ change_lawful s e (first ∷ rest) how alike none =
     let long = none_passes (λ (item : BatchItem). nat_le (2 ^ 16) (length item.1)) items causes.1.0 in
     let deleted = none_passes (λ (item : BatchItem). is_deleted (present s) item.0) items causes.1.1.1.1.0 in
     All-map (λ (item : Item). IsLawful e item.id item.key) item_in items (λ k d within. lawful_there (present s) e _ _ alike (empty k d within) (long k d within) (deleted k d within))
-
--- the items of an ingestion
-pub ingestion_lawful : (s : State) (e : Store) (id : ℕ) (items : List KeyOp) → AreAlike (present s) e → due s (OfIngestion id items) ≡ None
-    → AreLawful e (map (λ (item : KeyOp). record { id = id; key = item.0; value = value_in item.1 }) items)
-ingestion_lawful s e id [] alike none = All-nil (λ (item : Item). IsLawful e item.id item.key)
-ingestion_lawful s e id (first ∷ rest) alike none =
-    let items : List KeyOp = first ∷ rest in
-    let causes = none_due (ingestion_refusals (facts s) id items) none in
-    let empty = none_passes (λ (item : KeyOp). length item.0 == 0) items causes.0 in
-    let long = none_passes (λ (item : KeyOp). nat_le (2 ^ 16) (length item.0)) items causes.1.0 in
-    All-map (λ (item : Item). IsLawful e item.id item.key) (λ (item : KeyOp). record { id = id; key = item.0; value = value_in item.1 }) items
-    (λ k d within. lawful_there (present s) e id _ alike (empty k d within) (long k d within) causes.1.1.1.1.1.0)
-
--- what a call of the core writes
-pub core_lawful : (s : State) (k : Known) (before : List Reply) (c : Call) → AreAlike (present s) k.present → due s (shape_of (resolved before c)) ≡ None → AreLawful k.present (items_in k (Core c))
-core_lawful s k before (core.Insert id key value) alike none = change_lawful s k.present ((id, key, Put value) ∷ []) (AsKeyspace id) alike none
-core_lawful s k before (core.Remove id key) alike none = change_lawful s k.present ((id, key, Remove) ∷ []) (AsKeyspace id) alike none
-core_lawful s k before (core.RemoveWeak id key) alike none = change_lawful s k.present ((id, key, RemoveWeak) ∷ []) (AsKeyspace id) alike none
-core_lawful s k before (core.CommitBatch items mode) alike none = change_lawful s k.present items.items (ByMode mode) alike none
-core_lawful s k before (core.Ingest id items) alike none = ingestion_lawful s k.present id items.items alike none
-core_lawful s k before c alike none = All-nil (λ (item : Item). IsLawful k.present item.id item.key)
 
 -- what a transaction wrote, where what is left of it in a map is lawful
 pub own_lawful : (e : Store) (own : Own) (items : List Item) → IsOwn own items → AreLawful e (map item_in (items_of own)) → AreLawful e items

@@ -208,11 +208,11 @@ moved : (id : ℕ) (k : Known) (call : TxCall) (reply : Reply) (key : Bytes) →
 moved id k call reply key all is (inr same) = inr (ap (λ (m : Pairs). lookup m key) same)
 moved id k (Commit Optimistic place) (Flag true) key all is (inl optimistic) =
     subst (λ (o : Option Transaction). Contains (flat_map (λ (t : Transaction). if length t.own == 0 then [] else t.writes) (option_to_list o)) (id, key)
-    ⊎ (value_at (fold k.present (one_write (flat_map (λ (t : Transaction). t.own) (option_to_list o)))) id key ≡ value_at k.present id key)) (sym is.1)
-    (committed id k.present is.0.own is.0.writes key (of_named id k place is.0 all is.1).marked)
+    ⊎ (value_at (fold k.present (one_write (flat_map (λ (t : Transaction). t.own) (option_to_list o)))) id key ≡ value_at k.present id key)) (sym is.0.1)
+    (committed id k.present is.0.0.own is.0.0.writes key (of_named id k place is.0.0 all is.0.1).marked)
 moved id k (Commit Optimistic place) (Flag false) key all is (inl optimistic) = inr refl
 moved id k (Commit Optimistic place) (Refused error) key all is (inl optimistic) = inr refl
-moved id k (Commit Optimistic place) reply key all is (inl optimistic) = absurd is.3
+moved id k (Commit Optimistic place) reply key all is (inl optimistic) = absurd is.0.3
 moved id k call reply key all is (inl optimistic) = absurd optimistic
 
 -- one that goes on beside the call
@@ -253,7 +253,7 @@ acts id k tx key is apart kind covered = by (is.stands key)
 
 -- so it acts now, where it commits
 acts_now : (id : ℕ) (k : Known) (call : TxCall) (reply : Reply) → AllStand id k.present k.transactions → IsAnswer k call reply → ActsNow id k call reply
-acts_now id k (Commit Optimistic place) (Flag true) all (tx, at, kind, outcome) =
+acts_now id k (Commit Optimistic place) (Flag true) all ((tx, at, kind, outcome), made, nothing) =
     subst (λ (o : Option Transaction). (t : Transaction) → o ≡ Some t → t.own ≢ [] → (key : Bytes) → IsCovered t.reads id key → value_at t.view id key ≡ value_at k.present id key) (sym at)
     (λ t is. subst (λ (t : Transaction). t.own ≢ [] → (key : Bytes) → IsCovered t.reads id key → value_at t.view id key ≡ value_at k.present id key) (same_Some tx t is)
     (λ some key covered. acts id k tx key (of_named id k place tx all at) (⊎_elim (λ none. absurd (some none)) (λ apart. apart) outcome.1) kind covered))

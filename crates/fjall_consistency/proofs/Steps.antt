@@ -1,6 +1,9 @@
 -- What each step of the machine does to the store, to the tickets, to what is told, and to whether the engine is well.
-use Rattle.std.proofs.Common.{◌≡◌, ◌⊎◌, inl, inr, ℕ, Bool, true, false, if◌then◌else◌, List, [], ◌∷◌, Option, None, Some, refl, sym, ap, ◌∙◌}
+use Rattle.std.proofs.Common.{◌≡◌, ◌⊎◌, inl, inr, ℕ, ◌||◌, ◌&&◌, not, Bool, true, false, if◌then◌else◌, List, [], ◌∷◌, Option, None, Some, refl, sym, ap, ◌∙◌}
 use Rattle.std.proofs.lemmas.Bool.{true≢false}
+use Rattle.std.proofs.lemmas.Option.{none-some}
+use Rattle.std.specs.List.{list_any}
+use Rattle.std.specs.declared.io.ErrorKind.{ErrorKind}
 use Rattle.fjall_base.specs.Pairs.{Bytes}
 use Rattle.fjall_base.specs.Store.{Command, Create, Delete, Store, fold}
 use Rattle.fjall_base.specs.declared.error.Error.{Error}
@@ -19,10 +22,11 @@ use Rattle.fjall_history.specs.Queries.{Get, Page}
 use Rattle.fjall_history.specs.Tickets.{Tickets}
 use Rattle.fjall_machine.specs.Shapes.{CallShape, Count, DiskSpace, Entries, Exists, Flushes, JournalSpace, Keyspaces, MergesDone, MergesOut, Next, OfChange, OfCount, OfCreation, OfDeletion, OfFlushBegin, OfFlushFinish, OfHandle, OfIngestion, OfJournalRotation, OfMaintenance, OfMergeBegin, OfMergeFinish, OfPersist, OfRead, OfRotation, OfTickets, OneLess, OneMore, OpenTickets, SealedMemtables, Tables, TablesL0, TicketCall, ToFlush, Visible, WriteBuffer}
 use Rattle.fjall_machine.specs.Shapes as shapes
-use Rattle.fjall_machine.specs.Machine.{Answers, BeginsFlush, BeginsMerge, CountIs, CreatesOrFinds, EvictsSome, FinishesFlush, FinishesMerge, IngestionFails, IngestsInto, IsPoisoned, MayFail, Refuses, State, StepOf, WorkFails, at_fault, begins_flush, begins_merge, deleted, due, has_name, is_flushing, is_living, is_long, is_merging, journal_rotated, journal_synced, present, rotated, rotates, takes_effect, times, written_out}
+use Rattle.fjall_machine.specs.Machine.{Answers, BeginsFlush, BeginsMerge, CountIs, CreatesOrFinds, EvictsSome, FinishesFlush, FinishesMerge, IngestionFails, IngestsInto, IsPoisoned, MayFail, ReadsTables, Refuses, State, StepOf, WorkFails, at_fault, begins_flush, begins_merge, clear_refusals, creation_refusals, deleted, deletion_refusals, due, facts, first_due, has_name, ingestion_refusals, is_flushing, is_living, is_long, is_merging, items_refusals, journal_rotated, journal_synced, present, rotated, rotates, takes_effect, times, written_out}
+use Rattle.fjall_machine.proofs.Dues.{is_so, neither, none_due}
 use Rattle.fjall_machine.proofs.Viewing.{latest_grown}
 use Rattle.fjall_consistency.specs.Consistency.{is_fault}
-use Rattle.fjall_core.specs.Crashes.{asked}
+use Rattle.fjall_core.specs.Crashes.{asked, is_io}
 
 -- ---- refused
 
@@ -383,3 +387,129 @@ no_other s t (OfRead view id (Get key)) ticket other (told, same) = other_reply 
 no_other s t (OfRead view id (Page range back max)) ticket other ((found, told, are), same) = other_reply ticket _ told refl
 no_other s t (OfPersist mode) ticket other (told, is) = other_reply ticket _ told refl
 no_other s t (OfCount count) ticket other (told, same) = count_other s count ticket told
+
+-- ---- behind a fault
+
+-- what is poisoned is so
+poisoned_by : (s t : State) → IsPoisoned s t → t.poisoned ≡ true
+poisoned_by s t poisoned = ap (λ (x : State). x.poisoned) poisoned.is
+
+-- where an ingestion fails, the engine is poisoned; where a worker's step fails, it is, or nothing changes
+ingestion_poisons : (s t : State) (id : ℕ) (items : List KeyOp) → IngestionFails s id items t → t.poisoned ≡ true
+ingestion_poisons s t id items (inl poisoned) = poisoned_by s t poisoned
+ingestion_poisons s t id items (inr (inl poisoned)) = poisoned_by (journal_synced s) t poisoned
+ingestion_poisons s t id items (inr (inr (mid, left, ingests, evicts, poisoned))) = poisoned_by _ t poisoned
+
+work_poisons : (s t : State) (shape : CallShape) → WorkFails shape s t → (t ≡ s) ⊎ (t.poisoned ≡ true)
+work_poisons s t (OfFlushBegin id) (begins, left, poisoned) = inr (poisoned_by s t poisoned)
+work_poisons s t (OfFlushFinish job) (due, well, inl poisoned) = inr (poisoned_by s t poisoned)
+work_poisons s t (OfFlushFinish job) (due, well, inr (parts, mid, flushed, evicts, poisoned)) = inr (poisoned_by mid t poisoned)
+work_poisons s t (OfMergeBegin kind id) (begins, left, same) = inl same
+work_poisons s t (OfMergeFinish job) (due, well, inl poisoned) = inr (poisoned_by s t poisoned)
+work_poisons s t (OfMergeFinish job) (due, well, inr (parts, merged, poisoned)) = inr (poisoned_by (record s { parts = parts }) t poisoned)
+work_poisons s t OfMaintenance (mid, evicts, poisoned) = inr (poisoned_by mid t poisoned)
+work_poisons s t (OfIngestion id []) fails = absurd fails
+work_poisons s t (OfIngestion id (item ∷ items)) (left, fails) = inr (ingestion_poisons s t id (item ∷ items) fails)
+work_poisons s t (OfChange change how) fails = absurd fails
+work_poisons s t (OfCreation name options) fails = absurd fails
+work_poisons s t (OfDeletion id) fails = absurd fails
+work_poisons s t (OfHandle call id) fails = absurd fails
+work_poisons s t (OfRotation id) fails = absurd fails
+work_poisons s t OfJournalRotation fails = absurd fails
+work_poisons s t (OfRead view id query) fails = absurd fails
+work_poisons s t (OfTickets call) fails = absurd fails
+work_poisons s t (OfPersist mode) fails = absurd fails
+work_poisons s t (OfCount count) fails = absurd fails
+
+-- so it is where any call is refused
+failure_leaves : (s t : State) (shape : CallShape) (error : Error) → MayFail shape error s t → (t ≡ s) ⊎ (t.poisoned ≡ true)
+failure_leaves s t shape (Io kind) (inl (changes, fault)) = inr (poisoned_by (at_fault s shape) t fault)
+failure_leaves s t shape (Io kind) (inr (inl (reads, same))) = inl same
+failure_leaves s t shape (Io kind) (inr (inr fails)) = work_poisons s t shape fails
+failure_leaves s t shape OutOfMemory (takes, same) = inl same
+failure_leaves s t shape (Storage told) (is, damaged, same) = inl same
+failure_leaves s t shape ValueTooLong (long, same) = inl same
+failure_leaves s t shape Poisoned (late, same) = inl same
+failure_leaves s t shape NumbersUsedUp (used_up, same) = inl same
+failure_leaves s t shape TooManyItems (none_left, same) = inl same
+failure_leaves s t shape error none = absurd none
+
+refused_leaves : (s t : State) (shape : CallShape) (error : Error) (first : Option Error) → Refuses first shape error s t → (t ≡ s) ⊎ (t.poisoned ≡ true)
+refused_leaves s t shape error (Some first) (is, same) = inl same
+refused_leaves s t shape error None fails = failure_leaves s t shape error fails
+
+poisoned_still : (s t : State) → (t ≡ s) ⊎ (t.poisoned ≡ true) → s.poisoned ≡ true → t.poisoned ≡ true
+poisoned_still s t (inl same) poisoned = ap (λ (x : State). x.poisoned) same ∙ poisoned
+poisoned_still s t (inr is) poisoned = is
+
+-- a poisoned engine stays so
+pub stays_poisoned : (s t : State) (shape : CallShape) (reply : Reply) → StepOf s shape reply t → s.poisoned ≡ true → t.poisoned ≡ true
+stays_poisoned s t shape (Refused error) refuses poisoned = poisoned_still s t (refused_leaves s t shape error (due s shape) refuses) poisoned
+stays_poisoned s t shape reply (none, answers) poisoned = ap (λ (k : Bool × List ℕ). k.0) (answered_health s t shape reply answers) ∙ poisoned
+
+-- where none of these refusals tells of a fault of the disk, none that is due does
+no_fault_due : (refusals : List (Bool × Error)) (kind : ErrorKind) → list_any (λ refusal. is_io refusal.1) refusals ≡ false → first_due refusals ≡ Some (Io kind) → ⊥
+no_fault_due [] kind none is = none-some _ is
+no_fault_due ((true, first) ∷ refusals) kind none is =
+    let same : first ≡ Io kind = cc in
+    true≢false (sym (ap (λ e. is_io e || list_any (λ refusal. is_io refusal.1) refusals) same) ∙ none)
+no_fault_due ((false, first) ∷ refusals) kind none is = no_fault_due refusals kind (neither (is_io first) (list_any (λ refusal. is_io refusal.1) refusals) none).1 is
+
+-- so a fault is met behind them
+fault_behind : (s t : State) (shape : CallShape) (kind : ErrorKind) (refusals : List (Bool × Error)) → list_any (λ refusal. is_io refusal.1) refusals ≡ false
+    → Refuses (first_due refusals) shape (Io kind) s t → MayFail shape (Io kind) s t
+fault_behind s t shape kind refusals none = by (first_due refusals) refl
+  where
+    by : (first : Option Error) → first_due refusals ≡ first → Refuses first shape (Io kind) s t → MayFail shape (Io kind) s t
+    by (Some first) is (told, same) = absurd (no_fault_due refusals kind none (is ∙ ap Some (sym told)))
+    by None is fails = fails
+
+-- then it poisons the engine, but for one in a read
+changes_poisons : (s t : State) (shape : CallShape) (kind : ErrorKind) → (ReadsTables s.parts.trees shape → ⊥) → (WorkFails shape s t → t.poisoned ≡ true) → MayFail shape (Io kind) s t → t.poisoned ≡ true
+changes_poisons s t shape kind reads works (inl (changes, fault)) = poisoned_by (at_fault s shape) t fault
+changes_poisons s t shape kind reads works (inr (inl (asks, same))) = absurd (reads asks)
+changes_poisons s t shape kind reads works (inr (inr fails)) = works fails
+
+-- a fault in a call that was to change the store poisons the engine
+pub fault_poisons : (s t : State) (shape : CallShape) (kind : ErrorKind) → (asked s shape ≡ [] → ⊥) → StepOf s shape (Refused (Io kind)) t → t.poisoned ≡ true
+fault_poisons s t (OfChange (Items []) how) kind some step = absurd (some refl)
+fault_poisons s t (OfChange (Items (item ∷ items)) how) kind some step =
+    let shape : CallShape = OfChange (Items (item ∷ items)) how in
+    changes_poisons s t shape kind (λ none. none) (λ none. absurd none) (fault_behind s t shape kind (items_refusals (facts s) (item ∷ items)) refl step)
+fault_poisons s t (OfChange (Emptied id) how) kind some step =
+    let shape : CallShape = OfChange (Emptied id) how in
+    changes_poisons s t shape kind (λ none. none) (λ none. absurd none) (fault_behind s t shape kind (clear_refusals (facts s) id) refl step)
+fault_poisons s t (OfIngestion id []) kind some step = absurd (some refl)
+fault_poisons s t (OfIngestion id (item ∷ items)) kind some step =
+    let shape : CallShape = OfIngestion id (item ∷ items) in
+    changes_poisons s t shape kind (λ none. none) (λ fails. ingestion_poisons s t id (item ∷ items) fails.1) (fault_behind s t shape kind (ingestion_refusals (facts s) id (item ∷ items)) refl step)
+fault_poisons s t (OfCreation name options) kind some step =
+    let shape : CallShape = OfCreation name options in
+    changes_poisons s t shape kind (λ none. none) (λ none. absurd none) (fault_behind s t shape kind (creation_refusals (facts s) name) refl step)
+fault_poisons s t (OfDeletion id) kind some step =
+    let shape : CallShape = OfDeletion id in
+    changes_poisons s t shape kind (λ none. none) (λ none. absurd none) (fault_behind s t shape kind (deletion_refusals (facts s) id) refl step)
+fault_poisons s t shape kind some step = absurd (some refl)
+
+-- what holds with it doesn't hold
+before_true : (a b : Bool) → b ≡ true → (a && b) ≡ false → a ≡ false
+before_true true b is none = absurd (true≢false (sym is ∙ none))
+before_true false b is none = refl
+
+-- no engine is both poisoned and well
+well_there : (s : State) → s.poisoned ≡ true → s.poisoned ≡ false → ⊥
+well_there s poisoned well = true≢false (sym poisoned ∙ well)
+
+-- a poisoned engine accepts no change any more
+pub poisoned_refuses : (s : State) (shape : CallShape) → s.poisoned ≡ true → due s shape ≡ None → asked s shape ≡ []
+poisoned_refuses s (OfChange (Items []) how) poisoned none = refl
+poisoned_refuses s (OfChange (Items (item ∷ items)) how) poisoned none = absurd (well_there s poisoned (none_due (items_refusals (facts s) (item ∷ items)) none).1.1.1.1.1.0)
+poisoned_refuses s (OfChange (Emptied id) how) poisoned none = absurd (well_there s poisoned (none_due (clear_refusals (facts s) id) none).1.1.0)
+poisoned_refuses s (OfIngestion id []) poisoned none = refl
+poisoned_refuses s (OfIngestion id (item ∷ items)) poisoned none = absurd (well_there s poisoned (none_due (ingestion_refusals (facts s) id (item ∷ items)) none).1.1.1.1.1.1.0)
+poisoned_refuses s (OfCreation name options) poisoned none =
+    let had = is_so (has_name (present s) name) (before_true (not (has_name (present s) name)) s.poisoned poisoned (none_due (creation_refusals (facts s) name) none).1.0) in
+    ap (λ b. if b then [] else (Create name (option_pairs options) ∷ [])) had
+poisoned_refuses s (OfDeletion id) poisoned none =
+    ap (λ b. if b then (Delete id ∷ []) else []) (before_true (is_living (present s) id) s.poisoned poisoned (none_due (deletion_refusals (facts s) id) none).1.0)
+poisoned_refuses s shape poisoned none = refl

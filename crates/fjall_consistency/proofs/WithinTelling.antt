@@ -1,8 +1,9 @@
 -- What a call within a transaction is told in a list, and what is known after it.
-use Rattle.std.proofs.Common.{◌≡◌, ◌≢◌, ◌⊎◌, inl, inr, ⊎_elim, ℕ, zero, suc, ◌+◌, ◌≤◌, ◌==◌, ◌||◌, Bool, true, false, if◌then◌else◌, List, [], ◌∷◌, ◌++◌, length, map, All, Option, None, Some, unwrap_or, refl, sym, ap, subst, ◌∙◌, arith, length-append}
-use Rattle.std.proofs.lemmas.Bool.{and_parts, cases_eq, eqb-true, or_left, or_right, true≢false}
+use Rattle.std.proofs.Common.{◌≡◌, ◌≢◌, ◌⊎◌, inl, inr, ⊎_elim, ℕ, zero, suc, ◌+◌, ◌≤◌, ◌==◌, ◌||◌, nat_le, not, Bool, true, false, if◌then◌else◌, List, [], ◌∷◌, ◌++◌, length, map, All, Option, None, Some, unwrap_or, refl, sym, ap, subst, ◌∙◌, arith, length-append}
+use Rattle.std.proofs.Math.Bool.{or-false}
+use Rattle.std.proofs.lemmas.Bool.{and_parts, cases_eq, eqb-false, eqb-true, leb-false, or_left, or_parts, or_right, true≢false}
 use Rattle.std.proofs.lemmas.List.{length-map, length-set}
-use Rattle.std.proofs.lemmas.List.Elements.{All-push, All-weaker, Contains-append_left, Contains-push}
+use Rattle.std.proofs.lemmas.List.Elements.{All-cons, All-nil, All-push, All-same, All-weaker, Contains-append_left, Contains-push}
 use Rattle.std.proofs.lemmas.Option.{none-some, same_Some, slice_get-map, some_pair_parts}
 use Rattle.std.specs.FinMap.{get}
 use Rattle.std.specs.Option.{option_eq, option_map}
@@ -12,7 +13,7 @@ use Rattle.fjall_base.specs.Limits.{item_refusal}
 use Rattle.fjall_base.specs.Pairs.{Bytes, Pairs, lookup, page, pairs_between}
 use Rattle.fjall_base.specs.Store.{Command, Item, Store, fold, map_at}
 use Rattle.fjall_base.specs.declared.error.Error.{Error}
-use Rattle.fjall_base.specs.declared.error.Error.TheVariants.{OutOfMemory, SnapshotClosed}
+use Rattle.fjall_base.specs.declared.error.Error.TheVariants.{Io, KeyspaceDeleted, OutOfMemory, SnapshotClosed, UnknownKeyspace}
 use Rattle.fjall_journal.specs.Ops.{bytes_in, value_in}
 use Rattle.fjall_tx.specs.Marks.{Marks, OfKey, OfRange}
 use Rattle.fjall_tx.specs.Owns.{own_written, wanted}
@@ -25,7 +26,7 @@ use Rattle.fjall_history.specs.declared.reply.Reply.TheVariants.{Done, Opened, R
 use Rattle.fjall_history.specs.declared.ticket.Ticket.{Ticket}
 use Rattle.fjall_history.specs.declared.ticket.View.{View}
 use Rattle.fjall_history.specs.declared.ticket.View.TheVariants.{At}
-use Rattle.fjall_machine.specs.Machine.{State, Step, StepOf, present, times}
+use Rattle.fjall_machine.specs.Machine.{State, Step, StepOf, due, facts, first_due, is_read, is_unknown, present, times}
 use Rattle.fjall_machine.specs.Places.{id_opened}
 use Rattle.fjall_machine.specs.Shapes.{OfRead}
 use Rattle.fjall_machine.specs.declared.call.Call.{Call}
@@ -44,11 +45,11 @@ use Rattle.fjall_calls.proofs.Marking.{Keeps, keeps_answered}
 use Rattle.fjall_transactions.specs.Standing.{history_of}
 use Rattle.fjall_transactions.specs.Transactions.{Tx, having_read, having_touched, is_same_value, op_of, replace_refusal, replacing, with_own}
 use Rattle.fjall_consistency.specs.Alike.{AreAlike}
-use Rattle.fjall_consistency.specs.Consistency.{HasCause, IsAnswer, IsToldWithin, Known, Transaction, accepted, after as known_after, after_within, ids_in, is_fault, items_in, met_by, named, one, seen, transactions_after, updating, value_at}
+use Rattle.fjall_consistency.specs.Consistency.{HasCause, IsAnswer, IsMade, IsToldWithin, Known, NamesMade, Transaction, accepted, after as known_after, after_within, ids_in, is_fault, items_in, met_by, named, one, seen, transactions_after, updating, value_at}
 use Rattle.fjall_consistency.proofs.Causes.{item_cause, read_cause}
 use Rattle.fjall_consistency.proofs.Going.{IsSame, same_mode, same_read, same_update, same_update_kept, same_write, sees_same}
 use Rattle.fjall_consistency.proofs.Known.{IsWritersOwn, AreApart, AreTwo, IsGoing, IsKnown, Tells, no_id}
-use Rattle.fjall_consistency.proofs.Steps.{refused_times, stays_well}
+use Rattle.fjall_consistency.proofs.Steps.{refused_times, stays_poisoned, stays_well}
 use Rattle.fjall_consistency.proofs.Turning.{SameOn, Turns, all_shown, along_same, apart_push, apart_taken, going_on, named_after, never_open, none_shown, one_each_still, real_id, taken_or_left}
 
 -- ---- lists
@@ -76,11 +77,11 @@ set_same (z ∷ xs) (suc k) x at = ap (λ l. z ∷ l) (set_same xs k x at)
 -- ---- what the core is asked
 
 -- a query of one keyspace is of that one
-same_id : (i id : ℕ) (query other : Query) → ◌≡◌ {A = Option (ℕ × Query)} (Some (i, query)) (Some (id, other)) → Contains (i ∷ []) id
-same_id i id query other is = (0, omega arith, (some_pair_parts i id query other is).0)
+same_id : (i id : ℕ) (query other : Query) → ◌≡◌ {A = Option (ℕ × Query)} (Some (i, query)) (Some (id, other)) → i ∷ [] ≡ id ∷ []
+same_id i id query other is = ap (λ j. j ∷ []) (some_pair_parts i id query other is).0
 
--- the keyspace that a call reads is one that it names
-read_named : (k : Known) (name : ℕ) (call : Inner) (id : ℕ) (query : Query) → query_of call ≡ Some (id, query) → Contains (ids_in k (Within name call)) id
+-- the keyspace that a call reads is the one that it names
+read_named : (k : Known) (name : ℕ) (call : Inner) (id : ℕ) (query : Query) → query_of call ≡ Some (id, query) → ids_in k (Within name call) ≡ id ∷ []
 read_named k name (inner.Get i key) id query is = same_id i id (Get key) query is
 read_named k name (inner.Page i range back max) id query is = same_id i id (Page range back max) query is
 read_named k name (inner.Take i key) id query is = same_id i id (Get key) query is
@@ -88,6 +89,10 @@ read_named k name (inner.FetchUpdate i key new) id query is = same_id i id (Get 
 read_named k name (inner.UpdateFetch i key new) id query is = same_id i id (Get key) query is
 read_named k name (inner.Write i key op) id query is = absurd (none-some (id, query) is)
 read_named k name (inner.Durability mode) id query is = absurd (none-some (id, query) is)
+
+-- so it is among those that it names
+read_among : (k : Known) (name : ℕ) (call : Inner) (id : ℕ) (query : Query) → query_of call ≡ Some (id, query) → Contains (ids_in k (Within name call)) id
+read_among k name call id query is = subst (λ (ids : List ℕ). Contains ids id) (sym (read_named k name call id query is)) (0, omega arith, refl)
 
 -- a query is asked as a read within the view of the transaction
 read_step : (s t : State) (tx : Tx) (id : ℕ) (query : Query) (reply : Reply) → Step s (call_for tx id query) reply t → (read : Query) × StepOf s (OfRead (At tx.ticket) id read) reply t
@@ -122,7 +127,43 @@ asks_cause s t k name tx call made told alike undamaged stands AsksNothing error
 asks_cause s t k name tx call made told alike undamaged stands (AsksFor id query is reply u step) error e =
     let same : reply ≡ Refused error = cc in
     let read = read_step s u tx id query (Refused error) (subst (λ (r : Reply). Step s (call_for tx id query) r u) same step) in
-    read_cause s u k (Within name call) (At tx.ticket) id read.0 error alike undamaged stands (read_named k name call id query is) read.1
+    read_cause s u k (Within name call) (At tx.ticket) id read.0 error alike undamaged stands (read_among k name call id query is) read.1
+
+-- and a poisoned engine stays so
+asks_poisoned : (s t : State) (tx : Tx) (call : Inner) (made : List Call) (told : List Reply) → AsksCore s tx call made told t → s.poisoned ≡ true → t.poisoned ≡ true
+asks_poisoned s t tx call made told AsksNothing poisoned = poisoned
+asks_poisoned s t tx call made told (AsksFor id query is reply u step) poisoned =
+    let read = read_step s u tx id query reply step in stays_poisoned s u (OfRead (At tx.ticket) id read.0) reply read.1 poisoned
+
+-- where none of some refusals is due, the second isn't
+second_not_due : (first second : Bool) (one_error other_error : Error) (others : List (Bool × Error)) → first_due ((first, one_error) ∷ (second, other_error) ∷ others) ≡ None → second ≡ false
+second_not_due true second one_error other_error others none = absurd (none-some one_error (sym none))
+second_not_due false true one_error other_error others none = absurd (none-some other_error (sym none))
+second_not_due false false one_error other_error others none = refl
+
+-- where no refusal of a read is due, its keyspace was made
+due_made : (s : State) (k : Known) (ticket : Ticket) (id : ℕ) (query : Query) → AreAlike (present s) k.present → due s (OfRead (At ticket) id query) ≡ None → IsMade k.present id
+due_made s k ticket id query alike none =
+    let shut = not (is_open s.tickets ticket.id) in
+    let known = or_parts (id == 0) (nat_le (present s).next id)
+    (second_not_due shut (is_unknown (present s) id) SnapshotClosed UnknownKeyspace ((not (is_read (facts s) id), KeyspaceDeleted) ∷ []) none) in
+    (omega (arith, eqb-false id 0 known.0), omega (arith, alike.next, leb-false (present s).next id known.1))
+
+-- so it was of one that the core doesn't refuse
+read_made : (s t : State) (k : Known) (ticket : Ticket) (id : ℕ) (query : Query) (reply : Reply) → AreAlike (present s) k.present → AreFine (reply ∷ []) → StepOf s (OfRead (At ticket) id query) reply t
+    → IsMade k.present id
+read_made s t k ticket id query (Refused error) alike fine refuses = absurd fine
+read_made s t k ticket id query reply alike fine (none, answers) = due_made s k ticket id query alike none
+
+-- so all that a call names were made, which the core didn't refuse
+asks_made : (s t : State) (k : Known) (name : ℕ) (tx : Tx) (call : Inner) (made : List Call) (told : List Reply) → AreAlike (present s) k.present → AsksCore s tx call made told t
+    → (below : Reply) → told ≡ below ∷ [] → AreFine (below ∷ []) → NamesMade k (Within name call)
+asks_made s t k name tx call made told alike AsksNothing below e fine = absurd cc
+asks_made s t k name tx call made told alike (AsksFor id query is reply u step) below e fine =
+    let same : reply ≡ below = cc in
+    let read = read_step s u tx id query below (subst (λ (r : Reply). Step s (call_for tx id query) r u) same step) in
+    All-same (IsMade k.present) (ids_in k (Within name call)) (id ∷ []) (read_named k name call id query is)
+    (All-cons (IsMade k.present) id [] (read_made s u k tx.ticket id read.0 below alike fine read.1) (All-nil (IsMade k.present)))
 
 -- what the core didn't refuse is no fault
 fine_fault : (told : List Reply) → AreFine told → tells_fault told ≡ true → ⊥
@@ -228,9 +269,10 @@ answered_leaves k name call (Refused error) t answered is = absurd answered
 answered_leaves k name call reply t answered is = ap (λ (o : Option Transaction). slice_set k.transactions name (option_map (λ x. after_within x call) o)) is
 
 -- and is told so
-answered_told : (k : Known) (name : ℕ) (call : Inner) (reply : Reply) (t : Transaction) → IsAnswered reply → named k name ≡ Some t → IsToldWithin t call reply → IsAnswer k (Within name call) reply
-answered_told k name call (Refused error) t answered is told = absurd answered
-answered_told k name call reply t answered is told = (t, is, told)
+answered_told : (k : Known) (name : ℕ) (call : Inner) (reply : Reply) (t : Transaction) → IsAnswered reply → named k name ≡ Some t → IsToldWithin t call reply → NamesMade k (Within name call)
+    → IsAnswer k (Within name call) reply
+answered_told k name call (Refused error) t answered is told made = absurd answered
+answered_told k name call reply t answered is told made = ((t, is, told), made, λ broken. refl)
 
 -- no ticket is opened by it
 unopened : (reply : Reply) → IsAnswered reply → id_opened (Some reply) ≡ no_id
@@ -267,44 +309,46 @@ module _ (h : History) (instant : ℕ) (k : Known) (name : ℕ) (tx : Tx) (t : T
   }
 
   -- an answer leaves it as its call does
-  answered_comes : (call : Inner) (reply : Reply) (after : Tx) → IsAnswered reply → IsToldWithin t call reply → IsKnownAs h instant after (after_within t call) → ComesTo h instant k name call reply after
-  answered_comes call reply after answered told now = record {
-    answer = answered_told k name call reply t answered here told;
+  answered_comes : (call : Inner) (reply : Reply) (after : Tx) → IsAnswered reply → IsToldWithin t call reply → NamesMade k (Within name call) → IsKnownAs h instant after (after_within t call)
+      → ComesTo h instant k name call reply after
+  answered_comes call reply after answered told made now = record {
+    answer = answered_told k name call reply t answered here told made;
     unopened = unopened reply answered;
     new = after_within t call;
     left = answered_leaves k name call reply t answered here;
     same = now;
   }
 
-  -- each call within it, where callers know what it sees, and what the core refuses has a cause
+  -- each call within it, where callers know what it sees, what the core refuses has a cause, and what it answers is of keyspaces that were made
   comes : (s : State) → ((id : ℕ) → map_at (seen t).maps id ≡ seen_by s tx id) → (call : Inner) (told : List Reply) (reply : Reply) (after : Tx) → AnswersWithin s tx call told reply after
-      → ((error : Error) → told ≡ Refused error ∷ [] → HasCause k (Within name call) error) → ComesTo h instant k name call reply after
-  comes s sees call told reply after (IsUnread c error) causes = refused_comes c error (causes error refl)
-  comes s sees call told reply after (RunsOut c some fine may) causes = refused_comes c OutOfMemory tt
-  comes s sees call told reply after (Gets id key below r fine tells) causes =
+      → ((error : Error) → told ≡ Refused error ∷ [] → HasCause k (Within name call) error)
+      → ((below : Reply) → told ≡ below ∷ [] → AreFine (below ∷ []) → NamesMade k (Within name call)) → ComesTo h instant k name call reply after
+  comes s sees call told reply after (IsUnread c error) causes made = refused_comes c error (causes error refl)
+  comes s sees call told reply after (RunsOut c some fine may) causes made = refused_comes c OutOfMemory tt
+  comes s sees call told reply after (Gets id key below r fine tells) causes made =
       answered_comes (inner.Get id key) r (having_read tx (OfKey id key)) (subst IsAnswered (sym tells) tt)
-      (tells ∙ ap (λ (pairs : Pairs). Value (lookup pairs key)) (sym (sees id)))
+      (tells ∙ ap (λ (pairs : Pairs). Value (lookup pairs key)) (sym (sees id))) (made below refl fine)
       (same_read h instant tx.own tx.marks tx.mode t (OfKey id key) same)
-  comes s sees call told reply after (Pages id range back max below r fine (found, tells, are)) causes =
+  comes s sees call told reply after (Pages id range back max below r fine (found, tells, are)) causes made =
       answered_comes (inner.Page id range back max) r (having_read tx (OfRange id range.0 range.1)) (subst IsAnswered (sym tells) tt)
-      (found, tells, are ∙ ap (λ (pairs : Pairs). page back max (pairs_between range pairs)) (sym (sees id)))
+      (found, tells, are ∙ ap (λ (pairs : Pairs). page back max (pairs_between range pairs)) (sym (sees id))) (made below refl fine)
       (same_read h instant tx.own tx.marks tx.mode t (OfRange id range.0 range.1) same)
-  comes s sees call told reply after (Writes id key op fits) causes =
-      answered_comes (inner.Write id key op) Done (with_own tx id key op) tt refl (same_write h instant tx.own tx.marks tx.mode t id key op same)
-  comes s sees call told reply after (IsUnwritable id key op error due) causes =
+  comes s sees call told reply after (Writes id key op fits) causes made =
+      answered_comes (inner.Write id key op) Done (with_own tx id key op) tt refl (All-nil (IsMade k.present)) (same_write h instant tx.own tx.marks tx.mode t id key op same)
+  comes s sees call told reply after (IsUnwritable id key op error due) causes made =
       refused_comes (inner.Write id key op) error (item_cause k (Within name (inner.Write id key op)) id key op error (0, omega arith, refl) due)
-  comes s sees call told reply after (Updates c id key new found is below fine finds fits) causes =
+  comes s sees call told reply after (Updates c id key new found is below fine finds fits) causes made =
       let known : found ≡ value_at (seen t) id key = finds ∙ ap (λ (pairs : Pairs). lookup pairs key) (sym (sees id)) in
       let next = replacing (having_read tx (OfKey id key)) id key found new in
-      answered_comes c (update_reply c found) next (update_answered c found) (update_told t c id key new found is known)
+      answered_comes c (update_reply c found) next (update_answered c found) (update_told t c id key new found is known) (made below refl fine)
       (subst (IsKnownAs h instant next) (update_after t c id key new is) (update_same h instant tx t id key found new same known))
-  comes s sees call told reply after (IsNotUpdated c id key new found is below fine finds error due) causes =
+  comes s sees call told reply after (IsNotUpdated c id key new found is below fine finds error due) causes made =
       refused_comes c error
       (item_cause k (Within name c) id key (op_of new) error
       (subst (λ (items : List Item). Contains items (record { id = id; key = key; value = value_in (op_of new) })) (sym (update_item k name c id key new is)) (0, omega arith, refl))
       (update_due key found new error due))
-  comes s sees call told reply after (Persists mode) causes =
-      answered_comes (inner.Durability mode) Done (record tx { mode = mode }) tt refl (same_mode h instant tx.own tx.marks tx.mode mode t same)
+  comes s sees call told reply after (Persists mode) causes made =
+      answered_comes (inner.Durability mode) Done (record tx { mode = mode }) tt refl (All-nil (IsMade k.present)) (same_mode h instant tx.own tx.marks tx.mode mode t same)
 
 -- what a transaction sees is what callers know that it sees
 seen_is : (w : World) (before : List Reply) (k : Known) (g : Going) → IsKept w → (is : IsGoing w before k g) → (id : ℕ) → map_at (seen is.tx).maps id ≡ seen_by w.told.state (tx_of g) id
@@ -321,6 +365,12 @@ seen_is w before k g kept is id =
 nothing_accepted : (k : Known) (name : ℕ) (call : Inner) (reply : Reply) → accepted k (Within name call) reply ≡ []
 nothing_accepted k name call (Refused error) = refl
 nothing_accepted k name call reply = refl
+
+-- so none breaks it
+nothing_broken : (k : Known) (name : ℕ) (call : Inner) (reply : Reply) → (known_after k (Within name call) reply).broken ≡ k.broken
+nothing_broken k name call (Refused (Io kind)) = or-false k.broken
+nothing_broken k name call (Refused error) = or-false k.broken
+nothing_broken k name call reply = or-false k.broken
 
 -- what has no marks has none still
 unmarked_still : (old new : Option Marks) → is_none new ≡ is_none old → old ≡ None → new ≡ None
@@ -369,6 +419,7 @@ module _ (w : World) (before : List Reply) (k : Known) (name : ℕ) (call : Inne
   come =
       comes (history_of w.told) (tx_of g).ticket.instant k name (tx_of g) is.tx at is.same w.told.state (seen_is w before k g known.kept is) call told reply after acts.answers
       (asks_cause w.told.state s k name (tx_of g) call made told known.alike known.undamaged opened acts.asks)
+      (asks_made w.told.state s k name (tx_of g) call made told known.alike acts.asks)
 
   -- the history and the tickets are as they were
   rests : times s ≡ times w.told.state
@@ -488,6 +539,7 @@ module _ (w : World) (before : List Reply) (k : Known) (name : ℕ) (call : Inne
     undamaged = well.0 ∙ known.undamaged;
     well = λ poisoned. failed_still k.failed (is_fault reply)
         (⊎_elim (λ before_it. inl (known.well before_it)) (λ fault. inr (told_fault w.told.state (tx_of g) after call told reply acts.answers fault)) (well.1 poisoned));
+    broken = λ broken. asks_poisoned w.told.state s (tx_of g) call made told acts.asks (known.broken (sym (nothing_broken k name call reply) ∙ broken));
     snapshots = length-append k.snapshots (None ∷ []) ∙ ap (λ (n : ℕ). n + 1) known.snapshots ∙ sym (length-append before (reply ∷ []));
     transactions = ap length all ∙ length-append (map (option_map (met_by [])) left) (None ∷ [])
         ∙ ap (λ (n : ℕ). n + 1) (length-map left (option_map (met_by [])) ∙ length-set k.transactions name (Some come.new) ∙ known.transactions) ∙ sym (length-append before (reply ∷ []));

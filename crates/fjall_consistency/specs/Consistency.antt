@@ -1,5 +1,5 @@
 -- What callers may rely on, told by what they see alone: stores, calls, replies, and which store each life of an engine begins with.
-use Rattle.std.specs.Prelude.{◌≡◌, ◌≢◌, ◌⊎◌, ⊤, ℕ, zero, suc, ◌<◌, ◌≤◌, ◌^◌, ◌||◌, ◌==◌, Bool, true, false, if◌then◌else◌, List, [], ◌∷◌, ◌++◌, length, map, take, flat_map, slice_get, slice_set, All, Any, AllPairs, Option, Some, None, IsSomeAnd, unwrap_or, option_map, option_to_list, Result, Ok, Err, Vec}
+use Rattle.std.specs.Prelude.{◌≡◌, ◌≢◌, ◌⊎◌, ⊤, ℕ, zero, suc, ◌<◌, ◌≤◌, ◌^◌, ◌||◌, ◌==◌, nat_lt, Bool, true, false, if◌then◌else◌, List, [], ◌∷◌, ◌++◌, length, map, take, flat_map, slice_get, slice_set, All, Any, AllPairs, Option, Some, None, IsSomeAnd, unwrap_or, option_map, option_to_list, Result, Ok, Err, Vec}
 use Rattle.std.specs.List.{list_any}
 use Rattle.std.specs.Option.{option_eq}
 use Rattle.std.specs.Str.{bytes_eq}
@@ -43,16 +43,17 @@ pub record Transaction : Type 0 where
   pub mode : Option PersistMode
 
 -- The store of now; by the places of the calls so far, counted from 0, what the snapshot shows that a call opened, and the transaction
--- that it began, as long as these are open; and whether the disk failed in one of them.
+-- that it began, as long as these are open; whether the disk failed in one of them, and whether in one that was to change the store.
 pub record Known : Type 0 where
   pub present : Store
   pub snapshots : List (Option Store)
   pub transactions : List (Option Transaction)
   pub failed : Bool
+  pub broken : Bool
 
 -- as a life begins
 abbrev pub begins : Store → Known
-begins s = record { present = s; snapshots = []; transactions = []; failed = false }
+begins s = record { present = s; snapshots = []; transactions = []; failed = false; broken = false }
 
 -- the store that a view shows: the one of now, or that of the snapshot which the call at a place opened
 abbrev pub shown : Known → View → Option Store
@@ -70,6 +71,10 @@ seen tx = apply tx.view (Write tx.own)
 -- the value that a key of a keyspace has in a store, where it has one
 abbrev pub value_at : Store → ℕ → Bytes → Option Bytes
 value_at s id key = lookup (map_at s.maps id) key
+
+-- a keyspace was made under the id, which may be gone
+abbrev pub IsMade : Store → ℕ → Type 0
+IsMade s id = (0 < id) × (id < s.next)
 
 abbrev pub is_living : Store → ℕ → Bool
 is_living s id = contains_key s.names id
@@ -183,8 +188,9 @@ IsWriting k = Any (λ going. IsSomeAnd going (λ tx. tx.kind ≡ Single)) k.tran
 abbrev pub IsTold : Known → TxCall → Reply → Type 0
 IsTold k (Core (core.GetAt view id key)) reply = (s : Store) × (shown k view ≡ Some s) × (reply ≡ Value (value_at s id key))
 IsTold k (Core (core.PageAt view id range back max)) reply = (s : Store) × (shown k view ≡ Some s) × IsPage range back max (map_at s.maps id) reply
-IsTold k (Core (core.Keyspace name options)) reply = (id : ℕ) × (reply ≡ Number id) × (get (fold k.present (asked k (Core (core.Keyspace name options)))).names id ≡ Some name)
+IsTold k (Core (core.Keyspace name options)) reply = (id : ℕ) × (reply ≡ Number id) × (name ≢ []) × (length name ≤ 255) × (get (fold k.present (asked k (Core (core.Keyspace name options)))).names id ≡ Some name)
 IsTold k (Core (core.KeyspaceExists name)) reply = reply ≡ Flag (has_name k.present name)
+IsTold k (Core (core.Clear id)) reply = is_living k.present id ≡ true
 IsTold k (Core call) reply = AreLawful k.present (items_in k (Core call))
 IsTold k (Within place call) reply = (tx : Transaction) × (named k place ≡ Some tx) × IsToldWithin tx call reply
 IsTold k (Commit kind place) reply = (tx : Transaction) × (named k place ≡ Some tx) × (tx.kind ≡ kind) × IsOutcome k tx reply
@@ -193,7 +199,7 @@ IsTold k call reply = reply ≡ Done
 
 -- ---- why calls are refused
 
--- the keyspaces that a call names, where it may be refused for them
+-- the keyspaces that a call names, where it may be refused for them: an own write of a transaction waits for its commit
 abbrev pub ids_in : Known → TxCall → List ℕ
 ids_in k (Core (core.DeleteKeyspace id)) = id ∷ []
 ids_in k (Core (core.Retain id)) = id ∷ []
@@ -204,25 +210,10 @@ ids_in k (Core (core.MergeBegin id)) = id ∷ []
 ids_in k (Core (core.MajorBegin id)) = id ∷ []
 ids_in k (Core (core.GetAt view id key)) = id ∷ []
 ids_in k (Core (core.PageAt view id range back max)) = id ∷ []
+ids_in k (Within place (inner.Write id key op)) = []
 ids_in k (Within place (inner.Get id key)) = id ∷ []
 ids_in k (Within place (inner.Page id range back max)) = id ∷ []
 ids_in k call = map (λ item. item.id) (items_in k call)
-
--- a release may be of a handle that nobody has, which is told as of a keyspace that nobody knows
-abbrev pub IsRelease : TxCall → Type 0
-IsRelease (Core (core.Release id)) = ⊤
-IsRelease call = ⊥
-
--- a creation or a deletion writes the settings of all keyspaces, which may be too long
-abbrev pub WritesSettings : TxCall → Type 0
-WritesSettings (Core (core.Keyspace name options)) = ⊤
-WritesSettings (Core (core.DeleteKeyspace id)) = ⊤
-WritesSettings call = ⊥
-
--- a creation by a name that no keyspace may have: names have 1 to 255 bytes
-abbrev pub HasInvalidName : TxCall → Type 0
-HasInvalidName (Core (core.Keyspace name options)) = (name ≡ []) ⊎ (255 < length name)
-HasInvalidName call = ⊥
 
 -- the snapshot or the transaction that a call names isn't open, or isn't of its kind
 abbrev pub NamesNone : Known → TxCall → Type 0
@@ -235,6 +226,12 @@ NamesNone k (Commit kind place) = (tx : Transaction) → named k place ≡ Some 
 NamesNone k (Rollback place) = named k place ≡ None
 NamesNone k call = ⊥
 
+-- a creation or a deletion, which writes the settings of all keyspaces
+abbrev pub ChangesKeyspaces : TxCall → Type 0
+ChangesKeyspaces (Core (core.Keyspace name options)) = ⊤
+ChangesKeyspaces (Core (core.DeleteKeyspace id)) = ⊤
+ChangesKeyspaces call = ⊥
+
 -- memory, the disk, numbers or the room for a list may run out at any call
 abbrev pub RunsOut : Error → Type 0
 RunsOut OutOfMemory = ⊤
@@ -243,17 +240,17 @@ RunsOut NumbersUsedUp = ⊤
 RunsOut TooManyItems = ⊤
 RunsOut error = ⊥
 
--- what holds where a call is refused so
+-- What holds where a call is refused so. A release may be of a handle that nobody has, and settings may be too long.
 abbrev pub HasCause : Known → TxCall → Error → Type 0
-HasCause k call UnknownKeyspace = IsRelease call ⊎ Any (λ id. (id ≡ 0) ⊎ (k.present.next ≤ id)) (ids_in k call)
+HasCause k call UnknownKeyspace = Any (λ id. IsMade k.present id → ⊥) (ids_in k call) ⊎ ((id : ℕ) × (call ≡ Core (core.Release id)))
 HasCause k call KeyspaceDeleted = Any (λ id. is_living k.present id ≡ false) (ids_in k call)
 HasCause k call SnapshotClosed = NamesNone k call
-HasCause k call TransactionOpen = IsWriting k
+HasCause k call TransactionOpen = (call ≡ Begin Single) × IsWriting k
 HasCause k call KeyEmpty = Any (λ item. item.key ≡ []) (items_in k call)
 HasCause k call KeyTooLong = Any (λ item. 2 ^ 16 ≤ length item.key) (items_in k call)
-HasCause k call ValueTooLong = WritesSettings call ⊎ Any (λ item. IsSomeAnd item.value (λ value. 2 ^ 32 ≤ length value)) (items_in k call)
+HasCause k call ValueTooLong = ChangesKeyspaces call ⊎ Any (λ item. IsSomeAnd item.value (λ value. 2 ^ 32 ≤ length value)) (items_in k call)
 HasCause k call KeyOrder = AllPairs (λ a b. byte_order a.key b.key ≡ Less) (items_in k call) → ⊥
-HasCause k call InvalidName = HasInvalidName call
+HasCause k call InvalidName = (name : Bytes) × (options : List Bytes) × (call ≡ Core (core.Keyspace name options)) × ((name ≡ []) ⊎ (255 < length name))
 HasCause k call Poisoned = k.failed ≡ true
 HasCause k call error = RunsOut error
 
@@ -305,12 +302,18 @@ after k call reply = record {
   snapshots = snapshots_after k call reply ++ opens k call reply ∷ [];
   transactions = map (option_map (met_by (commits k call reply))) (transactions_after k call reply) ++ begun k call reply ∷ [];
   failed = k.failed || is_fault reply;
+  broken = k.broken || nat_lt (length (accepted k call reply)) (length (attempted k call reply));
 }
 
--- a call is told what it asks for, or is refused for a cause
+-- the keyspaces that it names were made; those of a commit that conflicts need not
+abbrev pub NamesMade : Known → TxCall → Type 0
+NamesMade k (Commit kind place) = ⊤
+NamesMade k call = All (IsMade k.present) (ids_in k call)
+
+-- A call is told what it asks for, or is refused for a cause. Behind a fault in a call that was to change the store none is accepted.
 abbrev pub IsAnswer : Known → TxCall → Reply → Type 0
 IsAnswer k call (Refused error) = HasCause k call error
-IsAnswer k call reply = IsTold k call reply
+IsAnswer k call reply = IsTold k call reply × NamesMade k call × (k.broken ≡ true → accepted k call reply ≡ [])
 
 -- the same of a list of calls, each on what is known after those before it
 abbrev pub AreAnswers : Known → List TxCall → List Reply → Type 0
@@ -332,12 +335,13 @@ IsSyncMode mode = (mode ≢ None) × (mode ≢ Some Buffer)
 -- A sync that succeeded: a persist with such a mode; a batch or a commit with one, a creation, a deletion or an ingestion, where they changed
 -- something; a rotation of the journal; and a flush that began.
 abbrev pub IsSync : Known → TxCall → Reply → Type 0
-IsSync k (Core (core.Persist mode)) Done = IsSyncMode (Some mode)
-IsSync k (Core (core.CommitBatch items mode)) Done = (items.items ≢ []) × IsSyncMode mode
-IsSync k (Core (core.Keyspace name options)) (Number id) = has_name k.present name ≡ false
-IsSync k (Core (core.DeleteKeyspace id)) Done = is_living k.present id ≡ true
-IsSync k (Core (core.Ingest id items)) Done = items.items ≢ []
-IsSync k (Core core.RotateJournal) Done = ⊤
+IsSync k call (Refused error) = ⊥
+IsSync k (Core (core.Persist mode)) reply = IsSyncMode (Some mode)
+IsSync k (Core (core.CommitBatch items mode)) reply = (items.items ≢ []) × IsSyncMode mode
+IsSync k (Core (core.Keyspace name options)) reply = has_name k.present name ≡ false
+IsSync k (Core (core.DeleteKeyspace id)) reply = is_living k.present id ≡ true
+IsSync k (Core (core.Ingest id items)) reply = items.items ≢ []
+IsSync k (Core core.RotateJournal) reply = ⊤
 IsSync k (Core (core.FlushBegin id)) (Began (Some job)) = ⊤
 IsSync k (Commit kind place) (Flag true) = IsSomeAnd (named k place) (λ tx. (tx.own ≢ []) × IsSyncMode tx.mode)
 IsSync k call reply = ⊥

@@ -1,7 +1,6 @@
 use Rattle.std.proofs.Common.{Err, refl, sym, ap, subst, ◌∙◌}
 use Rattle.fjall_base.specs.Crash.{IsHoused}
 use Rattle.fjall_base.specs.Disk.{Meaning, state_in}
-use Rattle.fjall_transactions.specs.declared.cores.Core.{Core}
 use Rattle.fjall_consistency.specs.Links.{Leaves}
 use Rattle.fjall_consistency.proofs.Lasting.{none_served, run_served, used_up}
 use Rattle.fjall_consistency.proofs.living.served.Goals as goal
