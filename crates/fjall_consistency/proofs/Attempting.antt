@@ -308,7 +308,6 @@ begin_none k kind (Refused (Io fault)) = refl
 begin_none k kind (Refused error) = refl
 begin_none k kind r = refl
 
--- and nothing of them takes effect
 rollback_none : (k : Known) (name : ℕ) (r : Reply) → attempted k (Rollback name) r ≡ []
 rollback_none k name (Refused (Io fault)) = refl
 rollback_none k name (Refused error) = refl

@@ -7,7 +7,7 @@ use Rattle.fjall_base.specs.Store.{Command, Store, fold, kept}
 use Rattle.fjall_base.specs.Crash.{IsHoused}
 use Rattle.fjall_base.specs.Disk.{DiskState, DiskStep, Image, IsImage, IsImageBy, Leaves, LeavesBy, Meaning, Took, disk_of, state_in}
 use Rattle.fjall_base.specs.declared.error.Error.{Error}
-use Rattle.fjall_contents.proofs.Kept.{kept_along, kept_twice}
+use Rattle.fjall_contents.proofs.Kept.{kept-fold, kept_along, kept_twice}
 use Rattle.fjall_contents.proofs.Slots.{fold-append}
 use Rattle.fjall_files.proofs.Made.{took_both}
 use Rattle.fjall_files.specs.Tidy.{IsTidy, IsTidyStep, StaysTidy}
@@ -26,7 +26,7 @@ use Rattle.fjall_core.specs.Durables.{Durable, IsBeginning, Passes, StandsAmid}
 use Rattle.fjall_core.specs.Crashes.{BlamesEach, Settled, Tried, at_most_one}
 use Rattle.fjall_core.specs.Openings.{OpensAmid, OpensAs}
 use Rattle.fjall_core.specs.Standing.{Closes, ClosesSafely, ReadsOn, StandsFor as StandsAs, StandsOn}
-use Rattle.fjall_lives.specs.Lives.{AreLeftOf, Closed, CutBehind, CutBehindSync, CutInCalls, CutInClosing, CutInOpening, Dropped, Ended, LifeGoesOn, HoldsFold, IsLeftOf, Life, LastSync, Lived, Lives, NoLife, NoSync, OneMore, Opened, Served, Unclosed, Unopened, UpTo, all_left, begun, start_of}
+use Rattle.fjall_lives.specs.Lives.{AreChained, AreLeftOf, Closed, CutBehind, CutBehindSync, CutInCalls, CutInClosing, CutInOpening, Dropped, Ended, LifeGoesOn, HoldsFold, IsFoldOf, IsLeftOf, Life, LastSync, Lived, Lives, NoLife, NoSync, OneMore, Opened, Served, ShowedOnly, Unclosed, Unopened, UpTo, all_left, begun, start_of}
 use Rattle.fjall_core.proofs.CrashesInRuns.{no_more, run_blames, run_passes}
 use Rattle.fjall_wild.specs.Wild.{SurvivesUnforged}
 use Rattle.fjall_wild.proofs.Cutting.{left_itself}
@@ -185,7 +185,7 @@ ended core new store calls replies opens run synced end next waits (Closed disk 
 pub lived : (old : Meaning) (base : Store) (pending : List Command) (life : Life) (new : DiskState) (next : Store) (waits : List Command) → HoldsAmid (state_in old) base pending → Lived old base pending life new next waits → LifeGoesOn base pending life new next waits
 lived old base pending life new next waits holds (Unopened after stays) = record {
   amid = stays.holds;
-  each = λ front begins. (front, [], begins, record { safe = ([], refl); within = ([], refl) }, ap (λ (l : List Command). kept (fold base l)) (sym (append-nil front)));
+  each = λ front begins. (front, [], begins, tt, record { safe = ([], refl); within = ([], refl) }, ap (λ (l : List Command). kept (fold base l)) (sym (append-nil front)));
 }
 lived old base pending life new next waits holds (CutInOpening after added image left moments kinds took leaves stands) =
     let usual : (usual : Image) → Leaves (state_in old) added usual → StandsAmid base [] pending usual = λ usual left_so. moments.each usual (leaves_as old after added moments.added usual took moments.took left_so) in
@@ -195,7 +195,7 @@ lived old base pending life new next waits holds (CutInOpening after added image
       amid = cut.amid;
       each = λ front begins.
           let of = cut.each front begins in
-          (of.0, [], of.2, record { safe = ([], refl); within = ([], refl) }, of.3 ∙ ap (λ (l : List Command). kept (fold base l)) (sym (append-nil of.0)));
+          (of.0, [], of.2, tt, record { safe = ([], refl); within = ([], refl) }, of.3 ∙ ap (λ (l : List Command). kept (fold base l)) (sym (append-nil of.0)));
     }
 lived old base pending life new next waits holds (Opened core after calls replies synced end then more opened run ends) =
     let store = kept (fold base opened.front) in
@@ -207,6 +207,7 @@ lived old base pending life new next waits holds (Opened core after calls replie
             opened.front,
             of.0,
             opened.within,
+            refl,
             record { safe = of.1; within = of.2 },
             of.3 ∙ kept_along store (fold base opened.front) of.0 (kept_twice (fold base opened.front)) ∙ ap kept (sym (fold-append base opened.front of.0)),
           );
@@ -214,20 +215,41 @@ lived old base pending life new next waits holds (Opened core after calls replie
 
 -- ---- one after another
 
-left_more : (lives : List Life) (fronts : List (List Command)) (life : Life) (front : List Command) → AreLeftOf lives fronts → IsLeftOf life front → AreLeftOf (lives ++ life ∷ []) (fronts ++ front ∷ [])
-left_more [] [] life front all one = (one, tt)
-left_more (l ∷ lives) (f ∷ fronts) life front all one = (all.0, left_more lives fronts life front all.1 one)
-left_more [] (f ∷ fronts) life front all one = absurd all
-left_more (l ∷ lives) [] life front all one = absurd all
+-- one life more, at the end of a chain
+chain_more : (first last next : Store) (lives : List Life) (fronts : List (List Command)) (life : Life) (front : List Command) → AreChained first lives fronts last → ShowedOnly life last → IsLeftOf life front → next ≡ kept (fold last front)
+    → AreChained first (lives ++ life ∷ []) (fronts ++ front ∷ []) next
+chain_more first last next [] [] life front chain shown left is = (subst (ShowedOnly life) chain shown, left, is ∙ ap (λ (s : Store). kept (fold s front)) chain)
+chain_more first last next (l ∷ lives) (f ∷ fronts) life front chain shown left is = (chain.0, chain.1, chain_more (kept (fold first f)) last next lives fronts life front chain.2 shown left is)
+chain_more first last next [] (f ∷ fronts) life front chain shown left is = absurd chain
+chain_more first last next (l ∷ lives) [] life front chain shown left is = absurd chain
 
-all_more : (fronts : List (List Command)) (front : List Command) → all_left (fronts ++ front ∷ []) ≡ all_left fronts ++ front
-all_more [] front = append-nil front
-all_more (f ∷ fronts) front = ap (λ (l : List Command). f ++ l) (all_more fronts front) ∙ sym (append_assoc f (all_left fronts) front)
+-- what is left of the lives of a chain
+chain_left : (first last : Store) (lives : List Life) (fronts : List (List Command)) → AreChained first lives fronts last → AreLeftOf lives fronts
+chain_left first last [] [] chain = tt
+chain_left first last (l ∷ lives) (f ∷ fronts) chain = (chain.1, chain_left (kept (fold first f)) last lives fronts chain.2)
+chain_left first last [] (f ∷ fronts) chain = absurd chain
+chain_left first last (l ∷ lives) [] chain = absurd chain
+
+-- its last store is the fold of all that
+chain_folds : (start last : Store) (lives : List Life) (fronts : List (List Command)) → AreChained (kept start) lives fronts last → last ≡ kept (fold start (all_left fronts))
+chain_folds start last [] [] chain = chain
+chain_folds start last (l ∷ lives) (f ∷ fronts) chain =
+    chain_folds (fold (kept start) f) last lives fronts chain.2 ∙ ap kept (sym (fold-append (kept start) f (all_left fronts))) ∙ kept-fold start (f ++ all_left fronts)
+chain_folds start last [] (f ∷ fronts) chain = absurd chain
+chain_folds start last (l ∷ lives) [] chain = absurd chain
+
+fold_of : (start store : Store) (lives : List Life) (fronts : List (List Command)) → AreChained (kept start) lives fronts store → IsFoldOf start lives store
+fold_of start store lives fronts chain = record {
+  fronts = fronts;
+  chain = chain;
+  left = chain_left (kept start) store lives fronts chain;
+  same = chain_folds start store lives fronts chain;
+}
 
 pub lives_hold : (first : DiskState) (start : Store) (lives : List Life) (new : DiskState) (base : Store) (pending : List Command) → HoldsAmid first start [] → Lives first start lives new base pending → HoldsFold start lives new base pending
 lives_hold first start lives new base pending holds NoLife = record {
   amid = holds;
-  each = λ front begins. ([], tt, ap (λ (l : List Command). kept (fold start l)) (no_more front begins.0 begins.1));
+  each = λ front begins. fold_of start (kept (fold start front)) [] [] (ap (λ (l : List Command). kept (fold start l)) (no_more front begins.0 begins.1));
 }
 lives_hold first start lives new base pending holds (OneMore before life old mid waits to next more lived_before one) =
     let so_far = lives_hold first start before (state_in old) mid waits holds lived_before in
@@ -236,20 +258,18 @@ lives_hold first start lives new base pending holds (OneMore before life old mid
       amid = on.amid;
       each = λ front begins.
           let of = on.each front begins in
-          let were = so_far.each of.0 of.2 in (
-            were.0 ++ of.1 ∷ [],
-            left_more before were.0 life of.1 were.1 of.3,
-            of.4 ∙ ap kept (fold-append mid of.0 of.1) ∙ kept_along (fold mid of.0) (fold start (all_left were.0)) of.1 were.2
-                ∙ ap kept (sym (fold-append start (all_left were.0) of.1)) ∙ ap (λ (l : List Command). kept (fold start l)) (sym (all_more were.0 of.1)),
-          );
+          let were = so_far.each of.0 of.2 in
+          let goes_on : kept (fold next front) ≡ kept (fold (kept (fold mid of.0)) of.1) = of.5 ∙ ap kept (fold-append mid of.0 of.1) ∙ sym (kept-fold (fold mid of.0) of.1) in
+          fold_of start (kept (fold next front)) (before ++ life ∷ []) (were.fronts ++ of.1 ∷ [])
+          (chain_more (kept start) (kept (fold mid of.0)) (kept (fold next front)) before were.fronts life of.1 were.chain of.3 of.4 goes_on);
     }
 
 -- what opens behind them
-pub lives_open : (first : DiskState) (start : Store) (lives : List Life) (old : Meaning) (base : Store) (pending : List Command) (core : Held) → HoldsAmid first start [] → Lives first start lives (state_in old) base pending → OpensAmid old core base pending
-    → (fronts : List (List Command)) × AreLeftOf lives fronts × OpensAs core (kept (fold start (all_left fronts)))
+pub lives_open : (first : DiskState) (start : Store) (lives : List Life) (old : Meaning) (base : Store) (pending : List Command) (core : Held) → HoldsAmid first start [] → Lives first start lives (state_in old) base pending → (opened : OpensAmid old core base pending)
+    → (left : IsFoldOf start lives (kept (fold base opened.front))) × OpensAs core (kept (fold start (all_left left.fronts)))
 lives_open first start lives old base pending core holds lived_before opened =
     let left = (lives_hold first start lives (state_in old) base pending holds lived_before).each opened.front opened.within in
-    (left.0, left.1, subst (λ (s : Store). OpensAs core s) left.2 opened.opens)
+    (left, subst (λ (s : Store). OpensAs core s) left.same opened.opens)
 
 -- ---- closed and opened again
 

@@ -1,5 +1,5 @@
 -- Engines one after another on one disk, each of which may be cut off at any moment, left as it is, or refused.
-use Rattle.std.specs.Prelude.{◌≡◌, ℕ, ◌<◌, Ok, Err, List, [], ◌∷◌, ◌++◌, Result}
+use Rattle.std.specs.Prelude.{◌≡◌, ℕ, ◌<◌, Ok, Err, List, [], ◌∷◌, ◌++◌, Option, Some, None, IfSome, Result}
 use Rattle.std.specs.List.{flat_map}
 use Rattle.fjall_base.specs.Crash.{IsHoused}
 use Rattle.fjall_base.specs.Store.{Command, Store, fold, kept}
@@ -30,9 +30,10 @@ begun core store = record { meaning = core.disk; base = store; pending = [] }
 abbrev pub Served : (core : Held) (store : Store) → OpensAs core store → List Call → List Reply → Held → Type 0
 Served core store opens calls replies new = RunsOn core calls replies new (start_of core store opens) (begun core store)
 
--- The calls of one life of an engine with their replies, the commands that it tried, and those of them that a sync followed
--- which succeeded.
+-- The store that one life of an engine was shown, where it opened; its calls with their replies, the commands that it tried,
+-- and those of them that a sync followed which succeeded.
 pub record Life : Type 0 where
+  pub showed : Option Store
   pub calls : List Call
   pub replies : List Reply
   pub tried : List Command
@@ -40,7 +41,7 @@ pub record Life : Type 0 where
 
 -- a life that ended before its first call
 abbrev pub unlived : Life
-unlived = record { calls = []; replies = []; tried = []; synced = [] }
+unlived = record { showed = None; calls = []; replies = []; tried = []; synced = [] }
 
 -- what was tried up to the last sync of the run that succeeded; where none did, nothing
 pub data LastSync (core new : Held) (store : Store) (calls : List Call) (replies : List Reply) (opens : OpensAs core store) (run : Served core store opens calls replies new) : List Command → Type 0 where
@@ -76,7 +77,7 @@ pub data Lived (old : Meaning) (base : Store) (pending : List Command) : Life �
       → StaysTidy old new → Took old new added → LeavesBy SurvivesUnforged (state_in old) added image → ImageStandsFor image left → Lived old base pending unlived (disk_of image) left []
   Opened : (core new : Held) (calls : List Call) (replies : List Reply) (synced : List Command) (end : DiskState) (next : Store) (waits : List Command) (opened : OpensAmid old core base pending)
       (run : Served core (kept (fold base opened.front)) opened.opens calls replies new) → Ended core new (kept (fold base opened.front)) calls replies opened.opens run synced end next waits
-      → Lived old base pending (record { calls = calls; replies = replies; tried = run.tried; synced = synced }) end next waits
+      → Lived old base pending (record { showed = Some (kept (fold base opened.front)); calls = calls; replies = replies; tried = run.tried; synced = synced }) end next waits
 
 -- Lives one after another, from a disk that held the one store to one that holds the base with a beginning of what is pending:
 -- each begins on what the one before it left.
@@ -90,12 +91,17 @@ pub record IsLeftOf (life : Life) (front : List Command) : Type 0 where
   pub safe : IsBeginning life.synced front
   pub within : IsBeginning front life.tried
 
+-- a life that was shown a store was shown just this one
+abbrev pub ShowedOnly : Life → Store → Type 0
+ShowedOnly life store = IfSome life.showed (λ shown. shown ≡ store)
+
 -- After such a life the disk holds the next store with a beginning of what waits, whatever a crash leaves of it; and each of
--- these is the base with a beginning of what was pending, and behind it what is left of the life.
+-- these is the base with a beginning of what was pending, which is just what the life was shown, where it was, and behind it
+-- what is left of the life.
 pub record LifeGoesOn (base : Store) (pending : List Command) (life : Life) (state : DiskState) (next : Store) (waits : List Command) : Type 0 where
   pub amid : HoldsAmid state next waits
   pub each : (front : List Command) → IsBeginning front waits
-      → (before left : List Command) × IsBeginning before pending × IsLeftOf life left × (kept (fold next front) ≡ kept (fold base (before ++ left)))
+      → (before left : List Command) × IsBeginning before pending × ShowedOnly life (kept (fold base before)) × IsLeftOf life left × (kept (fold next front) ≡ kept (fold base (before ++ left)))
 
 -- of each of these lives one after another
 abbrev pub AreLeftOf : List Life → List (List Command) → Type 0
@@ -107,12 +113,22 @@ AreLeftOf lives fronts = ⊥
 abbrev pub all_left : List (List Command) → List Command
 all_left fronts = flat_map (λ front. front) fronts
 
--- the store is the fold of what is left of these lives, in order
-abbrev pub IsFoldOf : Store → List Life → Store → Type 0
-IsFoldOf start lives store = (fronts : List (List Command)) × AreLeftOf lives fronts × (store ≡ kept (fold start (all_left fronts)))
+-- These lives are one chain of stores, from the first to the last: what a life was shown, where it was, is just the store that
+-- those before it left, and the next store is this one with what is left of the life.
+abbrev pub AreChained : Store → List Life → List (List Command) → Store → Type 0
+AreChained first [] [] last = last ≡ first
+AreChained first (life ∷ lives) (front ∷ fronts) last = ShowedOnly life first × IsLeftOf life front × AreChained (kept (fold first front)) lives fronts last
+AreChained first lives fronts last = ⊥
 
--- The disk holds the base with a beginning of what is pending, whatever a crash leaves of it, and each of these is the fold
--- of what is left of these lives, in order.
+-- The store is the last of the chain that these lives are from the start. So it is the fold of what is left of them, in order.
+pub record IsFoldOf (start : Store) (lives : List Life) (store : Store) : Type 0 where
+  pub fronts : List (List Command)
+  pub chain : AreChained (kept start) lives fronts store
+  pub left : AreLeftOf lives fronts
+  pub same : store ≡ kept (fold start (all_left fronts))
+
+-- The disk holds the base with a beginning of what is pending, whatever a crash leaves of it, and each of these is the last
+-- store of the chain that these lives are.
 pub record HoldsFold (start : Store) (lives : List Life) (state : DiskState) (base : Store) (pending : List Command) : Type 0 where
   pub amid : HoldsAmid state base pending
   pub each : (front : List Command) → IsBeginning front pending → IsFoldOf start lives (kept (fold base front))

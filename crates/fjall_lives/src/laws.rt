@@ -20,7 +20,7 @@ ghost use Rattle.fjall_history.specs.declared.reply.Reply.{Reply};
 ghost use Rattle.fjall_base.specs.Crash.{IsHoused};
 ghost use Rattle.fjall_core.specs.Crashes.{BlamesEach, RunOn};
 ghost use Rattle.fjall_core.specs.Openings.{OpensAmid, OpensAs};
-ghost use Rattle.fjall_lives.specs.Lives.{AreLeftOf, HoldsFold, LastSync, Life, LifeGoesOn, Lived, Lives, Served, all_left, begun, start_of};
+ghost use Rattle.fjall_lives.specs.Lives.{HoldsFold, IsFoldOf, LastSync, Life, LifeGoesOn, Lived, Lives, Served, all_left, begun, start_of};
 ghost use Rattle.fjall_machine.specs.Machine as machine;
 ghost use Rattle.fjall_machine.specs.Machine.{present};
 ghost use Rattle.fjall_core.specs.Standing as memory;
@@ -70,7 +70,7 @@ pub fn a_core_holds_amid()
 
 /// One life of an engine, wherever it was cut off, dropped or refused: what its disk holds then is the base with a beginning
 /// of what was pending and, behind it, a beginning of what the life tried, which has all that a sync followed that
-/// succeeded.
+/// succeeded. Where it opened, it was shown just the base with that beginning, which stays: an opening is a sync.
 pub fn a_life_holds()
     ensures { (old : Meaning) (base : Store) (pending : List Command) (life : Life) (new : DiskState) (next : Store) (waits : List Command)
         → HoldsAmid (state_in old) base pending → Lived old base pending life new next waits
@@ -79,17 +79,19 @@ pub fn a_life_holds()
 
 /// Lives one after another, each cut off at any moment, dropped or refused: what the disk holds then, and what a crash leaves
 /// of it, is the fold of a beginning of what each of them tried, in order, over all of them, and has all that a sync followed
-/// that succeeded.
+/// that succeeded. What an opening showed stays for all later lives: an opening is a sync. With one choice of these beginnings,
+/// each life that opened was shown the fold of what is left of those before it, and it and all later ones go on from there.
 pub fn lives_hold()
     ensures { (first : DiskState) (start : Store) (lives : List Life) (new : DiskState) (base : Store) (pending : List Command)
         → HoldsAmid first start [] → Lives first start lives new base pending → HoldsFold start lives new base pending }
 {}
 
-/// What opens behind such lives stands for that fold.
+/// What opens behind such lives stands for that fold: the store that it opened as is the last of their chain, and so goes on from
+/// all that they were shown.
 pub fn lives_open()
     ensures { (first : DiskState) (start : Store) (lives : List Life) (old : Meaning) (base : Store) (pending : List Command) (core : Held)
-        → HoldsAmid first start [] → Lives first start lives (state_in old) base pending → OpensAmid old core base pending
-        → (fronts : List (List Command)) × AreLeftOf lives fronts × OpensAs core (kept (fold start (all_left fronts))) }
+        → HoldsAmid first start [] → Lives first start lives (state_in old) base pending → (opened : OpensAmid old core base pending)
+        → (left : IsFoldOf start lives (kept (fold base opened.front))) × OpensAs core (kept (fold start (all_left left.fronts))) }
 {}
 
 /// Where a core closed and was told that all is well, its disk holds the store that it had, with nothing pending. So what opens on it

@@ -161,7 +161,7 @@ total-append : (a b : List (List (Option Command))) → total (a ++ b) ≡ total
 total-append [] b = omega arith
 total-append (lines ∷ a) b = let more = total-append a b in omega (arith, more)
 
-served-append : (earlier : ℕ) (a b : List (List (Option Command))) (p q : List Asked) (x y : List (List Call × List Reply)) → AreServed earlier a p x → AreServed (earlier + total a) b q y → AreServed earlier (a ++ b) (p ++ q) (x ++ y)
+served-append : (earlier : ℕ) (a b : List (List (Option Command))) (p q : List Asked) (x y : List (Option Store × List Call × List Reply)) → AreServed earlier a p x → AreServed (earlier + total a) b q y → AreServed earlier (a ++ b) (p ++ q) (x ++ y)
 served-append k [] b [] q [] y h g = let same : k + 0 ≡ k = omega arith in subst (λ (n : ℕ). AreServed n b q y) same g
 served-append k [] b [] q (life ∷ x) y h g = absurd h
 served-append k [] b (asked ∷ p) q x y h g = absurd h
@@ -173,25 +173,26 @@ served-append k (lines ∷ a) b (asked ∷ p) q (life ∷ x) y h g =
 
 -- The lines up to here: those that each life ended behind, and those behind the last crash or reopening. However the lines go
 -- on, a crash or reopening ends the running part.
-record Parts (front : List (Option Command)) (lists : List Asked) (lives : List Life) (last : Asked) (calls : List Call) (replies : List Reply) : Type 0 where
+record Parts (front : List (Option Command)) (lists : List Asked) (lives : List Life) (last : Asked) (showed : Option Store) (calls : List Call) (replies : List Reply) : Type 0 where
   pub ended : List (List (Option Command))
   pub running : List (Option Command)
   pub alone : All IsCall running
   pub split : (more : List (Option Command)) → slice_split is_stop (front ++ more) ≡ ended ++ slice_split is_stop (running ++ more)
   pub counted : numbers_in front ≡ total ended + numbers_in running
   pub ended_are : AreServed 0 ended lists (map served_in lives)
-  pub running_are : IsServed (total ended) running last calls replies
+  pub running_are : IsServed (total ended) running last showed calls replies
 
 -- a core that just opened has served no call
 no_calls : (core : Held) (store : Store) (opens : OpensAs core store) → Served core store opens [] [] core
 no_calls core store opens = no_run core (start_of core store opens) (begun core store) opens.state opens.reads opens.base
 
-none_served : (earlier : ℕ) (core : Held) (store : Store) (opens : OpensAs core store) → IsServed earlier [] unasked [] []
+none_served : (earlier : ℕ) (core : Held) (store : Store) (opens : OpensAs core store) → IsServed earlier [] unasked (Some store) [] []
 none_served earlier core store opens = record {
   are = tt;
   come = NoneComes [];
   core = core;
   store = store;
+  shown = refl;
   opens = opens;
   new = core;
   served = no_calls core store opens;
@@ -200,10 +201,10 @@ none_served earlier core store opens = record {
 }
 
 -- parts of which the running one has no line
-abbrev FreshParts : List (Option Command) → List Asked → List Life → Type 0
-FreshParts front lists lives = (p : Parts front lists lives unasked [] []) × (p.running ≡ [])
+abbrev FreshParts : List (Option Command) → List Asked → List Life → Store → Type 0
+FreshParts front lists lives store = (p : Parts front lists lives unasked (Some store) [] []) × (p.running ≡ [])
 
-no_parts : (core : Held) (store : Store) (opens : OpensAs core store) → FreshParts [] [] []
+no_parts : (core : Held) (store : Store) (opens : OpensAs core store) → FreshParts [] [] [] store
 no_parts core store opens = (
   record {
     ended = [];
@@ -218,16 +219,16 @@ no_parts core store opens = (
 )
 
 -- the running part behind those that ended
-with_running : (ended : List (List (Option Command))) (lines : List (Option Command)) (lists : List Asked) (lives : List Life) (last : Asked) (calls : List Call) (replies : List Reply) → AreServed 0 ended lists (map served_in lives)
-    → IsServed (total ended) lines last calls replies → AreServed 0 (ended ++ lines ∷ []) (lists ++ last ∷ []) (map served_in lives ++ (calls, replies) ∷ [])
-with_running ended lines lists lives last calls replies before running =
+with_running : (ended : List (List (Option Command))) (lines : List (Option Command)) (lists : List Asked) (lives : List Life) (last : Asked) (showed : Option Store) (calls : List Call) (replies : List Reply) → AreServed 0 ended lists (map served_in lives)
+    → IsServed (total ended) lines last showed calls replies → AreServed 0 (ended ++ lines ∷ []) (lists ++ last ∷ []) (map served_in lives ++ (showed, calls, replies) ∷ [])
+with_running ended lines lists lives last showed calls replies before running =
     let same : total ended ≡ 0 + total ended = omega arith in
-    served-append 0 ended (lines ∷ []) lists (last ∷ []) (map served_in lives) ((calls, replies) ∷ []) before (subst (λ (n : ℕ). IsServed n lines last calls replies) same running, tt)
+    served-append 0 ended (lines ∷ []) lists (last ∷ []) (map served_in lives) ((showed, calls, replies) ∷ []) before (subst (λ (n : ℕ). IsServed n lines last showed calls replies) same running, tt)
 
 -- the calls of the running part
-parts_run : (front lines : List (Option Command)) (lists : List Asked) (lives : List Life) (old_last : Asked) (old_calls : List Call) (old_replies : List Reply) (last : Asked) (calls : List Call) (replies : List Reply)
-    (p : Parts front lists lives old_last old_calls old_replies) → p.running ≡ [] → All IsCall lines → IsServed (numbers_in front) lines last calls replies → Parts (front ++ lines) lists lives last calls replies
-parts_run front lines lists lives old_last old_calls old_replies last calls replies p fresh alone is =
+parts_run : (front lines : List (Option Command)) (lists : List Asked) (lives : List Life) (old_last : Asked) (showed : Option Store) (old_calls : List Call) (old_replies : List Reply) (last : Asked) (calls : List Call) (replies : List Reply)
+    (p : Parts front lists lives old_last showed old_calls old_replies) → p.running ≡ [] → All IsCall lines → IsServed (numbers_in front) lines last showed calls replies → Parts (front ++ lines) lists lives last showed calls replies
+parts_run front lines lists lives old_last showed old_calls old_replies last calls replies p fresh alone is =
     let so_far : numbers_in front ≡ total p.ended = p.counted ∙ ap (λ (l : List (Option Command)). total p.ended + numbers_in l) fresh ∙ omega arith in
     record {
       ended = p.ended;
@@ -237,12 +238,12 @@ parts_run front lines lists lives old_last old_calls old_replies last calls repl
           ∙ ap (λ (l : List (Option Command)). p.ended ++ slice_split is_stop (l ++ (lines ++ more))) fresh;
       counted = counted front lines ∙ ap (λ n. n + numbers_in lines) so_far;
       ended_are = p.ended_are;
-      running_are = subst (λ (n : ℕ). IsServed n lines last calls replies) so_far is;
+      running_are = subst (λ (n : ℕ). IsServed n lines last showed calls replies) so_far is;
     }
 
 -- a crash or a reopening ends it, and an engine opens again
-parts_stop : (front : List (Option Command)) (stop : Option Command) (lists : List Asked) (lives : List Life) (last : Asked) (life : Life) (core : Held) (store : Store) → OpensAs core store → Parts front lists lives last life.calls life.replies
-    → is_stop stop ≡ true → asks_number stop ≡ false → FreshParts (front ++ stop ∷ []) (lists ++ last ∷ []) (lives ++ life ∷ [])
+parts_stop : (front : List (Option Command)) (stop : Option Command) (lists : List Asked) (lives : List Life) (last : Asked) (life : Life) (core : Held) (store : Store) → OpensAs core store → Parts front lists lives last life.showed life.calls life.replies
+    → is_stop stop ≡ true → asks_number stop ≡ false → FreshParts (front ++ stop ∷ []) (lists ++ last ∷ []) (lives ++ life ∷ []) store
 parts_stop front stop lists lives last life core store opens p stops asks = (
   record {
     ended = p.ended ++ p.running ∷ [];
@@ -258,21 +259,21 @@ parts_stop front stop lists lives last life core store opens p stops asks = (
         let parts = total-append p.ended (p.running ∷ []) in
         omega (arith, all, none, so_far, parts);
     ended_are = subst (AreServed 0 (p.ended ++ p.running ∷ []) (lists ++ last ∷ [])) (sym (map-append served_in lives (life ∷ [])))
-        (with_running p.ended p.running lists lives last life.calls life.replies p.ended_are p.running_are);
+        (with_running p.ended p.running lists lives last life.showed life.calls life.replies p.ended_are p.running_are);
     running_are = none_served (total (p.ended ++ p.running ∷ [])) core store opens;
   },
   refl,
 )
 
 -- each part has the calls of a life
-parts_are : (front : List (Option Command)) (lists : List Asked) (lives : List Life) (last : Asked) (calls : List Call) (replies : List Reply) → Parts front lists lives last calls replies
-    → AreServed 0 (slice_split is_stop front) (lists ++ last ∷ []) (map served_in lives ++ (calls, replies) ∷ [])
-parts_are front lists lives last calls replies p =
+parts_are : (front : List (Option Command)) (lists : List Asked) (lives : List Life) (last : Asked) (showed : Option Store) (calls : List Call) (replies : List Reply) → Parts front lists lives last showed calls replies
+    → AreServed 0 (slice_split is_stop front) (lists ++ last ∷ []) (map served_in lives ++ (showed, calls, replies) ∷ [])
+parts_are front lists lives last showed calls replies p =
     let whole : slice_split is_stop front ≡ p.ended ++ p.running ∷ [] = ap (slice_split is_stop) (sym (append-nil front)) ∙ p.split []
     ∙ ap (λ (l : List (Option Command)). p.ended ++ slice_split is_stop l) (append-nil p.running)
     ∙ ap (λ (l : List (List (Option Command))). p.ended ++ l) (slice_split_none is_stop p.running p.alone) in
-    subst (λ (l : List (List (Option Command))). AreServed 0 l (lists ++ last ∷ []) (map served_in lives ++ (calls, replies) ∷ [])) (sym whole)
-    (with_running p.ended p.running lists lives last calls replies p.ended_are p.running_are)
+    subst (λ (l : List (List (Option Command))). AreServed 0 l (lists ++ last ∷ []) (map served_in lives ++ (showed, calls, replies) ∷ [])) (sym whole)
+    (with_running p.ended p.running lists lives last showed calls replies p.ended_are p.running_are)
 
 -- No line was run since the last crash or reopening: the core is as it opened.
 record IsFresh (running : List (Option Command)) (calls : List Call) (replies : List Reply) (last : Asked) (first core : Held) (beside : Kept) : Type 0 where
@@ -299,7 +300,7 @@ record LivedSo (commands rest : List (Option Command)) (ran : Bool) (printed : L
   pub lists : List Asked
   pub last : Asked
   pub through : GoesThrough first (kept (fold base opened.front)) opened.opens last calls replies core beside
-  pub parts : Parts front lists lives last calls replies
+  pub parts : Parts front lists lives last (Some (kept (fold base opened.front))) calls replies
   pub fresh : ran ≡ false → IsFresh parts.running calls replies last first core beside
   pub printed_are : printed ≡ answers_to 0 front (made_of lists ++ counts_of last.made) (replies_of lists ++ last.replies)
   pub each : length (made_of lists ++ counts_of last.made) ≡ length (requests_of front)
@@ -374,12 +375,13 @@ runs commands lines rest old new before beside printed made replies s alone are 
       lists = s.lists;
       last = asked;
       through = through;
-      parts = parts_run s.front lines s.lists s.lives s.last s.calls s.replies asked here.made here.told s.parts fresh.no_lines alone
+      parts = parts_run s.front lines s.lists s.lives s.last (Some store) s.calls s.replies asked here.made here.told s.parts fresh.no_lines alone
           (record {
             are = subst (λ (n : ℕ). AreCalls n lines made) earlier are;
             come = here.comes;
             core = s.first;
             store = store;
+            shown = refl;
             opens = opens;
             new = new;
             served = served;
@@ -398,7 +400,7 @@ runs commands lines rest old new before beside printed made replies s alone are 
 
 -- the life that ended with the old core's
 abbrev life_of : (commands rest : List (Option Command)) (printed : List (List ℕ)) (old : Held) (beside : Kept) → LivedSo commands rest true printed old beside → List store.Command → Life
-life_of commands rest printed old beside s synced = record { calls = s.calls; replies = s.replies; tried = s.run.tried; synced = synced }
+life_of commands rest printed old beside s synced = record { showed = Some (kept (fold s.base s.opened.front)); calls = s.calls; replies = s.replies; tried = s.run.tried; synced = synced }
 
 -- one life more, of a core that ended so, and another opened on what it left
 again : (mode : RecoveryMode) (commands : List (Option Command)) (stop : Option Command) (rest : List (Option Command)) (printed : List (List ℕ)) (old new : Held) (beside : Kept) (s : LivedSo commands (stop ∷ rest) true printed old beside) → is_stop stop ≡ true
@@ -411,7 +413,7 @@ again mode commands stop rest printed old new beside s stops synced end next wai
     let before : Lives (state_in new_disk) (bare no_keyspaces) lives (state_in disk) next waits = subst (λ (st : DiskState). Lives (state_in new_disk) (bare no_keyspaces) lives st next waits) (sym same) one in
     let opened = o.amid refl next waits (lives_hold (state_in new_disk) (bare no_keyspaces) lives (state_in disk) next waits start_holds before).amid in
     let store = kept (fold next opened.front) in
-    let parts : FreshParts (s.front ++ stop ∷ []) (s.lists ++ s.last ∷ []) lives = parts_stop s.front stop s.lists s.lives s.last life new store opened.opens s.parts stops (stops_ask_none stop stops) in
+    let parts : FreshParts (s.front ++ stop ∷ []) (s.lists ++ s.last ∷ []) lives store = parts_stop s.front stop s.lists s.lives s.last life new store opened.opens s.parts stops (stops_ask_none stop stops) in
     let lived = replies_of s.lists in
     let replies : lived ++ s.last.replies ≡ replies_of (s.lists ++ s.last ∷ []) ++ [] =
     ap (λ (l : List Reply). lived ++ l) (sym (append-nil s.last.replies)) ∙ sym (flat_map-append (λ (a : Asked). a.replies) s.lists (s.last ∷ [])) ∙ sym (append-nil (replies_of (s.lists ++ s.last ∷ []))) in
@@ -538,11 +540,10 @@ has_lived mode commands rest ran core beside printed session unforged =
       lists = s.lists;
       last = s.last;
       through = s.through;
-      calls_are = parts_are s.front s.lists s.lives s.last s.calls s.replies s.parts;
+      calls_are = parts_are s.front s.lists s.lives s.last (Some (kept (fold s.base s.opened.front))) s.calls s.replies s.parts;
       printed_are = s.printed_are;
-      fronts = behind.0;
-      left = behind.1;
-      stands = behind.2;
+      left = behind.0;
+      stands = behind.1;
     }
 
 -- over a disk that returns what it holds, where no wild crash forged anything

@@ -1,5 +1,5 @@
 -- What a session over a disk that returns what it holds comes to: engines one after another on one disk, which was new.
-use Rattle.std.specs.Prelude.{◌≡◌, ℕ, ◌+◌, List, [], ◌∷◌, ◌++◌, None, Option, map}
+use Rattle.std.specs.Prelude.{◌≡◌, ℕ, ◌+◌, List, [], ◌∷◌, ◌++◌, Some, None, Option, map}
 use Rattle.std.specs.List.{flat_map, slice_split}
 use Rattle.fjall_base.specs.Store.{Store, fold, kept}
 use Rattle.fjall_base.specs.Store as store
@@ -10,7 +10,7 @@ use Rattle.fjall_history.specs.declared.reply.Reply.{Reply}
 use Rattle.fjall_machine.specs.declared.call.Call.{Call}
 use Rattle.fjall_transactions.specs.Holding.{Held}
 use Rattle.fjall_transactions.specs.Crashes.{BlamesEach}
-use Rattle.fjall_lives.specs.Lives.{AreLeftOf, Life, Lives, Served, all_left, begun, start_of}
+use Rattle.fjall_lives.specs.Lives.{IsFoldOf, Life, Lives, Served, all_left, begun, start_of}
 use Rattle.fjall_transactions.specs.Openings.{OpensAmid, OpensAs}
 use Rattle.fjall_transactions.specs.CoreStanding.{ReadsOn}
 use Rattle.fjall_transactions.specs.Standing.{StandFor, Told}
@@ -46,26 +46,29 @@ pub record GoesThrough (core : Held) (store : Store) (opens : OpensAs core store
   pub reads : ReadsOn new world.told.state
 
 -- A list of lines was served, where so many numbers were asked for before, by the calls that they make, which got their replies and came
--- to the calls of the core of one life, of an engine that opened so.
-pub record IsServed (earlier : ℕ) (lines : List (Option Command)) (asked : Asked) (made : List Call) (told : List Reply) : Type 0 where
+-- to the calls of the core of one life, of an engine that opened as the store that this life was shown.
+pub record IsServed (earlier : ℕ) (lines : List (Option Command)) (asked : Asked) (showed : Option Store) (made : List Call) (told : List Reply) : Type 0 where
   pub are : AreCalls earlier lines asked.made
   pub come : AllCome [] (all_calls asked.made) asked.replies made told
   pub core : Held
   pub store : Store
+  pub shown : showed ≡ Some store
   pub opens : OpensAs core store
   pub new : Held
   pub served : Served core store opens made told new
   pub beside : Kept
   pub through : GoesThrough core store opens asked made told new beside
 
--- lists of lines, one after another, each by the calls of a list, which came to those of a life with their replies
-abbrev pub AreServed : ℕ → List (List (Option Command)) → List Asked → List (List Call × List Reply) → Type 0
+-- lists of lines, one after another, each by the calls of a list, which came to those of a life with their replies, over the store
+-- that it was shown
+abbrev pub AreServed : ℕ → List (List (Option Command)) → List Asked → List (Option Store × List Call × List Reply) → Type 0
 AreServed earlier [] [] [] = Unit {0}
-AreServed earlier (lines ∷ lists) (asked ∷ others) (life ∷ lives) = IsServed earlier lines asked life.0 life.1 × AreServed (earlier + numbers_in lines) lists others lives
+AreServed earlier (lines ∷ lists) (asked ∷ others) (life ∷ lives) = IsServed earlier lines asked life.0 life.1 life.2 × AreServed (earlier + numbers_in lines) lists others lives
 AreServed earlier lists others lives = ⊥
 
-abbrev pub served_in : Life → List Call × List Reply
-served_in life = (life.calls, life.replies)
+-- what a life was shown, its calls and their replies
+abbrev pub served_in : Life → Option Store × List Call × List Reply
+served_in life = (life.showed, life.calls, life.replies)
 
 -- all replies of these lists, in order
 abbrev pub replies_of : List Asked → List Reply
@@ -76,9 +79,10 @@ abbrev pub made_of : List Asked → List ℕ
 made_of others = flat_map (λ asked. counts_of asked.made) others
 
 -- A session has come as far as this rest. Each crash and each reopening ended the life of an engine, and the core as it stands
--- is of one more: the calls of the lines between one crash or reopening and the next came to the calls of each. What was printed are
--- the answers by their replies. The last of them opened as the fold of what is left of the lives before it, in order: of each a beginning of what it tried, with all
--- that a sync followed that succeeded. Each `Io` of its calls was told where the device failed.
+-- is of one more: the calls of the lines between one crash or reopening and the next came to the calls of each, over the store that it
+-- was shown. What was printed are the answers by their replies. These stores are one chain: each life goes on from the one that it was
+-- shown with a beginning of what it tried, with all that a sync followed that succeeded, and the last of them opened as the last store
+-- of the chain, the fold of all this in order. Each `Io` of its calls was told where the device failed.
 pub record HasLived (commands rest : List (Option Command)) (printed : List (List ℕ)) (core : Held) (beside : Kept) : Type 0 where
   pub front : List (Option Command)
   pub split : commands ≡ front ++ rest
@@ -96,8 +100,7 @@ pub record HasLived (commands rest : List (Option Command)) (printed : List (Lis
   pub lists : List Asked
   pub last : Asked
   pub through : GoesThrough first (kept (fold base opened.front)) opened.opens last calls replies core beside
-  pub calls_are : AreServed 0 (slice_split is_stop front) (lists ++ last ∷ []) (map served_in lives ++ (calls, replies) ∷ [])
+  pub calls_are : AreServed 0 (slice_split is_stop front) (lists ++ last ∷ []) (map served_in lives ++ (Some (kept (fold base opened.front)), calls, replies) ∷ [])
   pub printed_are : printed ≡ answers_to 0 front (made_of lists ++ counts_of last.made) (replies_of lists ++ last.replies)
-  pub fronts : List (List store.Command)
-  pub left : AreLeftOf lives fronts
-  pub stands : OpensAs first (kept (fold (bare no_keyspaces) (all_left fronts)))
+  pub left : IsFoldOf (bare no_keyspaces) lives (kept (fold base opened.front))
+  pub stands : OpensAs first (kept (fold (bare no_keyspaces) (all_left left.fronts)))
