@@ -1,0 +1,12 @@
+pub mod Along
+pub mod AnyLife
+pub mod Chapters
+pub mod Faults
+pub mod Founding
+pub mod Fronts
+pub mod Ids
+pub mod Names
+pub mod Reading
+pub mod Refuted
+pub mod Values
+pub mod Writers
