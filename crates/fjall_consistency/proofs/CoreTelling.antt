@@ -40,7 +40,7 @@ use Rattle.fjall_machine.specs.Places.{id_opened, resolved, view_at}
 use Rattle.fjall_machine.specs.Shapes.{AsKeyspace, ByMode, OfChange, OfIngestion, OfRead, OneMore, Persistence, shape_of}
 use Rattle.fjall_machine.specs.declared.call.Call.{Call}
 use Rattle.fjall_machine.specs.declared.call.Call.TheVariants as core
-use Rattle.fjall_core.specs.Crashes as crashes
+use Rattle.fjall_transactions.specs.Crashes as crashes
 use Rattle.fjall_calls.specs.declared.call.TxCall.TheVariants.{Core}
 use Rattle.fjall_calls.specs.Hearing.{tx_of}
 use Rattle.fjall_calls.specs.Steps.{OfCore}

@@ -40,7 +40,7 @@ use Rattle.fjall_calls.specs.Worlds.{Going, World, along}
 use Rattle.fjall_calls.proofs.Following.{GoesOn, counted_next}
 use Rattle.fjall_calls.proofs.KeptWorlds.{IsKept, found_kind, found_open, kept_ended, kept_step, open_at}
 use Rattle.fjall_calls.proofs.Lists.{of_others, of_taken}
-use Rattle.fjall_core.specs.Crashes.{asked as core_asked}
+use Rattle.fjall_transactions.specs.Crashes.{asked as core_asked}
 use Rattle.fjall_transactions.specs.Commits.{change_of}
 use Rattle.fjall_transactions.specs.Standing.{CommitStep, Told, accepted_of, history_of}
 use Rattle.fjall_transactions.specs.Standing as standing

@@ -8,7 +8,7 @@ use Rattle.std.specs.Ordering.{nat_cmp}
 use Rattle.fjall_contents.proofs.Slots.{same_maps}
 use Rattle.std.proofs.lemmas.List.{append-nil, append_cancel_right}
 use Rattle.fjall_base.specs.Crash.{IsHoused}
-use Rattle.fjall_base.specs.Disk.{DiskState, Meaning, disk_of, standing, state_in}
+use Rattle.fjall_base.specs.Disk.{DiskState, Meaning, standing, state_in}
 use Rattle.fjall_base.specs.Store.{Command, Store, fold, kept}
 use Rattle.fjall_base.specs.declared.error.Error.{Error}
 use Rattle.fjall_base.specs.declared.error.Error.TheVariants as error
@@ -27,14 +27,13 @@ use Rattle.fjall_recovery.specs.Amid as amid
 use Rattle.fjall_recovery.specs.Folders.{Contents, ImageStandsFor}
 use Rattle.fjall_recovery.specs.Held.{IsOpenFolder}
 use Rattle.fjall_recovery.specs.Refusals.{IsDue, IsTornTail}
-use Rattle.fjall_core.specs.Crashes.{at_most_one}
-use Rattle.fjall_core.specs.Durables.{Passes}
-use Rattle.fjall_core.specs.Holding.{Held}
-use Rattle.fjall_core.specs.Openings.{OpensAmid, OpensAs}
-use Rattle.fjall_core.specs.Standing.{RunsOn}
-use Rattle.fjall_core.proofs.CrashedDisks.{crash_holds}
-use Rattle.fjall_core.proofs.CrashesInRuns.{no_more, run_passes}
-use Rattle.fjall_core.proofs.Reopening.{a_core_holds_amid, holds_store_amid}
+use Rattle.fjall_transactions.specs.Crashes.{at_most_one}
+use Rattle.fjall_transactions.specs.Durables.{Passes}
+use Rattle.fjall_transactions.specs.Holding.{Held}
+use Rattle.fjall_transactions.specs.Openings.{OpensAs}
+use Rattle.fjall_transactions.specs.CoreStanding.{RunsOn}
+use Rattle.fjall_lives.proofs.CrashesInRuns.{no_more, run_passes}
+use Rattle.fjall_transactions.proofs.Reopening.{a_core_holds_amid, holds_store_amid}
 use Rattle.fjall_lives.specs.Lives.{begun, start_of}
 use Rattle.fjall_lives.proofs.CrashedDisks.{new_disk_holds}
 use Rattle.fjall_transactions.specs.Standing.{StandFor, Told}
@@ -46,7 +45,7 @@ use Rattle.fjall_calls.specs.Worlds as worlds
 use Rattle.fjall_calls.proofs.Standing.{kept_beginning}
 use Rattle.fjall_consistency.specs.Alike.{AreAlike}
 use Rattle.fjall_consistency.specs.Consistency.{AreAnswers, AreLives, IsBeginning, IsLeft, IsLife, IsSyncAt, Known, NoLife, OneLife, RunsOut, after, all_attempted, attempted, begins, no_store}
-use Rattle.fjall_consistency.specs.Links.{EndsAs, GoesOn, IsClosed, IsFresh, IsLet, IsTurned, IsUnclosed, Leaves, LivesOn, PassesOn, ServesOn}
+use Rattle.fjall_consistency.specs.Links.{EndsAs, Holds, IsClosed, IsFresh, IsLet, IsUnclosed, Leaves, LivesOn, PassesOn, ServesOn}
 use Rattle.fjall_consistency.specs.declared.life.Life.{Life}
 use Rattle.fjall_consistency.specs.declared.life.Told as lives
 use Rattle.fjall_consistency.proofs.Alike.{AllAlike, alike_front, alike_itself, alike_length, begins_longer, fold_alike, kept_alike, same_front}
@@ -162,18 +161,18 @@ module _ (honest : Bool) (h : IsTrue honest) (core new : Held) (beside : Kept) (
   ran_on = run honest h core new beside store life.calls.items told.replies.items opens ran
 
   -- an engine that didn't close leaves so
-  open_life : told.closed ≡ false → (front : List Command) → amid.IsBeginning front ran_on.durable.pending → (next : Store) → next ≡ kept (fold ran_on.durable.base front) → LivesOn store life (Ok told) next
+  open_life : told.closed ≡ false → (front : List Command) → amid.IsBeginning front ran_on.durable.pending → (next : Store) → next ≡ kept (fold ran_on.durable.base front) → LivesOn false store life (Ok told) next
   open_life unclosed front waits next is start alike =
       let p = passed honest h core new beside store life.calls.items told.replies.items opens ran in
       let (other, each, leaves) = left honest h core new beside store life.calls.items told.replies.items opens ran start alike p.safe p.rest front waits in (
         kept (fold start other),
-        (answered honest h core new beside store life.calls.items told.replies.items opens ran start alike, other, leaves, λ closed. absurd (true≢false (sym closed ∙ unclosed)), refl),
+        ((λ closed. absurd (true≢false (sym closed ∙ unclosed))), (answered honest h core new beside store life.calls.items told.replies.items opens ran start alike, other, leaves, (λ closed. absurd (true≢false (sym closed ∙ unclosed))), refl)),
         subst (λ (s : Store). AreAlike s (kept (fold start other))) (sym (is ∙ left_is honest h core new beside store life.calls.items told.replies.items opens ran p.safe p.base front))
             (kept_alike (fold store (p.safe ++ front)) (fold start other) (fold_alike (p.safe ++ front) other store start each alike)),
       )
 
   -- and one that closed so
-  closed_life : life.closes ≡ true → ran_on.state.poisoned ≡ false → (next : Store) → next ≡ kept (present ran_on.state) → LivesOn store life (Ok told) next
+  closed_life : life.closes ≡ true → ran_on.state.poisoned ≡ false → (next : Store) → next ≡ kept (present ran_on.state) → LivesOn false store life (Ok told) next
   closed_life closes well next is start alike =
       let p = passed honest h core new beside store life.calls.items told.replies.items opens ran in
       let tried = tries honest h core new beside store life.calls.items told.replies.items opens ran start alike in
@@ -185,7 +184,7 @@ module _ (honest : Bool) (h : IsTrue honest) (core new : Held) (beside : Kept) (
       let c : length (p.safe ++ pending) ≡ length ran_on.tried = ap length p.rest in
       let all : other ≡ attempts = same_front other attempts attempts leaves.within ([], append-nil attempts) (omega (arith, n, m, c)) in (
         kept (fold start other),
-        (answered honest h core new beside store life.calls.items told.replies.items opens ran start alike, other, leaves, λ closed. (closes, all), refl),
+        ((λ closed. closes), (answered honest h core new beside store life.calls.items told.replies.items opens ran start alike, other, leaves, (λ closed. all), refl)),
         subst (λ (s : Store). AreAlike s (kept (fold start other)))
             (sym (is ∙ ap kept (all_there honest h core new beside store life.calls.items told.replies.items opens ran well) ∙ ap (λ (l : List Command). kept (fold store l)) (sym p.rest)))
             (kept_alike (fold store (p.safe ++ pending)) (fold start other) (fold_alike (p.safe ++ pending) other store start each alike)),
@@ -237,8 +236,8 @@ pub used_up : (e : Error) → e ≡ error.OutOfMemory → RunsOut e
 used_up e is = subst RunsOut (sym is) tt
 
 -- a life that was refused as a whole changed nothing
-refused_life : (store : Store) (life : Life) (error : Error) (next : Store) → RunsOut error → next ≡ store → LivesOn store life (Err error) next
-refused_life store life error next out is start alike = (start, (out, refl), subst (λ (s : Store). AreAlike s start) (sym is) alike)
+refused_life : (store : Store) (life : Life) (error : Error) (next : Store) → RunsOut error → next ≡ store → LivesOn false store life (Err error) next
+refused_life store life error next out is start alike = (start, (inr out, refl), subst (λ (s : Store). AreAlike s start) (sym is) alike)
 
 -- what a list leaves that was refused as a whole
 pub none_served : (core : Held) (store : Store) (life : Life) (error : Error) → RunsOut error → kept store ≡ store → OpensAs core store → IsHoused (state_in core.disk) → Leaves store life (Err error) core.disk
@@ -250,18 +249,6 @@ none_served core store life error out is opens housed = record {
 }
 
 -- ---- from one disk to another
-
--- an engine that opened amid commands went on from one of their beginnings
-pub opened_passes : (old : Meaning) (core : Held) (beside : Kept) (life : Life) (told : Result lives.Told Error) (new : Meaning) → ((base : Store) (pending : List Command) → HoldsAmid (state_in old) base pending → OpensAmid old core base pending)
-    → beside ≡ none_kept → ServesOn core beside life told new → PassesOn old life told new
-opened_passes old core beside life told new amid none serves base pending holds =
-    let opened = amid base pending holds in
-    let leaves = serves none (kept (fold base opened.front)) (kept_twice (fold base opened.front)) opened.opens in
-    record { next = leaves.next; waits = leaves.waits; holds = leaves.holds; each = λ front waits. (opened.front, opened.within, leaves.each front waits) }
-
--- an opening that was refused changed nothing
-pub stays_passes : (base : Store) (pending : List Command) (life : Life) (error : Error) (new : Meaning) → RunsOut error → HoldsAmid (state_in new) base pending → GoesOn base pending life (Err error) new
-stays_passes base pending life error new out holds = record { next = base; waits = pending; holds = holds; each = λ front waits. (front, waits, refused_life (kept (fold base front)) life error (kept (fold base front)) out refl) }
 
 -- what stands for a store opens
 pub some_folder : (disk : DiskState) (base : Store) (pending : List Command) → HoldsAmid disk base pending → (folder : Option Contents) × IsOpenFolder (standing disk) folder
@@ -284,16 +271,16 @@ opening_runs_out mode IsTorn e is due = absurd (not_strict mode is due.0)
 
 -- ---- lives
 
-one_more : (start next end : Store) (some : List Life) (tells : List (Result lives.Told Error)) (life : Life) (told : Result lives.Told Error) → AreLives start some tells next → IsLife next life told end → AreLives start (some ++ life ∷ []) (tells ++ told ∷ []) end
-one_more start next end some tells life told (NoLife s) is = OneLife s end end life told [] [] is (NoLife end)
-one_more start next end some tells life told (OneLife s mid e first heard rest others lived more) is = OneLife s mid end first heard (rest ++ life ∷ []) (others ++ told ∷ []) lived (one_more mid next end rest others life told more is)
+one_more : (wild : Bool) (start next end : Store) (some : List Life) (tells : List (Result lives.Told Error)) (life : Life) (told : Result lives.Told Error) → AreLives wild start some tells next → IsLife wild next life told end → AreLives wild start (some ++ life ∷ []) (tells ++ told ∷ []) end
+one_more wild start next end some tells life told (NoLife s) is = OneLife s end end life told [] [] is (NoLife end)
+one_more wild start next end some tells life told (OneLife s mid e first heard rest others lived more) is = OneLife s mid end first heard (rest ++ life ∷ []) (others ++ told ∷ []) lived (one_more wild mid next end rest others life told more is)
 
 -- The disk holds a store with a beginning of what waits, and each of them is alike one to which the lives led so far.
-pub record HasCome (some : List Life) (tells : List (Result lives.Told Error)) (disk : Meaning) : Type 0 where
+pub record HasCome (wild : Bool) (some : List Life) (tells : List (Result lives.Told Error)) (disk : Meaning) : Type 0 where
   pub base : Store
   pub pending : List Command
-  pub holds : HoldsAmid (state_in disk) base pending
-  pub each : (front : List Command) → amid.IsBeginning front pending → (end : Store) × AreLives no_store some tells end × AreAlike (kept (fold base front)) end
+  pub holds : Holds wild (state_in disk) base pending
+  pub each : (front : List Command) → amid.IsBeginning front pending → (end : Store) × AreLives wild no_store some tells end × AreAlike (kept (fold base front)) end
 
 retained_none : {X : Type 0} (p : ℕ → Bool) → retain_keys (empty {K = ℕ} {X = X} {R = nat_cmp}) p ≡ empty
 retained_none {X = X} p = same_maps (retain_keys (empty {K = ℕ} {X = X} {R = nat_cmp}) p) (empty {K = ℕ} {X = X} {R = nat_cmp}) (λ q. get-retain_keys (empty {K = ℕ} {X = X} {R = nat_cmp}) p q (λ x e. ap p (sym (nat_cmp-IsAntisymmetric q x e))) ∙ by q (p q) refl ∙ sym (get-empty nat_cmp q))
@@ -307,11 +294,11 @@ nothing_kept =
     let p = contains_key (bare no_keyspaces).names in
     λ i. record { names = (bare no_keyspaces).names; maps = retained_none p i; options = retained_none p i; next = 1 }
 
-pub none_yet : (disk : Meaning) → IsFresh disk → HasCome [] [] disk
-none_yet disk fresh = record {
+pub none_yet : (wild : Bool) (disk : Meaning) → IsFresh disk → HasCome wild [] [] disk
+none_yet wild disk fresh = record {
   base = bare no_keyspaces;
   pending = [];
-  holds = holds_store_amid (state_in disk) (bare no_keyspaces) (new_disk_holds (state_in disk) fresh);
+  holds = inl (holds_store_amid (state_in disk) (bare no_keyspaces) (new_disk_holds (state_in disk) fresh));
   each = λ front waits. (
     no_store,
     NoLife no_store,
@@ -319,9 +306,9 @@ none_yet disk fresh = record {
   );
 }
 
-pub one_more_life : (some : List Life) (tells : List (Result lives.Told Error)) (life : Life) (told : Result lives.Told Error) (old new : Meaning) → HasCome some tells old → PassesOn old life told new → HasCome (some ++ life ∷ []) (tells ++ told ∷ []) new
-one_more_life some tells life told old new come passes =
-    let on = passes come.base come.pending come.holds in
+pub one_more_life : (wild : Bool) (some : List Life) (tells : List (Result lives.Told Error)) (life : Life) (told : Result lives.Told Error) (old new : Meaning) → HasCome wild some tells old → PassesOn old life told new → HasCome wild (some ++ life ∷ []) (tells ++ told ∷ []) new
+one_more_life wild some tells life told old new come passes =
+    let on = passes wild come.base come.pending come.holds in
     record {
       base = on.next;
       pending = on.waits;
@@ -330,24 +317,9 @@ one_more_life some tells life told old new come passes =
           let (before, begun_so, goes) = on.each front waits in
           let (next, are, alike) = come.each before begun_so in
           let (end, is, alike_end) = goes next alike in
-          (end, one_more no_store next end some tells life told are is, alike_end);
-    }
-
--- a crash picks one of them
-pub turned : (some : List Life) (tells : List (Result lives.Told Error)) (old new : Meaning) → HasCome some tells old → IsTurned old new → HasCome some tells new
-turned some tells old new come (inl same) = record { base = come.base; pending = come.pending; holds = subst (λ (st : DiskState). HoldsAmid st come.base come.pending) (sym same) come.holds; each = come.each }
-turned some tells old new come (inr (image, is, put)) =
-    let left_amid = come.holds.crash image is in
-    let store = kept (fold come.base left_amid.front) in
-    record {
-      base = store;
-      pending = [];
-      holds = subst (λ (st : DiskState). HoldsAmid st store []) (sym put) (holds_store_amid (disk_of image) store (crash_holds (state_in old) [] image store is left_amid.stands));
-      each = λ front waits.
-          let (end, are, alike) = come.each left_amid.front left_amid.within in
-          (end, are, subst (λ (s : Store). AreAlike s end) (sym (ap (λ (l : List Command). kept (fold store l)) (no_more front waits.0 waits.1) ∙ kept_twice (fold come.base left_amid.front))) alike);
+          (end, one_more wild no_store next end some tells life told are is, alike_end);
     }
 
 -- so there is an end
-pub come_to : (some : List Life) (tells : List (Result lives.Told Error)) (disk : Meaning) → HasCome some tells disk → (end : Store) × AreLives no_store some tells end
-come_to some tells disk come = let (end, are, alike) = come.each [] (come.pending, refl) in (end, are)
+pub come_to : (wild : Bool) (some : List Life) (tells : List (Result lives.Told Error)) (disk : Meaning) → HasCome wild some tells disk → (end : Store) × AreLives wild no_store some tells end
+come_to wild some tells disk come = let (end, are, alike) = come.each [] (come.pending, refl) in (end, are)

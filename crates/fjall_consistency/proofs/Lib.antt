@@ -13,4 +13,5 @@ pub mod Serial
 pub mod Steps
 pub mod Telling
 pub mod Turning
+pub mod WildTurns
 pub mod WithinTelling

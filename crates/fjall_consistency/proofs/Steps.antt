@@ -26,7 +26,7 @@ use Rattle.fjall_machine.specs.Machine.{Answers, BeginsFlush, BeginsMerge, Count
 use Rattle.fjall_machine.proofs.Dues.{is_so, neither, none_due}
 use Rattle.fjall_machine.proofs.Viewing.{latest_grown}
 use Rattle.fjall_consistency.specs.Consistency.{is_fault}
-use Rattle.fjall_core.specs.Crashes.{asked, is_io}
+use Rattle.fjall_transactions.specs.Crashes.{asked, is_io}
 
 -- ---- refused
 

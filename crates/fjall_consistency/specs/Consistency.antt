@@ -1,5 +1,5 @@
 -- What callers may rely on, told by what they see alone: stores, calls, replies, and which store each life of an engine begins with.
-use Rattle.std.specs.Prelude.{◌≡◌, ◌≢◌, ◌⊎◌, ⊤, ℕ, zero, suc, ◌<◌, ◌≤◌, ◌^◌, ◌||◌, ◌==◌, nat_lt, Bool, true, false, if◌then◌else◌, List, [], ◌∷◌, ◌++◌, length, map, take, flat_map, slice_get, slice_set, All, Any, AllPairs, Option, Some, None, IsSomeAnd, unwrap_or, option_map, option_to_list, Result, Ok, Err, Vec}
+use Rattle.std.specs.Prelude.{◌≡◌, ◌≢◌, ◌⊎◌, ⊤, ℕ, zero, suc, ◌<◌, ◌≤◌, ◌^◌, ◌||◌, ◌==◌, nat_lt, Bool, true, false, if◌then◌else◌, List, [], ◌∷◌, ◌++◌, length, map, take, flat_map, slice_get, slice_set, All, Any, AllPairs, Option, Some, None, IsSomeAnd, IsTrue, unwrap_or, option_map, option_to_list, Result, Ok, Err, Vec}
 use Rattle.std.specs.List.{list_any}
 use Rattle.std.specs.Option.{option_eq}
 use Rattle.std.specs.Str.{bytes_eq}
@@ -363,20 +363,24 @@ pub record IsLeft (k : Known) (calls : List TxCall) (replies : List Reply) (fron
 
 -- ---- lives
 
--- One life, from the store that it began with to the one that the next life begins with. Its calls were answered; all is left that it
--- attempted where it was closed, and else as much as a crash leaves. Or it was refused as a whole, since something ran out, and changed nothing.
-abbrev pub IsLife : Store → Life → Result Told Error → Store → Type 0
-IsLife start life (Err error) next = RunsOut error × (next ≡ start)
-IsLife start life (Ok told) next =
-    AreAnswers (begins start) life.calls.items told.replies.items
-    × (front : List Command) × IsLeft (begins start) life.calls.items told.replies.items front
-    × (told.closed ≡ true → (life.closes ≡ true) × (front ≡ all_attempted (begins start) life.calls.items told.replies.items)) × (next ≡ kept (fold start front))
+-- The calls of a life lead from the store that it began with to the one that the next life begins with: they were answered, and as much is
+-- left of what they attempted as a crash leaves; all of it where the engine closed.
+abbrev pub Leads : Store → List TxCall → List Reply → Bool → Store → Type 0
+Leads start calls replies closed next =
+    AreAnswers (begins start) calls replies
+    × (front : List Command) × IsLeft (begins start) calls replies front × (closed ≡ true → front ≡ all_attempted (begins start) calls replies) × (next ≡ kept (fold start front))
+
+-- One life. It was refused as a whole, since something ran out or, where crashes may be wild, since its opening found something wrong, and
+-- changed nothing. Or its calls lead on, and it closed only where it was to.
+abbrev pub IsLife : Bool → Store → Life → Result Told Error → Store → Type 0
+IsLife wild start life (Err error) next = (IsTrue wild ⊎ RunsOut error) × (next ≡ start)
+IsLife wild start life (Ok told) next = (told.closed ≡ true → life.closes ≡ true) × Leads start life.calls.items told.replies.items told.closed next
 
 -- lives one after another, from this store to that one
-pub data AreLives : Store → List Life → List (Result Told Error) → Store → Type 0 where
-  NoLife : (s : Store) → AreLives s [] [] s
+pub data AreLives (wild : Bool) : Store → List Life → List (Result Told Error) → Store → Type 0 where
+  NoLife : (s : Store) → AreLives wild s [] [] s
   OneLife : (start next end : Store) (life : Life) (told : Result Told Error) (lives : List Life) (others : List (Result Told Error))
-      → IsLife start life told next → AreLives next lives others end → AreLives start (life ∷ lives) (told ∷ others) end
+      → IsLife wild start life told next → AreLives wild next lives others end → AreLives wild start (life ∷ lives) (told ∷ others) end
 
 -- a store of no keyspace
 abbrev pub no_store : Store

@@ -69,7 +69,7 @@ pub fn live<P: Power>(
     lives: Vec<Life>,
 ) -> Result<Vec<Result<Told>>>
     requires fresh { IsTrue P.Disk.honest → IsFresh (P.Disk.meaning disk) }
-    ensures lives { IsTrue P.Disk.honest → IfOk result (λ told. (end : Store) × AreLives no_store lives.items told.items end) }
+    ensures lives { IsTrue P.Disk.honest → IfOk result (λ told. (end : Store) × AreLives P.wild no_store lives.items told.items end) }
     ensures turns { OnOk result (P.turns power.new ≡ P.turns power.old + length lives.items) }
 {
     let mut disk = disk;

@@ -1,6 +1,6 @@
 //! The power of a disk in memory, told in advance.
 
-ghost use Rattle.std.specs.Prelude.{IfOk};
+ghost use Rattle.std.specs.Prelude.{false, IfOk};
 ghost use Rattle.fjall_consistency.specs.Links.{IsTurned};
 ghost use Rattle.fjall_memory.specs.MemoryDisk.{meaning_in};
 
@@ -28,7 +28,7 @@ pub struct Outages {
 
 // The disk after one of them.
 fn turned(turn: Option<Turn>, disk: MemoryDisk) -> Result<MemoryDisk>
-    ensures { IfOk result (λ after. IsTurned (meaning_in disk) (meaning_in after)) }
+    ensures { IfOk result (λ after. IsTurned false (meaning_in disk) (meaning_in after)) }
 {
     let Some(turn) = turn else {
         return Ok(disk);
@@ -43,6 +43,8 @@ fn turned(turn: Option<Turn>, disk: MemoryDisk) -> Result<MemoryDisk>
 
 impl Power for Outages {
     type Disk = MemoryDisk;
+
+    ghost wild = { false };
 
     ghost turns = { λ outages. outages.made };
 

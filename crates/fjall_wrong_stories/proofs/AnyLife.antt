@@ -1,5 +1,5 @@
 -- Why no wrong story of any life is told.
-use Rattle.std.proofs.Common.{◌≡◌, ◌≢◌, ℕ, ◌<◌, true, false, true≢false, List, [], ◌∷◌, ◌++◌, length, All, Some, is_some, Result, refl, sym, ap, subst, ◌∙◌, arith}
+use Rattle.std.proofs.Common.{◌≡◌, ◌≢◌, ℕ, ◌<◌, Bool, true, false, true≢false, List, [], ◌∷◌, ◌++◌, length, All, Some, is_some, Result, refl, sym, ap, subst, ◌∙◌, arith}
 use Rattle.std.specs.FinMap.{get, get-empty}
 use Rattle.std.specs.Ordering.{nat_cmp}
 use Rattle.fjall_base.specs.Pairs.{Bytes}
@@ -26,14 +26,14 @@ none_lives : (id : ℕ) → is_living no_store id ≡ false
 none_lives id = ap is_some (get-empty nat_cmp id)
 
 -- some life is found, and the ids of its first store are below the next one
-found : (P : Life → Told → Type 0) (lives : List Life) (told : List (Result Told Error)) (end : Store) → AreLives no_store lives told end → SomeLife P lives told → Found AreBelow P
-found P lives told end are some =
-    some_life AreBelow P below_fold no_store end lives told (λ id living. absurd (true≢false (sym living ∙ none_lives id))) are some
+found : (wild : Bool) (P : Life → Told → Type 0) (lives : List Life) (told : List (Result Told Error)) (end : Store) → AreLives wild no_store lives told end → SomeLife P lives told → Found wild AreBelow P
+found wild P lives told end are some =
+    some_life wild AreBelow P below_fold no_store end lives told (λ id living. absurd (true≢false (sym living ∙ none_lives id))) are some
 
 pub no_let_go_life_closes : Never stories.ALifeThatWasLetGoClosed
-no_let_go_life_closes lives told end are story =
-    let life = found _ lives told end are story in
-    true≢false (sym (life.is.3 life.so.1).0 ∙ life.so.0)
+no_let_go_life_closes wild lives told end are story =
+    let life = found wild _ lives told end are story in
+    true≢false (sym (life.is.0 life.so.1) ∙ life.so.0)
 
 -- ---- single writers
 
@@ -59,10 +59,10 @@ begin_alone k before between behind none leaves are = last.0.0.1 (is_writing (le
     last = told_behind begun between rest begins_one.1
 
 pub no_two_writers : Never stories.TwoSingleWriters
-no_two_writers lives told end are story =
-    let life = found _ lives told end are story in
+no_two_writers wild lives told end are story =
+    let life = found wild _ lives told end are story in
     let (before, between, behind, leaves, had) = life.so in
-    begin_alone (begins life.start) before between behind refl leaves (life_told life.start life.next life.life life.told _ life.is had)
+    begin_alone (begins life.start) before between behind refl leaves (life_told wild life.start life.next life.life life.told _ life.is had)
 
 -- ---- keyspaces
 
@@ -128,26 +128,26 @@ never_inserts k name options id key value before between more behind below are =
     lives = insert_lives (known_after deleted more) id key value behind (told_behind deleted more last deletes.1)
 
 pub no_deleted_keyspace_is_written : Never stories.ADeletedKeyspaceTakesWrites
-no_deleted_keyspace_is_written lives told end are story =
-    let life = found _ lives told end are story in
+no_deleted_keyspace_is_written wild lives told end are story =
+    let life = found wild _ lives told end are story in
     let (name, options, id, key, value, before, between, more, behind, had) = life.so in
-    never_inserts (begins life.start) name options id key value before between more behind life.sound (life_told life.start life.next life.life life.told _ life.is had)
+    never_inserts (begins life.start) name options id key value before between more behind life.sound (life_told wild life.start life.next life.life life.told _ life.is had)
 
 -- ---- keys
 
 pub no_write_without_a_key : Never stories.AWriteWithoutAKey
-no_write_without_a_key lives told end are story =
-    let life = found _ lives told end are story in
+no_write_without_a_key wild lives told end are story =
+    let life = found wild _ lives told end are story in
     let (id, value, before, behind, had) = life.so in
     let k = begins life.start in
-    let last = told_behind k before ((insert id [] value, Done) ∷ behind) (life_told life.start life.next life.life life.told _ life.is had) in
+    let last = told_behind k before ((insert id [] value, Done) ∷ behind) (life_told wild life.start life.next life.life life.told _ life.is had) in
     (last.0.0 0 (record { id = id; key = []; value = Some value }) (omega arith)).1 refl
 
 pub no_write_into_no_keyspace : Never stories.AWriteIntoNoKeyspace
-no_write_into_no_keyspace lives told end are story =
+no_write_into_no_keyspace wild lives told end are story =
     let (id, key, value, before, behind, untold_before, went) = story in
     let last = (insert id key value, Done) ∷ behind in
-    let life = goes no_store end lives told (Ended (before ++ last)) [] are went in
+    let life = goes wild no_store end lives told (Ended (before ++ last)) [] are went in
     let gone = along (λ k. is_living k.present id ≡ false) (λ step. (name : Bytes) (options : List Bytes) → step ≢ (keyspace name options, Number id)) (untold id)
     (begins no_store) before last life.served.answers untold_before (none_lives id) in
     true≢false (sym (insert_lives (known_after (begins no_store) before) id key value behind (told_behind (begins no_store) before last life.served.answers)) ∙ gone)
@@ -155,10 +155,10 @@ no_write_into_no_keyspace lives told end are story =
 -- ---- reads
 
 pub no_unknown_keyspace_is_read : Never stories.AnUnknownKeyspaceIsRead
-no_unknown_keyspace_is_read lives told end are story =
+no_unknown_keyspace_is_read wild lives told end are story =
     let (view, id, key, found, before, behind, untold_before, went) = story in
     let last = (Core (core.GetAt view id key), Value found) ∷ behind in
-    let life = goes no_store end lives told (Ended (before ++ last)) [] are went in
+    let life = goes wild no_store end lives told (Ended (before ++ last)) [] are went in
     let unknown = along (λ k. IsMade k.present id → ⊥) (λ step. (name : Bytes) (options : List Bytes) → step ≢ (keyspace name options, Number id)) (unmade id)
     (begins no_store) before last life.served.answers untold_before (λ made. omega (arith, made.0, made.1)) in
     unknown ((told_behind (begins no_store) before last life.served.answers).0.1 0 id (omega arith))

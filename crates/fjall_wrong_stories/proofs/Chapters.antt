@@ -1,12 +1,12 @@
 -- What is known of lives that went as chapters say.
-use Rattle.std.proofs.Common.{◌≡◌, Bool, true, List, [], ◌∷◌, map, Result, Ok, Err, subst₂}
+use Rattle.std.proofs.Common.{◌≡◌, Bool, List, [], ◌∷◌, map, Result, Ok, Err, subst₂}
 use Rattle.fjall_base.specs.Store.{Store, Command, fold, kept}
 use Rattle.fjall_base.specs.declared.error.Error.{Error}
 use Rattle.fjall_history.specs.declared.reply.Reply.{Reply}
 use Rattle.fjall_calls.specs.declared.call.TxCall.{TxCall}
 use Rattle.fjall_consistency.specs.declared.life.Life.{Life}
 use Rattle.fjall_consistency.specs.declared.life.Told.{Told}
-use Rattle.fjall_consistency.specs.Consistency.{AreAnswers, AreLives, IsLeft, IsLife, OneLife, all_attempted, begins}
+use Rattle.fjall_consistency.specs.Consistency.{AreAnswers, AreLives, IsLeft, IsLife, Leads, OneLife, all_attempted, begins}
 use Rattle.fjall_wrong_stories.specs.Stories.{Chapter, Closed, Ended, IsChapter, Step, Went}
 
 abbrev pub calls_in : List Step → List TxCall
@@ -33,33 +33,27 @@ pub record Served (start : Store) (chapter : Chapter) (next : Store) : Type 0 wh
   pub is : next ≡ kept (fold start front)
 
 -- the first of lives that went so, and those behind it
-pub record Goes (start : Store) (chapter : Chapter) (chapters : List Chapter) : Type 0 where
+pub record Goes (wild : Bool) (start : Store) (chapter : Chapter) (chapters : List Chapter) : Type 0 where
   pub next : Store
   pub served : Served start chapter next
   pub end : Store
   pub lives : List Life
   pub told : List (Result Told Error)
-  pub are : AreLives next lives told end
+  pub are : AreLives wild next lives told end
   pub went : Went lives told chapters
 
--- a life by whether it was to close, whether it told that it did, its calls and its replies
-abbrev Lasts : Store → Bool → Bool → Store → List TxCall → List Reply → Type 0
-Lasts start closes closed next calls replies =
-    AreAnswers (begins start) calls replies × (front : List Command) × IsLeft (begins start) calls replies front
-    × (closed ≡ true → (closes ≡ true) × (front ≡ all_attempted (begins start) calls replies)) × (next ≡ kept (fold start front))
-
-served : (start next : Store) (life : Life) (told : Told) (chapter : Chapter) → IsLife start life (Ok told) next → IsChapter life told chapter → Served start chapter next
-served start next life told (Closed steps) is h =
-    let l = subst₂ (Lasts start life.closes told.closed next) h.0.0 h.0.1 is in
-    record { answers = l.0; front = l.1; left = l.2; closes = λ u. (l.3 h.1).1; is = l.4 }
-served start next life told (Ended steps) is h =
-    let l = subst₂ (Lasts start life.closes told.closed next) h.0 h.1 is in
+served : (wild : Bool) (start next : Store) (life : Life) (told : Told) (chapter : Chapter) → IsLife wild start life (Ok told) next → IsChapter life told chapter → Served start chapter next
+served wild start next life told (Closed steps) is h =
+    let l = subst₂ (λ calls replies. Leads start calls replies told.closed next) h.0.0 h.0.1 is.1 in
+    record { answers = l.0; front = l.1; left = l.2; closes = λ u. l.3 h.1; is = l.4 }
+served wild start next life told (Ended steps) is h =
+    let l = subst₂ (λ calls replies. Leads start calls replies told.closed next) h.0 h.1 is.1 in
     record { answers = l.0; front = l.1; left = l.2; closes = λ u. absurd u; is = l.4 }
 
-pub goes : (start end : Store) (lives : List Life) (told : List (Result Told Error)) (chapter : Chapter) (chapters : List Chapter)
-    → AreLives start lives told end → Went lives told (chapter ∷ chapters) → Goes start chapter chapters
-goes start end (life ∷ lives) (Ok t ∷ told) chapter chapters (OneLife _ next _ _ _ _ _ is more) went =
-    record { next = next; served = served start next life t chapter is went.0; end = end; lives = lives; told = told; are = more; went = went.1 }
-goes start end (life ∷ lives) (Err e ∷ told) chapter chapters are went = absurd went
-goes start end [] told chapter chapters are went = absurd went
-goes start end (life ∷ lives) [] chapter chapters are went = absurd went
+pub goes : (wild : Bool) (start end : Store) (lives : List Life) (told : List (Result Told Error)) (chapter : Chapter) (chapters : List Chapter)
+    → AreLives wild start lives told end → Went lives told (chapter ∷ chapters) → Goes wild start chapter chapters
+goes wild start end (life ∷ lives) (Ok t ∷ told) chapter chapters (OneLife _ next _ _ _ _ _ is more) went =
+    record { next = next; served = served wild start next life t chapter is went.0; end = end; lives = lives; told = told; are = more; went = went.1 }
+goes wild start end (life ∷ lives) (Err e ∷ told) chapter chapters are went = absurd went
+goes wild start end [] told chapter chapters are went = absurd went
+goes wild start end (life ∷ lives) [] chapter chapters are went = absurd went

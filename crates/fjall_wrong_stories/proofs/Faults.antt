@@ -77,19 +77,19 @@ makes_none k name options id is broken free = by (has_name k.present name) free 
     by false e none = cc
 
 pub no_fault_shifts_ids : Never stories.AFaultShiftsTheIds
-no_fault_shifts_ids lives told end are story =
+no_fault_shifts_ids wild lives told end are story =
     let (name, other, options, more, error, fault, id, before, between, behind, free, other_free, went) = story in
     let last = (keyspace other more, Number id) ∷ behind in
     let steps = before ++ ((keyspace name options, Refused error) ∷ between ++ last) in
-    let life = goes no_store end lives told (Ended steps) [] are went in
+    let life = goes wild no_store end lives told (Ended steps) [] are went in
     let at = behind_fault name options error before between last fault free life.served.answers in
     makes_none at.k other more id at.told.0 at.stuck.0 (ap (λ (s : Store). has_name s other) at.stuck.1 ∙ free_after other before _ life.served.answers other_free)
 
 pub no_write_behind_a_fault : Never stories.AWriteBehindAFault
-no_write_behind_a_fault lives told end are story =
+no_write_behind_a_fault wild lives told end are story =
     let (name, options, error, fault, id, key, value, before, between, behind, free, went) = story in
     let last = (insert id key value, Done) ∷ behind in
     let steps = before ++ ((keyspace name options, Refused error) ∷ between ++ last) in
-    let life = goes no_store end lives told (Ended steps) [] are went in
+    let life = goes wild no_store end lives told (Ended steps) [] are went in
     let at = behind_fault name options error before between last fault free life.served.answers in
     cc (at.told.0.2 at.stuck.0)

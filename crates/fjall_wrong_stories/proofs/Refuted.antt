@@ -1,5 +1,5 @@
 -- Why no wrong story is told.
-use Rattle.std.proofs.Common.{◌≡◌, ◌≢◌, ◌⊎◌, ℕ, zero, suc, ◌<◌, Bool, true, false, List, [], ◌∷◌, ◌++◌, if◌then◌else◌, true≢false, length, slice_index_or, map, Option, Some, None, is_some, Vec, Global, Result, Err, refl, sym, ap, subst, ◌∙◌, inl, inr, arith}
+use Rattle.std.proofs.Common.{◌≡◌, ◌≢◌, ◌⊎◌, ℕ, zero, suc, ◌<◌, Bool, true, false, List, [], ◌∷◌, ◌++◌, if◌then◌else◌, true≢false, length, slice_index_or, map, Option, Some, None, is_some, Vec, Global, Result, Err, IsTrue, refl, sym, ap, subst, ◌∙◌, inl, inr, arith}
 use Rattle.std.specs.FinMap.{get}
 use Rattle.fjall_base.specs.Pairs.{Bytes}
 use Rattle.fjall_base.specs.Store.{Store, Command, Write, Delete, apply, fold, kept}
@@ -21,7 +21,7 @@ use Rattle.fjall_consistency.specs.Consistency.{AreLives, HasCause, IsBeginning,
 use Rattle.fjall_consistency.specs.declared.life.Life.{Life}
 use Rattle.fjall_consistency.specs.declared.life.Told.{Told}
 use Rattle.fjall_wrong_stories.specs.Stories as stories
-use Rattle.fjall_wrong_stories.specs.Stories.{Never, Chapter, Ended, Closed, IsGranted, Step, Went, commit_batch, keyspace, insert, persist}
+use Rattle.fjall_wrong_stories.specs.Stories.{Never, NeverTame, Chapter, Ended, Closed, IsGranted, Step, Went, commit_batch, keyspace, insert, persist}
 use Rattle.fjall_wrong_stories.proofs.Values.{made, made_value, made_id, wrote_it, wrote_another, wrote_some, kept_value, kept_none, deleted}
 use Rattle.fjall_wrong_stories.proofs.Fronts.{of_none, of_more, both_ways}
 use Rattle.fjall_wrong_stories.proofs.Chapters.{Served, goes}
@@ -37,29 +37,29 @@ no_value e = cc
 -- ---- lives
 
 -- one life that makes a keyspace
-one_life : (name : Bytes) (options : List Bytes) (id : ℕ) (first : Chapter) (lives : List Life) (told : List (Result Told Error)) (end : Store)
-    → AreLives no_store lives told end → Went lives told (ahead (keyspace name options, Number id) first ∷ []) → (next : Store) × Founds name id first next
-one_life name options id first lives told end are went =
-    let one = goes no_store end lives told (ahead (keyspace name options, Number id) first) [] are went in
+one_life : (wild : Bool) (name : Bytes) (options : List Bytes) (id : ℕ) (first : Chapter) (lives : List Life) (told : List (Result Told Error)) (end : Store)
+    → AreLives wild no_store lives told end → Went lives told (ahead (keyspace name options, Number id) first ∷ []) → (next : Store) × Founds name id first next
+one_life wild name options id first lives told end are went =
+    let one = goes wild no_store end lives told (ahead (keyspace name options, Number id) first) [] are went in
     (one.next, founds name options id first one.next one.served)
 
 -- and a second one behind it
-two_lives : (name : Bytes) (options : List Bytes) (id : ℕ) (first second : Chapter) (lives : List Life) (told : List (Result Told Error)) (end : Store)
-    → AreLives no_store lives told end → Went lives told (ahead (keyspace name options, Number id) first ∷ second ∷ [])
+two_lives : (wild : Bool) (name : Bytes) (options : List Bytes) (id : ℕ) (first second : Chapter) (lives : List Life) (told : List (Result Told Error)) (end : Store)
+    → AreLives wild no_store lives told end → Went lives told (ahead (keyspace name options, Number id) first ∷ second ∷ [])
     → (next last : Store) × Founds name id first next × Served next second last
-two_lives name options id first second lives told end are went =
-    let one = goes no_store end lives told (ahead (keyspace name options, Number id) first) (second ∷ []) are went in
-    let two = goes one.next one.end one.lives one.told second [] one.are one.went in
+two_lives wild name options id first second lives told end are went =
+    let one = goes wild no_store end lives told (ahead (keyspace name options, Number id) first) (second ∷ []) are went in
+    let two = goes wild one.next one.end one.lives one.told second [] one.are one.went in
     (one.next, two.next, founds name options id first one.next one.served, two.served)
 
 -- and a third one
-three_lives : (name : Bytes) (options : List Bytes) (id : ℕ) (first second third : Chapter) (lives : List Life) (told : List (Result Told Error)) (end : Store)
-    → AreLives no_store lives told end → Went lives told (ahead (keyspace name options, Number id) first ∷ second ∷ third ∷ [])
+three_lives : (wild : Bool) (name : Bytes) (options : List Bytes) (id : ℕ) (first second third : Chapter) (lives : List Life) (told : List (Result Told Error)) (end : Store)
+    → AreLives wild no_store lives told end → Went lives told (ahead (keyspace name options, Number id) first ∷ second ∷ third ∷ [])
     → (next more last : Store) × Founds name id first next × Served next second more × Served more third last
-three_lives name options id first second third lives told end are went =
-    let one = goes no_store end lives told (ahead (keyspace name options, Number id) first) (second ∷ third ∷ []) are went in
-    let two = goes one.next one.end one.lives one.told second (third ∷ []) one.are one.went in
-    let three = goes two.next two.end two.lives two.told third [] two.are two.went in
+three_lives wild name options id first second third lives told end are went =
+    let one = goes wild no_store end lives told (ahead (keyspace name options, Number id) first) (second ∷ third ∷ []) are went in
+    let two = goes wild one.next one.end one.lives one.told second (third ∷ []) one.are one.went in
+    let three = goes wild two.next two.end two.lives two.told third [] two.are two.went in
     (one.next, two.next, three.next, founds name options id first one.next one.served, two.served, three.served)
 
 -- ---- what lives leave
@@ -119,9 +119,9 @@ persists k mode (Refused error) = refl
 persists k mode told = refl
 
 pub no_sync_is_lost : Never stories.AnAcknowledgedSyncIsLost
-no_sync_is_lost lives told end are story =
+no_sync_is_lost wild lives told end are story =
     let (name, options, id, key, value, mode, syncs, told_so, granted, reply, wrong, went) = story in
-    let (next, last, f, s) = two_lives name options id (synced id key value mode told_so) (reads id key reply) lives told end are went in
+    let (next, last, f, s) = two_lives wild name options id (synced id key value mode told_so) (reads id key reply) lives told end are went in
     let inserted = after (founded name) (insert id key value) Done in
     let all = both_ways f.front _ f.within (f.holds 1 (is_sync inserted mode told_so syncs granted)) in
     let is = all ∙ ap (λ (more : List Command). Write (one id key (Some value)) ∷ (more ++ [])) (persists inserted mode told_so) in
@@ -178,9 +178,9 @@ behind_a_batch name id a b x y mode items v w next last e f s =
         ∙ sym (ap is_some (w_is ∙ ap (λ (n : Store). value_at n id b) is) ∙ second_of_two name id a b x y f.named)
 
 pub no_half_batch : Never stories.HalfABatch
-no_half_batch lives told end are story =
+no_half_batch wild lives told end are story =
     let (name, options, id, a, b, x, y, mode, items, both, v, w, other, went) = story in
-    let (next, last, f, s) = two_lives name options id (batched items mode) (reads_two id a b v w) lives told end are went in
+    let (next, last, f, s) = two_lives wild name options id (batched items mode) (reads_two id a b v w) lives told end are went in
     other (behind_a_batch name id a b x y mode items v w next last both f s)
 
 abbrev inserting_two : ℕ → Bytes → Bytes → Bytes → Bytes → Chapter
@@ -205,9 +205,9 @@ behind_two name id a b x y v next last f s = by (of_more f.front _ _ f.within)
     by (inr some) = more some.0 some.1 (of_one some.0 _ some.2)
 
 pub no_later_call_alone : Never stories.ALaterCallWithoutAnEarlierOne
-no_later_call_alone lives told end are story =
+no_later_call_alone wild lives told end are story =
     let (name, options, id, a, b, x, y, went) = story in
-    let (next, last, f, s) = two_lives name options id (inserting_two id a b x y) (reads_two id b a (Some y) None) lives told end are went in
+    let (next, last, f, s) = two_lives wild name options id (inserting_two id a b x y) (reads_two id b a (Some y) None) lives told end are went in
     true≢false (sym (behind_two name id a b x y None next last f s))
 
 -- ---- one life
@@ -218,42 +218,42 @@ moves id key before later ticket =
 
 pub no_snapshot_moves : Never stories.ASnapshotMoves
 unfolding moves
-no_snapshot_moves lives told end are story =
+no_snapshot_moves wild lives told end are story =
     let (name, options, id, key, before, later, ticket, other, went) = story in
-    let life = one_life name options id (moves id key before later ticket) lives told end are went in
+    let life = one_life wild name options id (moves id key before later ticket) lives told end are went in
     let found = told_value (apply (made name) (Write (one id key (Some before)))) id key (Some later) life.1.answers.1.1.1.0.0 in
     other (value_of (found ∙ wrote_it (made name) id key (Some before)))
 
 pub no_other_value : Never stories.AValueThatNobodyWrote
-no_other_value lives told end are story =
+no_other_value wild lives told end are story =
     let (name, options, id, key, value, found, other, went) = story in
-    let life = one_life name options id (Ended ((insert id key value, Done) ∷ (stories.get id key, Value (Some found)) ∷ [])) lives told end are went in
+    let life = one_life wild name options id (Ended ((insert id key value, Done) ∷ (stories.get id key, Value (Some found)) ∷ [])) lives told end are went in
     let is = told_value (apply (made name) (Write (one id key (Some value)))) id key (Some found) life.1.answers.1.0.0 in
     other (value_of (is ∙ wrote_it (made name) id key (Some value)))
 
 pub no_value_of_another_key : Never stories.AValueFromAnotherKey
-no_value_of_another_key lives told end are story =
+no_value_of_another_key wild lives told end are story =
     let (name, options, id, key, other, value, found, apart, went) = story in
-    let life = one_life name options id (Ended ((insert id other value, Done) ∷ (stories.get id key, Value (Some found)) ∷ [])) lives told end are went in
+    let life = one_life wild name options id (Ended ((insert id other value, Done) ∷ (stories.get id key, Value (Some found)) ∷ [])) lives told end are went in
     let is = told_value (apply (made name) (Write (one id other (Some value)))) id key (Some found) life.1.answers.1.0.0 in
     no_value (is ∙ wrote_another (made name) id other (Some value) key (λ e. apart (sym e)) ∙ made_value name id key)
 
 pub no_value_from_nowhere : Never stories.AValueFromNowhere
-no_value_from_nowhere lives told end are story =
+no_value_from_nowhere wild lives told end are story =
     let (name, options, id, key, found, went) = story in
-    let life = one_life name options id (reads id key (Value (Some found))) lives told end are went in
+    let life = one_life wild name options id (reads id key (Value (Some found))) lives told end are went in
     no_value (told_value (made name) id key (Some found) life.1.answers.0.0 ∙ made_value name id key)
 
 pub no_refused_call_is_seen : Never stories.ARefusedCallTakesEffect
-no_refused_call_is_seen lives told end are story =
+no_refused_call_is_seen wild lives told end are story =
     let (name, options, id, key, value, found, error, went) = story in
-    let life = one_life name options id (Ended ((insert id key value, Refused error) ∷ (stories.get id key, Value (Some found)) ∷ [])) lives told end are went in
+    let life = one_life wild name options id (Ended ((insert id key value, Refused error) ∷ (stories.get id key, Value (Some found)) ∷ [])) lives told end are went in
     no_value (told_value (made name) id key (Some found) life.1.answers.1.0.0 ∙ made_value name id key)
 
 pub no_living_keyspace_is_unknown : Never stories.AnUnknownKeyspaceThatLives
-no_living_keyspace_is_unknown lives told end are story =
+no_living_keyspace_is_unknown wild lives told end are story =
     let (name, options, id, key, value, went) = story in
-    let life = one_life name options id (Ended ((insert id key value, Refused UnknownKeyspace) ∷ [])) lives told end are went in
+    let life = one_life wild name options id (Ended ((insert id key value, Refused UnknownKeyspace) ∷ [])) lives told end are went in
     by name id key value (made_id name id life.1.named) life.1.answers.0
   where
     by : (name : Bytes) (id : ℕ) (key value : Bytes) → id ≡ 1 → HasCause (founded name) (insert id key value) UnknownKeyspace → ⊥
@@ -295,9 +295,9 @@ conflicts view id a b y tx is outcome = by (subst (λ (t : Transaction). (t.own 
 
 pub no_write_skew : Never stories.AWriteSkew
 unfolding skewed
-no_write_skew lives told end are story =
+no_write_skew wild lives told end are story =
     let (name, options, id, a, b, x, y, went) = story in
-    let life = one_life name options id (skewed id a b x y) lives told end are went in
+    let life = one_life wild name options id (skewed id a b x y) lives told end are went in
     let last = life.1.answers.1.1.1.1.1.1.1.0.0 in
     conflicts (made name) id a b y last.0 last.1 last.3.1
 
@@ -307,9 +307,9 @@ abbrev inserting : ℕ → Bytes → Bytes → List Step
 inserting id key value = (insert id key value, Done) ∷ []
 
 pub no_closed_life_loses : Never stories.AClosedLifeLostSomething
-no_closed_life_loses lives told end are story =
+no_closed_life_loses wild lives told end are story =
     let (name, options, id, key, value, reply, wrong, went) = story in
-    let (next, last, f, s) = two_lives name options id (Closed (inserting id key value)) (reads id key reply) lives told end are went in
+    let (next, last, f, s) = two_lives wild name options id (Closed (inserting id key value)) (reads id key reply) lives told end are went in
     no_wrong_read next last id key (Some value) reply (leaves_value name id key value _ next f (f.closes tt)) s wrong
 
 -- a life that only reads leaves what it began with
@@ -326,9 +326,9 @@ was_left name id key value next more f s = by (of_one f.front _ f.within)
     by (inr all) = leaves_value name id key value _ next f all
 
 pub no_opening_forgets : Never stories.AnOpeningForgets
-no_opening_forgets lives told end are story =
+no_opening_forgets wild lives told end are story =
     let (name, options, id, key, value, reply, wrong, went) = story in
-    let (next, more, last, f, s, t) = three_lives name options id (Ended (inserting id key value)) (reads id key (Value (Some value))) (reads id key reply) lives told end are went in
+    let (next, more, last, f, s, t) = three_lives wild name options id (Ended (inserting id key value)) (reads id key (Value (Some value))) (reads id key reply) lives told end are went in
     let here = kept_holds next id key (Some value) (was_left name id key value next more f s) in
     let there = subst (λ (n : Store). Holds n id key (Some value)) (sym (reads_keep next more id key (Some value) s)) here in
     no_wrong_read more last id key (Some value) reply there t wrong
@@ -341,9 +341,9 @@ none_attempted k call (Io kind) e = cc
 none_attempted k call error e = refl
 
 pub no_refused_call_is_found : Never stories.ARefusedCallTakesEffectLater
-no_refused_call_is_found lives told end are story =
+no_refused_call_is_found wild lives told end are story =
     let (name, options, id, key, value, found, error, no_fault, went) = story in
-    let (next, last, f, s) = two_lives name options id (Ended ((insert id key value, Refused error) ∷ [])) (reads id key (Value (Some found))) lives told end are went in
+    let (next, last, f, s) = two_lives wild name options id (Ended ((insert id key value, Refused error) ∷ [])) (reads id key (Value (Some found))) lives told end are went in
     let none = ap (λ (commands : List Command). commands ++ []) (none_attempted (founded name) (insert id key value) error no_fault) in
     let front = of_none f.front (subst (IsBeginning f.front) none f.within) in
     no_value (found_is next last id key (Some found) s ∙ (leaves_none name id key _ next f front).has)
@@ -364,22 +364,27 @@ deletion_left name id key value next f = all ∙ ap (λ (b : Bool). Write (one i
     all = both_ways f.front _ f.within (f.holds 1 living)
 
 pub no_deleted_keyspace_returns : Never stories.ADeletedKeyspaceComesBack
-no_deleted_keyspace_returns lives told end are story =
+no_deleted_keyspace_returns wild lives told end are story =
     let (name, options, id, key, value, found, went) = story in
-    let (next, last, f, s) = two_lives name options id (deleting id key value) (reads id key (Value (Some found))) lives told end are went in
+    let (next, last, f, s) = two_lives wild name options id (deleting id key value) (reads id key (Value (Some found))) lives told end are went in
     let is = leaves name id _ next f _ (deletion_left name id key value next f) in
     let gone = kept_none (apply (with_value name id key value) (Delete id)) id key (deleted (with_value name id key value) id) in
     no_value (found_is next last id key (Some found) s ∙ ap (λ (n : Store). value_at n id key) is ∙ gone)
 
 -- ---- openings
 
+-- where crashes aren't wild an opening is refused only since something ran out
+runs_out : (error : Error) → IsTrue false ⊎ RunsOut error → RunsOut error
+runs_out error (inl wild) = absurd (true≢false (sym wild))
+runs_out error (inr runs) = runs
+
 refused_for : (start end : Store) (lives : List Life) (told : List (Result Told Error)) (error : Error) (k : ℕ)
-    → AreLives start lives told end → k < length told → slice_index_or told k (Err error) ≡ Err error → RunsOut error
+    → AreLives false start lives told end → k < length told → slice_index_or told k (Err error) ≡ Err error → RunsOut error
 refused_for start end [] [] error k are below is = absurd (omega (arith, below))
 refused_for start end [] (t ∷ told) error k are below is = elim are [ ]
 refused_for start end (life ∷ lives) [] error k are below is = elim are [ ]
-refused_for start end (life ∷ lives) (t ∷ told) error zero (OneLife _ next _ _ _ _ _ l more) below is = (subst (λ (r : Result Told Error). IsLife start life r next) is l).0
+refused_for start end (life ∷ lives) (t ∷ told) error zero (OneLife _ next _ _ _ _ _ l more) below is = runs_out error (subst (λ (r : Result Told Error). IsLife false start life r next) is l).0
 refused_for start end (life ∷ lives) (t ∷ told) error (suc k) (OneLife _ next _ _ _ _ _ l more) below is = refused_for next end lives told error k more (omega (arith, below)) is
 
-pub no_opening_is_refused : (error : Error) → (RunsOut error → ⊥) → Never (stories.AnOpeningIsRefused error)
+pub no_opening_is_refused : (error : Error) → (RunsOut error → ⊥) → NeverTame (stories.AnOpeningIsRefused error)
 no_opening_is_refused error never lives told end are (k, below, is) = never (refused_for no_store end lives told error k are below is)

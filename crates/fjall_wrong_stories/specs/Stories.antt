@@ -1,5 +1,5 @@
 -- Wrong stories: what engines can't have told, over any names, ids, keys, values and options.
-use Rattle.std.specs.Prelude.{◌≡◌, ◌≢◌, ◌⊎◌, ⊤, ℕ, true, false, List, [], ◌∷◌, ◌++◌, length, map, is_some, All, Contains, Option, Some, None, Result, Ok, Err, Vec}
+use Rattle.std.specs.Prelude.{◌≡◌, ◌≢◌, ◌⊎◌, ⊤, ℕ, Bool, true, false, List, [], ◌∷◌, ◌++◌, length, map, is_some, All, Contains, Option, Some, None, Result, Ok, Err, Vec}
 use Rattle.std.specs.declared.alloc.Global.{Global}
 use Rattle.fjall_base.specs.Pairs.{Bytes}
 use Rattle.fjall_base.specs.Store.{Store}
@@ -58,9 +58,13 @@ SomeLife P lives told = ⊥
 abbrev pub Story : Type 1
 Story = List Life → List (Result Told Error) → Type 0
 
--- it is of no lives that begin with no store
+-- it is of no lives that begin with no store, whether or not crashes may be wild
 abbrev pub Never : Story → Type 0
-Never story = (lives : List Life) (told : List (Result Told Error)) (end : Store) → AreLives no_store lives told end → story lives told → ⊥
+Never story = (wild : Bool) (lives : List Life) (told : List (Result Told Error)) (end : Store) → AreLives wild no_store lives told end → story lives told → ⊥
+
+-- it is of none where crashes aren't wild: of a file they leave the synced bytes with a beginning of the others
+abbrev pub NeverTame : Story → Type 0
+NeverTame story = (lives : List Life) (told : List (Result Told Error)) (end : Store) → AreLives false no_store lives told end → story lives told → ⊥
 
 -- ---- calls
 
@@ -205,7 +209,7 @@ AClosedLifeLostSomething lives told =
     Closed ((keyspace name options, Number id) ∷ (insert id key value, Done) ∷ [])
     ∷ Ended ((get id key, reply) ∷ []) ∷ [])
 
--- Some life was refused as a whole with this error.
+-- Some life was refused as a whole with this error. A wild crash may leave what an opening refuses, so this is never only where crashes aren't wild.
 abbrev pub AnOpeningIsRefused : Error → Story
 AnOpeningIsRefused error lives told = Contains told (Err error)
 

@@ -1,4 +1,4 @@
-//! Eighteen wrong stories, each with the law that it is never told.
+//! Eighteen wrong stories, each with the law that it is never told, whether or not crashes may be wild, but for one of them.
 
 ghost use Rattle.fjall_base.specs.declared.error.Error.{Error};
 ghost use Rattle.fjall_base.specs.declared.error.Error.TheVariants.{JournalRecovery, Unrecoverable};
@@ -8,7 +8,7 @@ ghost use Rattle.fjall_wrong_stories.specs.Stories.{AClosedLifeLostSomething, AD
 ghost use Rattle.fjall_wrong_stories.specs.Stories.{ASnapshotMoves, AValueFromAnotherKey, AValueFromNowhere, AValueThatNobodyWrote, AWriteSkew, AnAcknowledgedSyncIsLost, AnOpeningForgets};
 ghost use Rattle.fjall_wrong_stories.specs.Stories.{ADeletedKeyspaceTakesWrites, ALifeThatWasLetGoClosed, AWriteIntoNoKeyspace, AWriteWithoutAKey};
 ghost use Rattle.fjall_wrong_stories.specs.Stories.{AFaultShiftsTheIds, AWriteBehindAFault, AnUnknownKeyspaceIsRead};
-ghost use Rattle.fjall_wrong_stories.specs.Stories.{AnOpeningIsRefused, AnUnknownKeyspaceThatLives, HalfABatch, Never, TwoSingleWriters};
+ghost use Rattle.fjall_wrong_stories.specs.Stories.{AnOpeningIsRefused, AnUnknownKeyspaceThatLives, HalfABatch, Never, NeverTame, TwoSingleWriters};
 
 /// A sync was told anything but a refusal, and the next life doesn't find the value that was inserted before it.
 pub fn an_acknowledged_sync_is_lost()
@@ -64,11 +64,12 @@ pub fn a_closed_life_lost_something()
 {}
 
 /// An opening is refused where nothing ran out: neither memory, nor the disk, nor numbers, nor the room of a list. So none is
-/// because of files that contradict each other, or of a damaged journal.
+/// because of files that contradict each other, or of a damaged journal. This is the only law that holds only where crashes aren't
+/// wild: a wild one may leave what an opening refuses.
 pub fn an_opening_is_refused()
-    ensures any { (error : Error) → (RunsOut error → ⊥) → Never (AnOpeningIsRefused error) }
-    ensures contradicts { Never (AnOpeningIsRefused Unrecoverable) }
-    ensures damaged { (damage : JournalRecoveryError) → Never (AnOpeningIsRefused (JournalRecovery damage)) }
+    ensures any { (error : Error) → (RunsOut error → ⊥) → NeverTame (AnOpeningIsRefused error) }
+    ensures contradicts { NeverTame (AnOpeningIsRefused Unrecoverable) }
+    ensures damaged { (damage : JournalRecoveryError) → NeverTame (AnOpeningIsRefused (JournalRecovery damage)) }
 {}
 
 /// A keyspace was deleted, and the next life finds a value in it.

@@ -1,5 +1,5 @@
 //! What no caller lives through: stories of engines that contradict what callers may rely on, each with the law that it is never told,
-//! and lives of an engine, which tell none of them.
+//! and lives of an engine, which tell none of them (but, where crashes may be wild, that an opening was refused).
 #![tactic(auto)]
 
 mod laws;

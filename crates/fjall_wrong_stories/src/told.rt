@@ -1,6 +1,6 @@
-//! Lives of an engine, which tell none of the wrong stories.
+//! Lives of an engine, and that they tell none of the wrong stories.
 
-ghost use Rattle.std.specs.Prelude.{IfOk, IsTrue};
+ghost use Rattle.std.specs.Prelude.{IfOk, IsFalse, IsTrue};
 ghost use Rattle.fjall_base.specs.declared.error.Error.{Error};
 ghost use Rattle.fjall_consistency.specs.Consistency.{RunsOut};
 ghost use Rattle.fjall_consistency.specs.Links.{IsFresh};
@@ -13,7 +13,8 @@ use fjall_base::Result;
 use fjall_consistency::{Life, Power, Told, live};
 use std::alloc::Global;
 
-/// Runs lives as [`live`] does. What they told is none of the wrong stories.
+/// Runs lives as [`live`] does. What they told is none of the wrong stories, whether or not crashes may be wild; but where they may,
+/// an opening may be refused though nothing ran out.
 pub fn told_truly<P: Power>(
     alloc: Global,
     power: &mut P,
@@ -34,7 +35,7 @@ pub fn told_truly<P: Power>(
     ensures no_later_call_alone { IsTrue P.Disk.honest → IfOk result (λ told. ALaterCallWithoutAnEarlierOne lives.items told.items → ⊥) }
     ensures no_living_keyspace_is_unknown { IsTrue P.Disk.honest → IfOk result (λ told. AnUnknownKeyspaceThatLives lives.items told.items → ⊥) }
     ensures no_closed_life_loses { IsTrue P.Disk.honest → IfOk result (λ told. AClosedLifeLostSomething lives.items told.items → ⊥) }
-    ensures no_opening_is_refused { IsTrue P.Disk.honest → IfOk result (λ told. (error : Error) → (RunsOut error → ⊥) → AnOpeningIsRefused error lives.items told.items → ⊥) }
+    ensures no_opening_is_refused { IsTrue P.Disk.honest → IsFalse P.wild → IfOk result (λ told. (error : Error) → (RunsOut error → ⊥) → AnOpeningIsRefused error lives.items told.items → ⊥) }
     ensures no_deleted_keyspace_returns { IsTrue P.Disk.honest → IfOk result (λ told. ADeletedKeyspaceComesBack lives.items told.items → ⊥) }
     ensures no_two_writers { IsTrue P.Disk.honest → IfOk result (λ told. TwoSingleWriters lives.items told.items → ⊥) }
     ensures no_deleted_keyspace_is_written { IsTrue P.Disk.honest → IfOk result (λ told. ADeletedKeyspaceTakesWrites lives.items told.items → ⊥) }
