@@ -1,3 +1,9 @@
+-- Their lemmas that those above cite.
+pub use Rattle.fjall_transactions.proofs.CrashedDisks
+pub use Rattle.fjall_transactions.proofs.Items
+pub use Rattle.fjall_transactions.proofs.Reopening
+pub use Rattle.fjall_transactions.proofs.RunsOverCrashes
+pub use Rattle.fjall_transactions.proofs.Standing as CoreStanding
 mod Same
 mod Chains
 mod Jobs

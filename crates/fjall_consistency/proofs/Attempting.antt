@@ -30,11 +30,11 @@ use Rattle.fjall_machine.specs.Places.{resolved}
 use Rattle.fjall_machine.specs.Shapes.{ByMode, CallShape, OfChange, OfIngestion, Persistence, shape_of}
 use Rattle.fjall_machine.specs.declared.call.Call.{Call}
 use Rattle.fjall_machine.specs.declared.call.Call.TheVariants as calls
-use Rattle.fjall_transactions.specs.Crashes.{RunOn, attempt, is_io}
-use Rattle.fjall_transactions.specs.Crashes as core
-use Rattle.fjall_transactions.specs.Durables.{Durable}
-use Rattle.fjall_transactions.specs.Transactions.{Tx}
-use Rattle.fjall_transactions.proofs.Items.{some_items}
+use Rattle.fjall_calls.specs.Crashes.{RunOn, attempt, is_io}
+use Rattle.fjall_calls.specs.Crashes as core
+use Rattle.fjall_calls.specs.Durables.{Durable}
+use Rattle.fjall_calls.specs.Transactions.{Tx}
+use Rattle.fjall_calls.proofs.Items.{some_items}
 use Rattle.fjall_calls.specs.Acting.{AsksCore, AsksFor, AsksNothing, call_for}
 use Rattle.fjall_calls.specs.declared.call.Kind.{Kind}
 use Rattle.fjall_calls.specs.declared.call.TxCall.{TxCall}

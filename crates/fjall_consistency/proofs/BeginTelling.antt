@@ -38,14 +38,15 @@ use Rattle.fjall_calls.specs.Worlds.{Going, World, along}
 use Rattle.fjall_calls.proofs.Following.{told_number, told_view}
 use Rattle.fjall_calls.proofs.KeptWorlds.{IsKept, IsKnown as IsKnownTo, kept_step, open_at, same_ticket}
 use Rattle.fjall_calls.proofs.Lists.{stands_last}
-use Rattle.fjall_transactions.specs.Standing.{Told, history_of}
-use Rattle.fjall_transactions.specs.Transactions.{Tx, begun, no_marks}
+use Rattle.fjall_calls.specs.Standing.{Told, history_of}
+use Rattle.fjall_calls.specs.Transactions.{Tx, begun, no_marks}
 use Rattle.fjall_consistency.specs.Alike.{AreAlike}
-use Rattle.fjall_consistency.specs.Consistency.{HasCause, IsWriting, Known, NamesNone, Transaction, after as known_after, is_fault, met_by, named}
+use Rattle.fjall_consistency.specs.Consistency.{HasCause, IsWriting, Known, NamesNone, Transaction, after as known_after, attempted, is_fault, named}
 use Rattle.fjall_consistency.proofs.Going.{IsOfKind, IsSame, new_transaction, same_begun}
 use Rattle.fjall_consistency.proofs.Known.{AreApart, AreTwo, IsGoing, IsKnown, IsShown, IsWritersOwn, Tells, no_id}
 use Rattle.fjall_consistency.proofs.Steps.{refused_times, stays_poisoned, stays_well, turned_history}
 use Rattle.fjall_consistency.proofs.Turning.{SameOn, Turns, all_shown, along_same, apart_push, core_turns, going_on, named_after, never_open, none_shown, one_each_still, real_id, still_turns}
+use Rattle.fjall_consistency.proofs.Meeting.{met_by}
 
 -- ---- what is known where no transaction ends
 
@@ -177,7 +178,7 @@ writing w before k known written = by w.writer refl written
 -- where the single writer's may not begin, one is open
 pub held_back_tells : (w : World) (before : List Reply) (k : Known) → IsKnown w before k → may_begin w Single ≡ false → Tells w before k (Begin Single) (Refused TransactionOpen)
 held_back_tells w before k known due = record {
-  answer = (refl, writing w before k known (not-false (is_written w) due));
+  answer = ((refl, writing w before k known (not-false (is_written w) due)), λ broken. refl);
   known = nothing_known w before k (Refused TransactionOpen) known refl;
 }
 
@@ -226,12 +227,17 @@ not_begun_after : (k : Known) (kind : Kind) (error : Error) → unchanged k (is_
 not_begun_after k kind SnapshotClosed = refl
 not_begun_after k kind error = refl
 
+-- and nothing was attempted
+nothing_attempted : (k : Known) (kind : Kind) (error : Error) → attempted k (Begin kind) (Refused error) ≡ []
+nothing_attempted k kind (Io fault) = refl
+nothing_attempted k kind error = refl
+
 pub not_begun_tells : (w : World) (before : List Reply) (k : Known) (kind : Kind) (error : Error) (s : State) → IsKnown w before k → Step w.told.state Snapshot (Refused error) s → Tells (along w s) before k (Begin kind) (Refused error)
 not_begun_tells w before k kind error s known step =
     let turns = core_turns w Snapshot (Refused error) s known.kept known.small step in
     let well = stays_well w.told.state s (OfTickets Open) (Refused error) step in
     record {
-      answer = open_cause k kind error w.told.state s step;
+      answer = (open_cause k kind error w.told.state s step, λ broken. nothing_attempted k kind error);
       known =
           subst (IsKnown (along w s) (before ++ Refused error ∷ [])) (not_begun_after k kind error)
           (unchanged_known w (along w s).told before k (Refused error) (is_fault (Refused error)) known turns (along_same w s known.kept turns.goes) refl
@@ -462,6 +468,6 @@ unknown_after k call name kind is = absurd (none-some (name, kind) is)
 pub unknown_tells : (w : World) (before : List Reply) (k : Known) (call : TxCall) (name : ℕ) (kind : Option Kind) → IsKnown w before k → name_in call ≡ Some (name, kind) → All (λ g. has_name w name kind g ≡ false) w.going
     → Tells w before k call (Refused SnapshotClosed)
 unknown_tells w before k call name kind known is none = record {
-  answer = names_none w before k call name kind known is none;
+  answer = (names_none w before k call name kind known is none, λ broken. refl);
   known = subst (IsKnown w (before ++ Refused SnapshotClosed ∷ [])) (unknown_after k call name kind is) (nothing_known w before k (Refused SnapshotClosed) known refl);
 }

@@ -1,7 +1,8 @@
 -- Why a call of the machine is refused, as its callers see it.
-use Rattle.std.proofs.Common.{◌≡◌, ◌⊎◌, inl, inr, ℕ, suc, ◌<◌, ◌≤◌, ◌^◌, ◌==◌, nat_le, Bool, true, false, if◌then◌else◌, List, [], ◌∷◌, length, map, slice_get, unwrap_or, Option, None, Some, Any, AllPairs, Contains, Less, refl, sym, ap, subst, ◌∙◌, arith}
-use Rattle.std.proofs.lemmas.Bool.{true≢false, and_cases, and_from, and_parts, eqb-true, leb-false, leb-true, not-true, or_cases, or_parts}
+use Rattle.std.proofs.Common.{◌≡◌, ◌≢◌, ◌⊎◌, inl, inr, ℕ, suc, ◌<◌, ◌≤◌, ◌^◌, ◌==◌, nat_le, not, All, Bool, true, false, if◌then◌else◌, List, [], ◌∷◌, length, map, slice_get, unwrap_or, Option, None, Some, Any, AllPairs, Contains, Less, refl, sym, ap, subst, ◌∙◌, arith}
+use Rattle.std.proofs.lemmas.Bool.{true≢false, and_cases, and_from, and_parts, eqb-true, leb-false, leb-true, not-false, not-true, or_cases, or_parts}
 use Rattle.std.proofs.lemmas.List.{get_or-map, length-map}
+use Rattle.std.proofs.lemmas.List.Elements.{All-cons, All-map, All-nil}
 use Rattle.std.proofs.lemmas.List.Folds.{Any-from_list_any}
 use Rattle.std.proofs.lemmas.Option.{none-some}
 use Rattle.std.specs.Prelude.{IsSomeAnd}
@@ -12,12 +13,13 @@ use Rattle.fjall_base.specs.Pairs.{Bytes, byte_order}
 use Rattle.fjall_base.specs.Store.{Item, Store}
 use Rattle.fjall_base.specs.Limits.{item_refusal}
 use Rattle.fjall_base.specs.declared.error.Error.{Error}
-use Rattle.fjall_base.specs.declared.error.Error.TheVariants.{Io, KeyEmpty, KeyTooLong, KeyspaceDeleted, NumbersUsedUp, OutOfMemory, Poisoned, SnapshotClosed, Storage, TooManyItems, UnknownKeyspace, ValueTooLong}
+use Rattle.fjall_base.specs.declared.error.Error.TheVariants.{Io, KeyEmpty, KeyOrder, KeyTooLong, KeyspaceDeleted, NumbersUsedUp, OutOfMemory, Poisoned, SnapshotClosed, Storage, TooManyItems, UnknownKeyspace, ValueTooLong}
 use Rattle.fjall_journal.specs.Changes.{Change, Items}
 use Rattle.fjall_journal.specs.declared.op.Op.{Op}
 use Rattle.fjall_journal.specs.Ops.{BatchItem, bytes_in, item_in, value_in}
 use Rattle.fjall_journal.specs.declared.op.Op.TheVariants.{Put, Remove, RemoveWeak}
 use Rattle.fjall_writes.specs.Ingestions.{KeyOp}
+use Rattle.fjall_meta.specs.Keyspaces.{is_name}
 use Rattle.fjall_history.specs.Queries.{Query}
 use Rattle.fjall_history.specs.Tickets.{Tickets, ids_used_up, is_open, opening_refusal}
 use Rattle.fjall_history.specs.declared.reply.Reply.{Reply}
@@ -30,10 +32,11 @@ use Rattle.fjall_machine.specs.Places.{id_opened, resolved, view_at}
 use Rattle.fjall_machine.specs.Shapes.{AsKeyspace, ByMode, CallShape, OfChange, OfFlushFinish, OfIngestion, OfMergeBegin, OfMergeFinish, OfRead, OneLess, OneMore, Persistence, shape_of}
 use Rattle.fjall_machine.specs.Machine.{FinishesLate, MayFail, ReadsDamaged, Refuses, State, Step, StepOf, TooLong, clear_refusals, creation_refusals, deletion_refusals, do_ascend, due, facts, first_due, handle_refusals, ingestion_refusals, is_among, is_deleted, is_unknown, items_refusals, journal_refusals, present, read_refusals, rotation_refusals, view_refusals}
 use Rattle.fjall_machine.specs.Machine as machine
+use Rattle.fjall_machine.proofs.Dues.{is_so, none_due}
 use Rattle.fjall_calls.specs.declared.call.TxCall.{TxCall}
 use Rattle.fjall_calls.specs.declared.call.TxCall.TheVariants.{Core}
 use Rattle.fjall_consistency.specs.Alike.{AreAlike}
-use Rattle.fjall_consistency.specs.Consistency.{ChangesKeyspaces, HasCause, IsMade, Known, NamesNone, ids_in, is_living, items_in, shown}
+use Rattle.fjall_consistency.specs.Consistency.{AreLawful, ChangesKeyspaces, HasCause, IsMade, Known, MayBegin, NamesNone, ids_in, is_living, items_in, shown}
 
 -- What is known of the state where a call is refused.
 pub record Knows (s : State) (before : List Reply) (k : Known) : Type 0 where
@@ -57,21 +60,21 @@ first_caused P ((false, first) ∷ refusals) error caused is = first_caused P re
 
 -- a refusal is the one that is due or, where none is, one that may come
 refused : (P : Error → Type 0) (s t : State) (shape : CallShape) (error : Error) (first : Option Error)
-    → ((e : Error) → first ≡ Some e → P e) → (MayFail shape error s t → P error) → Refuses first shape error s t → P error
+    → ((e : Error) → first ≡ Some e → P e) → (first ≡ None → MayFail shape error s t → P error) → Refuses first shape error s t → P error
 refused P s t shape error (Some first) caused may (is, same) = subst P (sym is) (caused first refl)
-refused P s t shape error None caused may fails = may fails
+refused P s t shape error None caused may fails = may refl fails
 
--- what may go wrong is no damage, or a setting that is too long, or the engine was poisoned, or something runs out
+-- what may go wrong is a fault of the disk where the call may begin, no damage, or a setting that is too long, or the engine was poisoned, or something runs out
 failing : (s t : State) (k : Known) (call : TxCall) (shape : CallShape) (error : Error)
-    → (ReadsDamaged s shape → ⊥) → (TooLong (present s) shape → ChangesKeyspaces call) → (FinishesLate s shape → k.failed ≡ true) → MayFail shape error s t → HasCause k call error
-failing s t k call shape (Io kind) whole long late fails = tt
-failing s t k call shape OutOfMemory whole long late fails = tt
-failing s t k call shape (Storage told) whole long late (is, damaged, same) = absurd (whole damaged)
-failing s t k call shape ValueTooLong whole long late (is, same) = inl (long is)
-failing s t k call shape Poisoned whole long late (is, same) = late is
-failing s t k call shape NumbersUsedUp whole long late fails = tt
-failing s t k call shape TooManyItems whole long late fails = tt
-failing s t k call shape error whole long late none = absurd none
+    → MayBegin k call → (ReadsDamaged s shape → ⊥) → (TooLong (present s) shape → ChangesKeyspaces call) → (FinishesLate s shape → k.failed ≡ true) → MayFail shape error s t → HasCause k call error
+failing s t k call shape (Io kind) begins whole long late fails = begins
+failing s t k call shape OutOfMemory begins whole long late fails = tt
+failing s t k call shape (Storage told) begins whole long late (is, damaged, same) = absurd (whole damaged)
+failing s t k call shape ValueTooLong begins whole long late (is, same) = inl (long is)
+failing s t k call shape Poisoned begins whole long late (is, same) = late is
+failing s t k call shape NumbersUsedUp begins whole long late fails = tt
+failing s t k call shape TooManyItems begins whole long late fails = tt
+failing s t k call shape error begins whole long late none = absurd none
 
 -- no id is among none
 none_among : (ids : List ℕ) (id : ℕ) → ids ≡ [] → is_among ids id ≡ true → ⊥
@@ -169,6 +172,12 @@ invalid_is : (name : Bytes) → (nat_le 1 (length name) ≡ false) ⊎ (nat_le (
 invalid_is name (inl none) = inl (short_is name (leb-false 1 (length name) none))
 invalid_is name (inr long) = inr (leb-false (length name) 255 long)
 
+-- and what is one
+is_named : (name : Bytes) → not (is_name name) ≡ false → (name ≢ []) × (length name ≤ 255)
+is_named name is =
+    let named = is_so (is_name name) is in
+    (λ none. true≢false (sym (ap is_name (sym none) ∙ named)), leb-true (length name) 255 (and_parts (nat_le 1 (length name)) (nat_le (length name) 255) named).1)
+
 -- ---- items
 
 -- an item with no key, with a key that is too long, or with such a value
@@ -201,6 +210,55 @@ item_cause k call id key op error there is =
     )
     is
 
+-- the item that an ingestion into a keyspace writes
+abbrev pub ingested_in : ℕ → KeyOp → Item
+ingested_in id item = record { id = id; key = item.0; value = value_in item.1 }
+
+-- an item of this keyspace and key is lawful
+abbrev IsLawfulAt : Store → ℕ → Bytes → Type 0
+IsLawfulAt e id key = (is_living e id ≡ true) × (key ≢ []) × (length key < 2 ^ 16)
+
+abbrev IsLawful : Store → Item → Type 0
+IsLawful e item = IsLawfulAt e item.id item.key
+
+-- a test that no element of a list passes is false of each
+none_passes : {X : Type 0} (test : X → Bool) (xs : List X) → list_any test xs ≡ false → All (λ x. test x ≡ false) xs
+none_passes {X} test [] none = All-nil (λ (x : X). test x ≡ false)
+none_passes {X} test (x ∷ xs) none = let each = or_parts (test x) (list_any test xs) none in All-cons (λ (y : X). test y ≡ false) x xs each.0 (none_passes test xs each.1)
+
+-- a key that has some length isn't empty
+some_key : (key : Bytes) → (length key == 0) ≡ false → key ≢ []
+some_key key some none = true≢false (sym (ap (λ (bytes : Bytes). length bytes == 0) none) ∙ some)
+
+-- a keyspace that isn't deleted lives, in each store that is alike
+pub lives_there : (s e : Store) (id : ℕ) → AreAlike s e → is_deleted s id ≡ false → is_living e id ≡ true
+lives_there s e id alike stays = ap (λ names. contains_key names id) alike.names ∙ not-false (machine.is_living s id) stays
+
+-- an item that no test refuses is lawful
+lawful_there : (s e : Store) (id : ℕ) (key : Bytes) → AreAlike s e → (length key == 0) ≡ false → nat_le (2 ^ 16) (length key) ≡ false → is_deleted s id ≡ false → IsLawfulAt e id key
+lawful_there s e id key alike some short stays = (lives_there s e id alike stays, some_key key some, leb-false (2 ^ 16) (length key) short)
+
+-- where nothing refuses a change, its items are lawful
+pub change_lawful : (s : State) (e : Store) (items : List BatchItem) (how : Persistence) → AreAlike (present s) e → due s (OfChange (Items items) how) ≡ None → AreLawful e (map item_in items)
+change_lawful s e [] how alike none = All-nil (IsLawful e)
+change_lawful s e (first ∷ rest) how alike none =
+    let items : List BatchItem = first ∷ rest in
+    let causes = none_due (items_refusals (facts s) items) none in
+    let empty = none_passes (λ (item : BatchItem). length item.1 == 0) items causes.0 in
+    let long = none_passes (λ (item : BatchItem). nat_le (2 ^ 16) (length item.1)) items causes.1.0 in
+    let gone = none_passes (λ (item : BatchItem). is_deleted (present s) item.0) items causes.1.1.1.1.0 in
+    All-map (IsLawful e) item_in items (λ k d within. lawful_there (present s) e _ _ alike (empty k d within) (long k d within) (gone k d within))
+
+-- and so are those of an ingestion
+pub ingestion_lawful : (s : State) (e : Store) (id : ℕ) (items : List KeyOp) → AreAlike (present s) e → due s (OfIngestion id items) ≡ None → AreLawful e (map (ingested_in id) items)
+ingestion_lawful s e id [] alike none = All-nil (IsLawful e)
+ingestion_lawful s e id (first ∷ rest) alike none =
+    let items : List KeyOp = first ∷ rest in
+    let causes = none_due (ingestion_refusals (facts s) id items) none in
+    let empty = none_passes (λ (item : KeyOp). length item.0 == 0) items causes.0 in
+    let long = none_passes (λ (item : KeyOp). nat_le (2 ^ 16) (length item.0)) items causes.1.0 in
+    All-map (IsLawful e) (ingested_in id) items (λ k d within. lawful_there (present s) e id _ alike (empty k d within) (long k d within) causes.1.1.1.1.1.0)
+
 -- a change of these items by a call has a cause where one is due
 change_due : (s : State) (k : Known) (call : TxCall) (items : List BatchItem) (how : Persistence) (error : Error)
     → AreAlike (present s) k.present → (s.poisoned ≡ true → k.failed ≡ true)
@@ -228,24 +286,22 @@ change_due s k call (first ∷ rest) how error alike well within named is =
     is
 
 -- and where none is due, memory or the disk may fail
-change_fails : (s t : State) (k : Known) (call : TxCall) (change : Change) (how : Persistence) (error : Error) → MayFail (OfChange change how) error s t → HasCause k call error
-change_fails s t k call change how error fails = failing s t k call (OfChange change how) error (λ none. none) (λ none. absurd none) (λ none. absurd none) fails
+change_fails : (s t : State) (k : Known) (call : TxCall) (change : Change) (how : Persistence) (error : Error) → MayBegin k call → MayFail (OfChange change how) error s t → HasCause k call error
+change_fails s t k call change how error begins fails = failing s t k call (OfChange change how) error begins (λ none. none) (λ none. absurd none) (λ none. absurd none) fails
 
 -- a change of these items by some call is refused for a cause: each of them is among those of the call
 pub items_cause : (s t : State) (k : Known) (call : TxCall) (items : List BatchItem) (how : Persistence) (error : Error)
     → AreAlike (present s) k.present → (s.poisoned ≡ true → k.failed ≡ true)
     → ((item : BatchItem) → Contains items item → Contains (items_in k call) (item_in item))
     → ((item : BatchItem) → Contains items item → Contains (ids_in k call) item.0)
+    → (AreLawful k.present (map item_in items) → MayBegin k call)
     → StepOf s (OfChange (Items items) how) (Refused error) t → HasCause k call error
-items_cause s t k call items how error alike well within named refuses =
+items_cause s t k call items how error alike well within named begins refuses =
     refused (HasCause k call) s t (OfChange (Items items) how) error (due s (OfChange (Items items) how))
-    (λ e is. change_due s k call items how e alike well within named is) (change_fails s t k call (Items items) how error) refuses
+    (λ e is. change_due s k call items how e alike well within named is)
+    (λ none. change_fails s t k call (Items items) how error (begins (change_lawful s k.present items how alike none))) refuses
 
 -- ---- ingestions
-
--- the item that an ingestion into a keyspace writes
-abbrev ingested_in : ℕ → KeyOp → Item
-ingested_in id item = record { id = id; key = item.0; value = value_in item.1 }
 
 -- each key is below all that follow
 abbrev KeysAscend : List Item → Type 0
@@ -263,7 +319,7 @@ ascends id (item ∷ next ∷ items) all =
 ingestion_due : (s : State) (k : Known) (call : TxCall) (id : ℕ) (items : List KeyOp) (error : Error)
     → AreAlike (present s) k.present → (s.poisoned ≡ true → k.failed ≡ true)
     → ((item : KeyOp) → Contains items item → Contains (items_in k call) (ingested_in id item)) → ((item : KeyOp) → Contains items item → Contains (ids_in k call) id)
-    → (KeysAscend (items_in k call) → do_ascend items ≡ true) → due s (OfIngestion id items) ≡ Some error → HasCause k call error
+    → (do_ascend items ≡ false → HasCause k call KeyOrder) → due s (OfIngestion id items) ≡ Some error → HasCause k call error
 ingestion_due s k call id [] error alike well within named order is = absurd (none-some _ is)
 ingestion_due s k call id (first ∷ rest) error alike well within named order is =
     let items : List KeyOp = first ∷ rest in
@@ -275,7 +331,7 @@ ingestion_due s k call id (first ∷ rest) error alike well within named order i
         (
           λ some. inr (some_passes HasLongValue (items_in k call) (ingested_in id) (λ item. nat_le (2 ^ 32) (length (bytes_in item.1))) items within (λ item. long_value item.1) some),
           (
-            λ back all. true≢false (sym (order all) ∙ not-true _ back),
+            λ back. order (not-true _ back),
             (
               unknown s k call id alike there,
               (
@@ -314,12 +370,12 @@ never_shut s (At ticket) stands shut = true≢false (sym stands ∙ shut)
 
 -- a read of a keyspace by some call, within an open view, is refused for a cause
 pub read_cause : (s t : State) (k : Known) (call : TxCall) (view : View) (id : ℕ) (query : Query) (error : Error)
-    → AreAlike (present s) k.present → s.damaged ≡ [] → IsOpenView s view → Contains (ids_in k call) id
+    → AreAlike (present s) k.present → s.damaged ≡ [] → IsOpenView s view → Contains (ids_in k call) id → MayBegin k call
     → StepOf s (OfRead view id query) (Refused error) t → HasCause k call error
-read_cause s t k call view id query error alike undamaged stands named refuses =
+read_cause s t k call view id query error alike undamaged stands named begins refuses =
     refused (HasCause k call) s t (OfRead view id query) error (due s (OfRead view id query))
     (λ e is. first_caused (HasCause k call) (view_refusals (facts s) view id) e (view_caused s k call view id alike named (λ shut. absurd (never_shut s view stands shut))) is)
-    (failing s t k call (OfRead view id query) error (reads_whole s (OfRead view id query) undamaged) (λ none. absurd none) (λ none. absurd none)) refuses
+    (λ none. failing s t k call (OfRead view id query) error begins (reads_whole s (OfRead view id query) undamaged) (λ none. absurd none) (λ none. absurd none)) refuses
 
 -- ---- tickets
 
@@ -378,7 +434,7 @@ core_due s before k (core.Ingest id items) error knows is =
     ingestion_due s k (Core (core.Ingest id items)) id items.items error knows.alike knows.well
     (λ item there. contains_map (ingested_in id) items.items item there)
     (λ item there. contains_map (λ (i : Item). i.id) (map (ingested_in id) items.items) (ingested_in id item) (contains_map (ingested_in id) items.items item there))
-    (ascends id items.items) is
+    (λ back. (id, items, refl, λ all. true≢false (sym (ascends id items.items all) ∙ back))) is
 core_due s before k (core.RotateMemtable id) error knows is =
     let call = Core (core.RotateMemtable id) in first_caused (HasCause k call) (rotation_refusals (facts s) id) error (rotation_caused s k call id knows.alike knows.well (alone id)) is
 core_due s before k core.RotateJournal error knows is = first_caused (HasCause k (Core core.RotateJournal)) (journal_refusals (facts s)) error (knows.well, (λ full. tt, tt)) is
@@ -404,9 +460,21 @@ core_due s before k (core.CloseSnapshot ticket) error knows is =
 core_due s before k (core.Persist mode) error knows is = first_caused (HasCause k (Core (core.Persist mode))) ((s.poisoned, Poisoned) ∷ []) error (knows.well, tt) is
 core_due s before k c error knows is = absurd (none-some _ is)
 
+-- where nothing is due for a call of the core, it may begin
+pub may_begin : (s : State) (before : List Reply) (k : Known) (c : Call) → AreAlike (present s) k.present → due s (shape_of (resolved before c)) ≡ None → MayBegin k (Core c)
+may_begin s before k (core.Keyspace name options) alike none = is_named name (none_due (creation_refusals (facts s) name) none).0
+may_begin s before k (core.Insert id key value) alike none = change_lawful s k.present ((id, key, Put value) ∷ []) (AsKeyspace id) alike none
+may_begin s before k (core.Remove id key) alike none = change_lawful s k.present ((id, key, Remove) ∷ []) (AsKeyspace id) alike none
+may_begin s before k (core.RemoveWeak id key) alike none = change_lawful s k.present ((id, key, RemoveWeak) ∷ []) (AsKeyspace id) alike none
+may_begin s before k (core.CommitBatch items mode) alike none = change_lawful s k.present items.items (ByMode mode) alike none
+may_begin s before k (core.Ingest id items) alike none = ingestion_lawful s k.present id items.items alike none
+may_begin s before k c alike none = All-nil (IsLawful k.present)
+
 -- a call of the core is refused for a cause
 pub core_cause : (s t : State) (before : List Reply) (k : Known) (c : Call) (error : Error) → Knows s before k → Step s (resolved before c) (Refused error) t → HasCause k (Core c) error
 core_cause s t before k c error knows refuses =
     let shape : CallShape = shape_of (resolved before c) in
     refused (HasCause k (Core c)) s t shape error (due s shape) (λ e is. core_due s before k c e knows is)
-    (failing s t k (Core c) shape error (reads_whole s shape knows.undamaged) (changes_keyspaces (present s) before c) (λ late. knows.well (finishes_late s shape late))) refuses
+    (λ none. failing s t k (Core c) shape error (may_begin s before k c knows.alike none) (reads_whole s shape knows.undamaged) (changes_keyspaces (present s) before c)
+    (λ late. knows.well (finishes_late s shape late)))
+    refuses

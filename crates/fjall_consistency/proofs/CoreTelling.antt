@@ -1,24 +1,24 @@
 -- What a call of the core is told in a list, and what is known after it.
-use Rattle.std.proofs.Common.{◌≡◌, ◌≢◌, ◌⊎◌, inl, inr, ⊎_elim, ℕ, zero, suc, ◌+◌, ◌<◌, ◌≤◌, ◌^◌, ◌==◌, nat_le, ◌||◌, All, Bool, true, false, cond, if◌then◌else◌, List, [], ◌∷◌, ◌++◌, length, map, Option, None, Some, unwrap_or, is_some, refl, sym, ap, subst, ◌∙◌, arith, length-append, length-set}
+use Rattle.std.proofs.Common.{◌≡◌, ◌≢◌, ◌⊎◌, inl, inr, ⊎_elim, ℕ, zero, suc, ◌+◌, ◌<◌, ◌≤◌, ◌==◌, nat_le, ◌||◌, All, AllPairs, Bool, true, false, cond, if◌then◌else◌, List, [], ◌∷◌, ◌++◌, length, map, Less, Option, None, Some, unwrap_or, is_some, refl, sym, ap, subst, ◌∙◌, arith, length-append, length-set}
 use Rattle.std.specs.Prelude.{nat_lt, slice_get, slice_set, option_map}
 use Rattle.std.specs.FinMap.{FinMap, contains_key, get, insert, values}
 use Rattle.std.specs.List.{list_any}
 use Rattle.std.specs.Ordering.{nat_cmp}
 use Rattle.std.specs.Str.{bytes_eq}
-use Rattle.std.proofs.lemmas.Bool.{true≢false, and_parts, leb-false, leb-true, ltb-true, or_cases}
+use Rattle.std.proofs.lemmas.Bool.{true≢false, ltb-true, or_cases}
 use Rattle.std.proofs.lemmas.Bool.Decides.{nat_tests}
 use Rattle.std.proofs.lemmas.List.{length-map}
-use Rattle.std.proofs.lemmas.List.Elements.{All-cons, All-nil, All-weaker}
+use Rattle.std.proofs.lemmas.List.Elements.{All-cons, All-map, All-nil, All-weaker}
+use Rattle.std.proofs.lemmas.List.Kept.{AllPairs-cons}
 use Rattle.std.proofs.lemmas.Option.{none-some}
-use Rattle.fjall_base.specs.Pairs.{Bytes, Pairs}
+use Rattle.fjall_base.specs.Pairs.{Bytes, Pairs, byte_order}
 use Rattle.fjall_base.specs.Store.{Command, Create, Delete, Item, Options, Store, Write, fold, map_at}
+use Rattle.fjall_base.specs.declared.error.Error.{Error}
 use Rattle.fjall_base.specs.declared.error.Error.TheVariants.{Io, SnapshotClosed}
 use Rattle.fjall_journal.specs.Changes.{Items}
-use Rattle.fjall_journal.specs.Ops.{BatchItem, item_in, some_key_empty, some_key_too_long, value_in}
-use Rattle.fjall_journal.specs.declared.op.Op.TheVariants.{Put, Remove, RemoveWeak}
+use Rattle.fjall_journal.specs.Ops.{BatchItem, item_in}
 use Rattle.fjall_compaction.specs.Ingests.{batch_items}
 use Rattle.fjall_writes.specs.Ingestions.{KeyOp}
-use Rattle.fjall_meta.specs.Keyspaces.{is_name}
 use Rattle.fjall_contents.specs.Replays.{option_pairs}
 use Rattle.fjall_contents.proofs.Slots.{get_put}
 use Rattle.fjall_history.specs.declared.reply.Reply.{Reply}
@@ -32,27 +32,29 @@ use Rattle.fjall_history.specs.Queries.{Get, Page, Query, Tells as Answered}
 use Rattle.fjall_history.specs.Tickets.{Tickets, is_open, opened}
 use Rattle.fjall_history.proofs.Maps.{found_in}
 use Rattle.fjall_history.proofs.Views.{view_of_all}
-use Rattle.fjall_machine.specs.Machine.{Answers, CreatesOrFinds, State, Step, clear_refusals, creation_refusals, deletion_refusals, due, facts, first_due, handle_refusals, instant_of, maps_in, present, rotation_refusals, times, view_refusals}
+use Rattle.fjall_machine.specs.Machine.{Answers, CreatesOrFinds, State, Step, clear_refusals, deletion_refusals, due, facts, first_due, handle_refusals, instant_of, maps_in, present, rotation_refusals, times, view_refusals}
 use Rattle.fjall_machine.specs.Machine as machine
+use Rattle.fjall_machine.proofs.Ascending.{may_ingest}
 use Rattle.fjall_machine.proofs.Dues.{below, is_so, neither, none_due}
 use Rattle.fjall_machine.proofs.Viewing.{first_or, latest_grown, second_or}
 use Rattle.fjall_machine.specs.Places.{id_opened, resolved, view_at}
-use Rattle.fjall_machine.specs.Shapes.{AsKeyspace, ByMode, OfChange, OfIngestion, OfRead, OneMore, Persistence, shape_of}
+use Rattle.fjall_machine.specs.Shapes.{ByMode, OfChange, OfIngestion, OfRead, OneMore, Persistence, shape_of}
 use Rattle.fjall_machine.specs.declared.call.Call.{Call}
 use Rattle.fjall_machine.specs.declared.call.Call.TheVariants as core
-use Rattle.fjall_transactions.specs.Crashes as crashes
+use Rattle.fjall_calls.specs.Crashes as crashes
 use Rattle.fjall_calls.specs.declared.call.TxCall.TheVariants.{Core}
 use Rattle.fjall_calls.specs.Hearing.{tx_of}
 use Rattle.fjall_calls.specs.Steps.{OfCore}
 use Rattle.fjall_calls.specs.Worlds.{Going, World, along}
 use Rattle.fjall_calls.proofs.KeptWorlds.{kept_step}
 use Rattle.fjall_consistency.specs.Alike.{AreAlike}
-use Rattle.fjall_consistency.specs.Consistency.{AreLawful, IsAnswer, IsMade, IsTold, Known, NamesMade, accepted, after, asked, attempted, has_name, is_fault, is_living, met_by, one_write, opens, shown, snapshots_after}
+use Rattle.fjall_consistency.specs.Consistency.{AreLawful, IsAnswer, IsMade, IsTold, Known, NamesThere, accepted, after, asked, attempted, has_name, is_fault, is_living, items_in, one_write, opens, shown, snapshots_after}
 use Rattle.fjall_consistency.proofs.Alike.{AllAlike, creates_alike, does_alike, fold_alike}
-use Rattle.fjall_consistency.proofs.Causes.{Knows, core_cause}
+use Rattle.fjall_consistency.proofs.Causes.{Knows, core_cause, ingested_in, lives_there, may_begin}
 use Rattle.fjall_consistency.proofs.Known.{IsGoing, IsKnown, IsShown, Tells, no_id}
-use Rattle.fjall_consistency.proofs.Steps.{answered_present, fault_poisons, no_other, poisoned_refuses, refused_times, stays_poisoned, stays_well}
+use Rattle.fjall_consistency.proofs.Steps.{answered_present, fault_poisons, no_other, poisoned_faults, poisoned_refuses, refused_times, stays_poisoned, stays_well}
 use Rattle.fjall_consistency.proofs.Turning.{Turns, all_shown, along_same, closed_by, core_turns, going_on, named_after, never_open, none_shown, one_each_still, real_id}
+use Rattle.fjall_consistency.proofs.Meeting.{met_by}
 
 -- ---- what is asked
 
@@ -79,10 +81,6 @@ deletion_alike id false false same = tt
 batch_alike : (s : State) (how : Persistence) (items : List BatchItem) → AllAlike (crashes.asked s (OfChange (Items items) how)) (one_write (map item_in items))
 batch_alike s how [] = tt
 batch_alike s how (item ∷ items) = all_themselves (Write (map item_in (item ∷ items)) ∷ [])
-
--- the item that an ingestion into a keyspace writes
-abbrev ingested_in : ℕ → KeyOp → Item
-ingested_in id item = record { id = id; key = item.0; value = value_in item.1 }
 
 -- its items are those of its batch
 ingested_items : (id : ℕ) (items : List KeyOp) → map item_in (batch_items id items) ≡ map (ingested_in id) items
@@ -121,6 +119,13 @@ nothing_alike (c ∷ cs) ds alike none = absurd cc
 none_asked : (s : State) (before : List Reply) (k : Known) (c : Call) → AreAlike (present s) k.present → s.poisoned ≡ true → due s (shape_of (resolved before c)) ≡ None → asked k (Core c) ≡ []
 none_asked s before k c alike poisoned none =
     nothing_alike (crashes.asked s (shape_of (resolved before c))) (asked k (Core c)) (asks_alike s before k c alike) (poisoned_refuses s (shape_of (resolved before c)) poisoned none)
+
+-- and none that asks for something meets a fault in it
+none_attempted : (s t : State) (before : List Reply) (k : Known) (c : Call) (error : Error) → AreAlike (present s) k.present → s.poisoned ≡ true → Step s (resolved before c) (Refused error) t
+    → attempted k (Core c) (Refused error) ≡ []
+none_attempted s t before k c (Io kind) alike poisoned step =
+    nothing_alike (crashes.asked s (shape_of (resolved before c))) (asked k (Core c)) (asks_alike s before k c alike) (poisoned_faults s t (shape_of (resolved before c)) kind poisoned step)
+none_attempted s t before k c error alike poisoned step = refl
 
 -- nothing is more than itself
 never_more : (n : ℕ) → nat_lt n n ≡ true → ⊥
@@ -199,55 +204,24 @@ name_there s t name options id (inr (fresh, is, made)) =
     ∙ ap (get (insert (present s).names (present s).next name)) is
     ∙ put_there (present s).names (present s).next name
 
--- ---- what is written is lawful
+-- ---- keys that ascend
 
--- one item
-abbrev IsLawful : Store → Item → Type 0
-IsLawful st item = (is_living st item.id ≡ true) × (item.key ≢ []) × (length item.key < 2 ^ 16)
+-- what holds of each two elements in order holds of what comes of them
+pairs_map : {X Y : Type 0} (f : X → Y) (R : Y → Y → Type 0) (xs : List X) → AllPairs (λ a b. R (f a) (f b)) xs → AllPairs R (map f xs)
+pairs_map f R [] all = λ i j d below within. absurd (omega (arith, within))
+pairs_map f R (x ∷ xs) all =
+    AllPairs-cons R (f x) (map f xs) (All-map (R (f x)) f xs (λ i d within. all 0 (suc i) d (omega arith) (omega (arith, within))))
+    (pairs_map f R xs (λ i j d below within. all (suc i) (suc j) d (omega (arith, below)) (omega (arith, within))))
 
--- a key that has a byte isn't none
-has_key : (key : Bytes) → (length key == 0) ≡ false → key ≢ []
-has_key key some none = true≢false (ap (λ (bytes : Bytes). length bytes == 0) (sym none) ∙ some)
+-- so it is of the items of an ingestion that nothing refuses
+ingestion_ascends : (s : State) (id : ℕ) (items : List KeyOp) → due s (OfIngestion id items) ≡ None → AllPairs (λ a b. byte_order a.key b.key ≡ Less) (map (ingested_in id) items)
+ingestion_ascends s id [] none = λ i j d below within. absurd (omega (arith, within))
+ingestion_ascends s id (item ∷ items) none =
+    pairs_map (ingested_in id) (λ a b. byte_order a.key b.key ≡ Less) (item ∷ items) (may_ingest (facts s) id (item ∷ items) none).ascend
 
--- the items of a batch
-lawful_items : (s : State) (k : Known) (items : List BatchItem) → AreAlike (present s) k.present → some_key_empty items ≡ false → some_key_too_long items ≡ false
-    → machine.some_deleted (present s) items ≡ false → AreLawful k.present (map item_in items)
-lawful_items s k [] alike keys lengths living = All-nil (IsLawful k.present)
-lawful_items s k (item ∷ items) alike keys lengths living =
-    let key = neither (length item.1 == 0) (some_key_empty items) keys in
-    let short = neither (nat_le (2 ^ 16) (length item.1)) (some_key_too_long items) lengths in
-    let lives = neither (machine.is_deleted (present s) item.0) (machine.some_deleted (present s) items) living in
-    All-cons (IsLawful k.present) (item_in item) (map item_in items)
-    (ap (λ (names : FinMap nat_cmp Bytes). contains_key names item.0) alike.names ∙ is_so (machine.is_living (present s) item.0) lives.0, has_key item.1 key.0, leb-false (2 ^ 16) (length item.1) short.0)
-    (lawful_items s k items alike key.1 short.1 lives.1)
+-- ---- the keyspaces that are named are there
 
--- of a change that nothing refuses
-lawful_change : (s : State) (k : Known) (items : List BatchItem) (how : Persistence) → AreAlike (present s) k.present → due s (OfChange (Items items) how) ≡ None → AreLawful k.present (map item_in items)
-lawful_change s k [] how alike none = All-nil (IsLawful k.present)
-lawful_change s k (item ∷ items) how alike none =
-    let apart = none_due (machine.items_refusals (facts s) (item ∷ items)) none in
-    lawful_items s k (item ∷ items) alike apart.0 apart.1.0 apart.1.1.1.1.0
-
--- the items of an ingestion
-lawful_ingested : (s : State) (k : Known) (id : ℕ) (items : List KeyOp) → is_living k.present id ≡ true → machine.some_key_empty items ≡ false → machine.some_key_too_long items ≡ false
-    → AreLawful k.present (map (ingested_in id) items)
-lawful_ingested s k id [] living keys lengths = All-nil (IsLawful k.present)
-lawful_ingested s k id (item ∷ items) living keys lengths =
-    let key = neither (length item.0 == 0) (machine.some_key_empty items) keys in
-    let short = neither (nat_le (2 ^ 16) (length item.0)) (machine.some_key_too_long items) lengths in
-    All-cons (IsLawful k.present) (ingested_in id item) (map (ingested_in id) items) (living, has_key item.0 key.0, leb-false (2 ^ 16) (length item.0) short.0) (lawful_ingested s k id items living key.1 short.1)
-
--- of one that nothing refuses
-lawful_ingestion : (s : State) (k : Known) (id : ℕ) (items : List KeyOp) → AreAlike (present s) k.present → due s (OfIngestion id items) ≡ None → AreLawful k.present (map (ingested_in id) items)
-lawful_ingestion s k id [] alike none = All-nil (IsLawful k.present)
-lawful_ingestion s k id (item ∷ items) alike none =
-    let apart = none_due (machine.ingestion_refusals (facts s) id (item ∷ items)) none in
-    lawful_ingested s k id (item ∷ items)
-    (ap (λ (names : FinMap nat_cmp Bytes). contains_key names id) alike.names ∙ is_so (machine.is_living (present s) id) apart.1.1.1.1.1.0) apart.0 apart.1.0
-
--- ---- the keyspaces that are named were made
-
--- one that isn't unknown
+-- one that isn't unknown was made
 made_there : (s : State) (k : Known) (id : ℕ) → AreAlike (present s) k.present → machine.is_unknown (present s) id ≡ false → IsMade k.present id
 made_there s k id alike is =
     let apart = neither (id == 0) (nat_le (present s).next id) is in
@@ -256,71 +230,38 @@ made_there s k id alike is =
     let same = alike.next in
     (some, omega (arith, under, same))
 
--- one alone
-one_made : (k : Known) (id : ℕ) → IsMade k.present id → All (IsMade k.present) (id ∷ [])
-one_made k id is = All-cons (IsMade k.present) id [] is (All-nil (IsMade k.present))
-
--- those of the items of a batch
-batch_made : (s : State) (k : Known) (items : List BatchItem) → AreAlike (present s) k.present → machine.some_unknown (present s) items ≡ false
-    → All (IsMade k.present) (map (λ (i : Item). i.id) (map item_in items))
-batch_made s k [] alike known = All-nil (IsMade k.present)
-batch_made s k (item ∷ items) alike known =
-    let apart = neither (machine.is_unknown (present s) item.0) (machine.some_unknown (present s) items) known in
-    All-cons (IsMade k.present) item.0 (map (λ (i : Item). i.id) (map item_in items)) (made_there s k item.0 alike apart.0) (batch_made s k items alike apart.1)
-
--- of a change that nothing refuses
-change_made : (s : State) (k : Known) (items : List BatchItem) (how : Persistence) → AreAlike (present s) k.present → due s (OfChange (Items items) how) ≡ None
-    → All (IsMade k.present) (map (λ (i : Item). i.id) (map item_in items))
-change_made s k [] how alike none = All-nil (IsMade k.present)
-change_made s k (item ∷ items) how alike none = batch_made s k (item ∷ items) alike (none_due (machine.items_refusals (facts s) (item ∷ items)) none).1.1.1.0
-
--- those of the items of an ingestion
-ingested_made : (k : Known) (id : ℕ) (items : List KeyOp) → IsMade k.present id → All (IsMade k.present) (map (λ (i : Item). i.id) (map (ingested_in id) items))
-ingested_made k id [] is = All-nil (IsMade k.present)
-ingested_made k id (item ∷ items) is = All-cons (IsMade k.present) id (map (λ (i : Item). i.id) (map (ingested_in id) items)) is (ingested_made k id items is)
-
--- of one that nothing refuses
-ingestion_made : (s : State) (k : Known) (id : ℕ) (items : List KeyOp) → AreAlike (present s) k.present → due s (OfIngestion id items) ≡ None
-    → All (IsMade k.present) (map (λ (i : Item). i.id) (map (ingested_in id) items))
-ingestion_made s k id [] alike none = All-nil (IsMade k.present)
-ingestion_made s k id (item ∷ items) alike none =
-    ingested_made k id (item ∷ items) (made_there s k id alike (none_due (machine.ingestion_refusals (facts s) id (item ∷ items)) none).1.1.1.1.0)
-
 -- that of a read that nothing refuses
-read_made : (s : State) (k : Known) (v : View) (id : ℕ) → AreAlike (present s) k.present → first_due (view_refusals (facts s) v id) ≡ None → All (IsMade k.present) (id ∷ [])
-read_made s k Present id alike none = one_made k id (made_there s k id alike (none_due (view_refusals (facts s) Present id) none).0)
-read_made s k (At ticket) id alike none = one_made k id (made_there s k id alike (none_due (view_refusals (facts s) (At ticket) id) none).1.0)
+read_made : (s : State) (k : Known) (v : View) (id : ℕ) → AreAlike (present s) k.present → first_due (view_refusals (facts s) v id) ≡ None → IsMade k.present id
+read_made s k Present id alike none = made_there s k id alike (none_due (view_refusals (facts s) Present id) none).0
+read_made s k (At ticket) id alike none = made_there s k id alike (none_due (view_refusals (facts s) (At ticket) id) none).1.0
 
--- that of a rotation, or of a flush or a merge that is to begin
-rotation_made : (s : State) (k : Known) (id : ℕ) → AreAlike (present s) k.present → first_due (rotation_refusals (facts s) id) ≡ None → All (IsMade k.present) (id ∷ [])
-rotation_made s k id alike none = one_made k id (made_there s k id alike (none_due (rotation_refusals (facts s) id) none).0)
+-- a keyspace lives
+abbrev Lives : Known → ℕ → Type 0
+Lives k id = is_living k.present id ≡ true
+
+-- one alone
+one_lives : (s : State) (k : Known) (id : ℕ) → AreAlike (present s) k.present → machine.is_deleted (present s) id ≡ false → All (Lives k) (id ∷ [])
+one_lives s k id alike stays = All-cons (Lives k) id [] (lives_there (present s) k.present id alike stays) (All-nil (Lives k))
+
+-- those of lawful items
+items_live : (k : Known) (items : List Item) → AreLawful k.present items → All (Lives k) (map (λ (item : Item). item.id) items)
+items_live k items lawful = All-map (Lives k) (λ (item : Item). item.id) items (λ i d within. (lawful i d within).0)
 
 -- those of any call of the core
-names_made : (s : State) (before : List Reply) (k : Known) (c : Call) → AreAlike (present s) k.present → due s (shape_of (resolved before c)) ≡ None → NamesMade k (Core c)
-names_made s before k (core.DeleteKeyspace id) alike none = one_made k id (made_there s k id alike (none_due (deletion_refusals (facts s) id) none).0)
-names_made s before k (core.Retain id) alike none = one_made k id (made_there s k id alike (none_due (handle_refusals (facts s) OneMore id) none).0)
-names_made s before k (core.Clear id) alike none = one_made k id (made_there s k id alike (none_due (clear_refusals (facts s) id) none).0)
-names_made s before k (core.RotateMemtable id) alike none = rotation_made s k id alike none
-names_made s before k (core.FlushBegin id) alike none = rotation_made s k id alike none
-names_made s before k (core.MergeBegin id) alike none = rotation_made s k id alike none
-names_made s before k (core.MajorBegin id) alike none = rotation_made s k id alike none
-names_made s before k (core.GetAt v id key) alike none = read_made s k (view_at before v) id alike none
-names_made s before k (core.PageAt v id range back max) alike none = read_made s k (view_at before v) id alike none
-names_made s before k (core.Insert id key value) alike none = change_made s k ((id, key, Put value) ∷ []) (AsKeyspace id) alike none
-names_made s before k (core.Remove id key) alike none = change_made s k ((id, key, Remove) ∷ []) (AsKeyspace id) alike none
-names_made s before k (core.RemoveWeak id key) alike none = change_made s k ((id, key, RemoveWeak) ∷ []) (AsKeyspace id) alike none
-names_made s before k (core.CommitBatch items mode) alike none = change_made s k items.items (ByMode mode) alike none
-names_made s before k (core.Ingest id items) alike none = ingestion_made s k id items.items alike none
-names_made s before k c alike none = All-nil (IsMade k.present)
+names_there : (s : State) (before : List Reply) (k : Known) (c : Call) → AreAlike (present s) k.present → due s (shape_of (resolved before c)) ≡ None → NamesThere k (Core c)
+names_there s before k (core.DeleteKeyspace id) alike none = made_there s k id alike (none_due (deletion_refusals (facts s) id) none).0
+names_there s before k (core.Retain id) alike none = made_there s k id alike (none_due (handle_refusals (facts s) OneMore id) none).0
+names_there s before k (core.Clear id) alike none = one_lives s k id alike (none_due (clear_refusals (facts s) id) none).1.0
+names_there s before k (core.RotateMemtable id) alike none = one_lives s k id alike (none_due (rotation_refusals (facts s) id) none).1.0
+names_there s before k (core.FlushBegin id) alike none = one_lives s k id alike (none_due (rotation_refusals (facts s) id) none).1.0
+names_there s before k (core.MergeBegin id) alike none = one_lives s k id alike (none_due (rotation_refusals (facts s) id) none).1.0
+names_there s before k (core.MajorBegin id) alike none = one_lives s k id alike (none_due (rotation_refusals (facts s) id) none).1.0
+names_there s before k (core.GetAt v id key) alike none = read_made s k (view_at before v) id alike none
+names_there s before k (core.PageAt v id range back max) alike none = read_made s k (view_at before v) id alike none
+names_there s before k (core.Keyspace name options) alike none = All-nil (Lives k)
+names_there s before k c alike none = items_live k (items_in k (Core c)) (may_begin s before k c alike none)
 
 -- ---- an answer
-
--- what is a name has 1 to 255 bytes
-is_some_name : (name : Bytes) → is_name name ≡ true → name ≢ []
-is_some_name name is none = true≢false (sym (ap is_name (sym none) ∙ is))
-
-is_short_name : (name : Bytes) → is_name name ≡ true → length name ≤ 255
-is_short_name name is = leb-true (length name) 255 (and_parts (nat_le 1 (length name)) (nat_le (length name) 255) is).1
 
 -- an answer is what callers may rely on
 told : (s t : State) (before : List Reply) (k : Known) (c : Call) (reply : Reply) → AreAlike (present s) k.present → AreShown s before k → due s (shape_of (resolved before c)) ≡ None
@@ -331,24 +272,19 @@ told s t before k (core.GetAt v id key) reply alike all none answers =
 told s t before k (core.PageAt v id range back max) reply alike all none answers =
     let is = view_shown s before k v id (Page range back max) alike all none in
     (is.0, is.1, subst (λ (pairs : Pairs). Answered (Page range back max) pairs reply) is.2 answers.0)
-told s t before k (core.Keyspace name options) reply alike all none answers = (
-  answers.0,
-  answers.1,
-  is_some_name name (is_so (is_name name) (none_due (creation_refusals (facts s) name) none).0),
-  is_short_name name (is_so (is_name name) (none_due (creation_refusals (facts s) name) none).0),
-  ap (λ (names : FinMap nat_cmp Bytes). get names answers.0) (answered_alike s t before k (core.Keyspace name options) reply alike answers).names
-      ∙ name_there s t name options answers.0 answers.2,
-)
+told s t before k (core.Keyspace name options) reply alike all none answers =
+    let named = may_begin s before k (core.Keyspace name options) alike none in (
+      answers.0,
+      answers.1,
+      named.0,
+      named.1,
+      ap (λ (names : FinMap nat_cmp Bytes). get names answers.0) (answered_alike s t before k (core.Keyspace name options) reply alike answers).names
+          ∙ name_there s t name options answers.0 answers.2,
+    )
 told s t before k (core.KeyspaceExists name) reply alike all none answers =
     answers.0 ∙ ap (λ (names : FinMap nat_cmp Bytes). Flag (list_any (λ other. bytes_eq other name) (values names))) (sym alike.names)
-told s t before k (core.Clear id) reply alike all none answers =
-    ap (λ (names : FinMap nat_cmp Bytes). contains_key names id) alike.names ∙ is_so (machine.is_living (present s) id) (none_due (clear_refusals (facts s) id) none).1.0
-told s t before k (core.Insert id key value) reply alike all none answers = lawful_change s k ((id, key, Put value) ∷ []) (AsKeyspace id) alike none
-told s t before k (core.Remove id key) reply alike all none answers = lawful_change s k ((id, key, Remove) ∷ []) (AsKeyspace id) alike none
-told s t before k (core.RemoveWeak id key) reply alike all none answers = lawful_change s k ((id, key, RemoveWeak) ∷ []) (AsKeyspace id) alike none
-told s t before k (core.CommitBatch items mode) reply alike all none answers = lawful_change s k items.items (ByMode mode) alike none
-told s t before k (core.Ingest id items) reply alike all none answers = lawful_ingestion s k id items.items alike none
-told s t before k c reply alike all none answers = All-nil (IsLawful k.present)
+told s t before k (core.Ingest id items) reply alike all none answers = (may_begin s before k (core.Ingest id items) alike none, ingestion_ascends s id items.items none)
+told s t before k c reply alike all none answers = may_begin s before k c alike none
 
 -- what is known where a call is refused
 knows : (w : World) (before : List Reply) (k : Known) → IsKnown w before k → Knows w.told.state before k
@@ -361,10 +297,11 @@ knows w before k known = record {
 
 -- a call of the core is told what callers may rely on
 answer : (w : World) (before : List Reply) (k : Known) (c : Call) (reply : Reply) (s : State) → IsKnown w before k → Step w.told.state (resolved before c) reply s → IsAnswer k (Core c) reply
-answer w before k c (Refused error) s known refuses = core_cause w.told.state s before k c error (knows w before k known) refuses
+answer w before k c (Refused error) s known refuses =
+    (core_cause w.told.state s before k c error (knows w before k known) refuses, λ broken. none_attempted w.told.state s before k c error known.alike (known.broken broken) refuses)
 answer w before k c reply s known (none, answers) = (
   told w.told.state s before k c reply known.alike known.shown none answers,
-  names_made w.told.state before k c known.alike none,
+  names_there w.told.state before k c known.alike none,
   λ broken. none_asked w.told.state before k c known.alike (known.broken broken) none,
 )
 

@@ -2,12 +2,13 @@
 use Rattle.std.proofs.lemmas.List.Elements.{All-nil}
 use Rattle.std.proofs.Common.{◌≡◌, ◌≢◌, ◌⊎◌, inl, inr, ⊎_elim, ℕ, zero, suc, ◌+◌, ◌==◌, ◌||◌, nat_lt, not, Bool, true, false, if◌then◌else◌, List, [], ◌∷◌, ◌++◌, length, map, All, Option, None, Some, is_none, is_some, unwrap_or, refl, sym, ap, subst, ◌∙◌, arith, append-nil, length-append}
 use Rattle.std.proofs.Math.Bool.{or-false}
-use Rattle.std.proofs.lemmas.Bool.{and_parts, eqb-true, ltb-true, or_cases, true≢false}
+use Rattle.std.proofs.lemmas.Bool.{and_parts, eqb-true, ltb-true, or_cases, or_parts, true≢false}
 use Rattle.std.proofs.lemmas.Bool.Decides.{nat_tests}
 use Rattle.std.proofs.lemmas.List.{length-map, length-set}
 use Rattle.std.proofs.lemmas.Option.{none-some, same_Some}
 use Rattle.std.specs.Prelude.{Contains, flat_map, option_map, option_to_list, slice_get, slice_set}
 use Rattle.std.specs.FinMap.{empty, get, remove}
+use Rattle.std.specs.List.{list_any}
 use Rattle.std.specs.declared.io.ErrorKind.{ErrorKind}
 use Rattle.fjall_base.specs.Pairs.{Bytes}
 use Rattle.fjall_base.specs.Store.{Item, Store, Write, apply, fold}
@@ -26,7 +27,7 @@ use Rattle.fjall_history.specs.Tickets.{Tickets, is_open}
 use Rattle.fjall_history.specs.declared.reply.Reply.{Reply}
 use Rattle.fjall_history.specs.declared.reply.Reply.TheVariants.{Done, Flag, Refused}
 use Rattle.fjall_history.specs.declared.ticket.Ticket.{Ticket}
-use Rattle.fjall_machine.specs.Machine.{Answers, MayFail, Refuses, State, Step, StepOf, due, present, times}
+use Rattle.fjall_machine.specs.Machine.{Answers, MayFail, Refuses, State, Step, StepOf, due, facts, first_due, items_refusals, present, times}
 use Rattle.fjall_machine.specs.Places.{id_opened}
 use Rattle.fjall_machine.specs.Shapes.{ByMode, Close, OfChange, OfTickets, Persistence}
 use Rattle.fjall_machine.specs.declared.call.Call.TheVariants.{CloseSnapshot}
@@ -40,15 +41,15 @@ use Rattle.fjall_calls.specs.Worlds.{Going, World, along}
 use Rattle.fjall_calls.proofs.Following.{GoesOn, counted_next}
 use Rattle.fjall_calls.proofs.KeptWorlds.{IsKept, found_kind, found_open, kept_ended, kept_step, open_at}
 use Rattle.fjall_calls.proofs.Lists.{of_others, of_taken}
-use Rattle.fjall_transactions.specs.Crashes.{asked as core_asked}
-use Rattle.fjall_transactions.specs.Commits.{change_of}
-use Rattle.fjall_transactions.specs.Standing.{CommitStep, Told, accepted_of, history_of}
-use Rattle.fjall_transactions.specs.Standing as standing
-use Rattle.fjall_transactions.specs.Transactions.{MeetsSome, Tx, with_items}
-use Rattle.fjall_transactions.proofs.Items.{some_items}
+use Rattle.fjall_calls.specs.Crashes.{asked as core_asked, is_io}
+use Rattle.fjall_calls.specs.Commits.{change_of}
+use Rattle.fjall_calls.specs.Standing.{CommitStep, Told, accepted_of, history_of}
+use Rattle.fjall_calls.specs.Standing as standing
+use Rattle.fjall_calls.specs.Transactions.{MeetsSome, Tx, with_items}
+use Rattle.fjall_calls.proofs.Items.{some_items}
 use Rattle.fjall_consistency.specs.Alike.{AreAlike}
 use Rattle.fjall_consistency.proofs.Lawful.{change_lawful, own_lawful}
-use Rattle.fjall_consistency.specs.Consistency.{AreLawful, HasCause, IsAnswer, IsMet, Known, Transaction, after, commits as commits_of, is_fault, items_in, met_by, named, one_write, transactions_after}
+use Rattle.fjall_consistency.specs.Consistency.{AreLawful, HasCause, IsAnswer, IsMet, Known, MayBegin, Transaction, after, attempted, commits as commits_of, is_fault, items_in, named, one_write, transactions_after}
 use Rattle.fjall_consistency.proofs.Alike.{own_alike}
 use Rattle.fjall_consistency.proofs.Causes.{contains_map, items_cause}
 use Rattle.fjall_consistency.proofs.Going.{IsOfKind, IsSame, is_met, met_is, same_met, same_plain, single_unmet}
@@ -56,6 +57,7 @@ use Rattle.fjall_consistency.proofs.Known.{IsWritersOwn, AreTwo, IsGoing, IsKnow
 use Rattle.fjall_consistency.proofs.Marking.{item_written, known_marked, marks_known}
 use Rattle.fjall_consistency.proofs.Steps.{answered_open, answered_present, fault_poisons, poisoned_refuses, refused_times, stays_poisoned, stays_well, turned_history}
 use Rattle.fjall_consistency.proofs.Turning.{SameOn, Turns, all_shown, along_same, apart_taken, commit_turns, core_turns, going_on, named_after, never_open, none_shown, one_each_still, real_id, taken_or_left}
+use Rattle.fjall_consistency.proofs.Meeting.{met_by}
 
 -- ---- lists
 
@@ -347,6 +349,28 @@ asks_some : (s : State) (items : List BatchItem) (how : Persistence) → (items 
 asks_some s [] how some none = some refl
 asks_some s (item ∷ items) how some none = absurd cc
 
+-- where none of these refusals tells of a fault of the disk, none that is due does
+never_due : (refusals : List (Bool × Error)) (fault : ErrorKind) → list_any (λ refusal. is_io refusal.1) refusals ≡ false → first_due refusals ≡ Some (Io fault) → ⊥
+never_due [] fault none is = none-some _ is
+never_due ((true, first) ∷ refusals) fault none is =
+    let same : first ≡ Io fault = cc in
+    true≢false (sym (ap is_io same) ∙ (or_parts (is_io first) (list_any (λ refusal. is_io refusal.1) refusals) none).0)
+never_due ((false, first) ∷ refusals) fault none is = never_due refusals fault (or_parts (is_io first) (list_any (λ refusal. is_io refusal.1) refusals) none).1 is
+
+-- a poisoned engine refuses a change of some items before it meets a fault
+never_faulty : (s t : State) (items : List BatchItem) (how : Persistence) (fault : ErrorKind) → (items ≡ [] → ⊥) → s.poisoned ≡ true → StepOf s (OfChange (Items items) how) (Refused (Io fault)) t → ⊥
+never_faulty s t [] how fault some poisoned refuses = some refl
+never_faulty s t (item ∷ items) how fault some poisoned refuses = by (due s (OfChange (Items (item ∷ items)) how)) refl refuses
+  where
+    by : (first : Option Error) → due s (OfChange (Items (item ∷ items)) how) ≡ first → Refuses first (OfChange (Items (item ∷ items)) how) (Io fault) s t → ⊥
+    by (Some first) is (told, same) = never_due (items_refusals (facts s) (item ∷ items)) fault refl (is ∙ ap Some (sym told))
+    by None is fails = asks_some s (item ∷ items) how some (poisoned_refuses s (OfChange (Items (item ∷ items)) how) poisoned is)
+
+-- a refusal attempts nothing but by a fault of the disk
+refused_attempts : (k : Known) (kind : Kind) (name : ℕ) (error : Error) → ((fault : ErrorKind) → error ≡ Io fault → ⊥) → attempted k (Commit kind name) (Refused error) ≡ []
+refused_attempts k kind name (Io fault) never = absurd (never fault refl)
+refused_attempts k kind name error never = refl
+
 -- nothing breaks where as much is accepted as was attempted
 broken_before : (broken : Bool) (n : ℕ) → (broken || nat_lt n n) ≡ true → broken ≡ true
 broken_before broken n is = ⊎_elim (λ was. was) (λ less. absurd (omega (arith, ltb-true n n less))) (or_cases broken (nat_lt n n) is)
@@ -450,6 +474,20 @@ module _ (w : World) (before : List Reply) (k : Known) (kind : Kind) (name : ℕ
       subst (λ (items : List Item). Contains items (item_in item)) (sym (items_named k kind name was.tx named_is))
       (was.same.own.listed item.0 item.1 item.2 (item_written (tx_of g).own item there))
 
+  -- where it meets no commit and its items are lawful, it takes place
+  takes_place : (instant : ℕ) → get w.told.state.tickets.instants (tx_of g).ticket.id ≡ Some instant → (MeetsSome instant (tx_of g).marks (commits (history_of w.told)) → ⊥)
+      → AreLawful k.present (map item_in (items_of (tx_of g).own)) → MayBegin k (Commit kind name)
+  takes_place instant opened apart lawful = (
+    was.tx,
+    named_is,
+    kind_is,
+    (
+      own_lawful k.present (tx_of g).own was.tx.own was.same.own lawful,
+      inr (λ met. apart (subst (λ (i : ℕ). MeetsSome i (tx_of g).marks (commits (history_of w.told))) (sym (instant_is instant opened))
+          (some_met (history_of w.told) (tx_of g).ticket.instant (tx_of g).own (tx_of g).marks (tx_of g).mode was.tx was.same met))),
+    ),
+  )
+
   -- its command is refused
   refuses : (instant : ℕ) → get w.told.state.tickets.instants (tx_of g).ticket.id ≡ Some instant → (tx_of g).own ≢ empty → (MeetsSome instant (tx_of g).marks (commits (history_of w.told)) → ⊥)
       → (error : Error) (mid : State) → StepOf w.told.state (change_of (tx_of g)) (Refused error) mid → StepOf mid (OfTickets (Close (tx_of g).ticket.id)) Done new.state → new.accepted ≡ w.told.accepted
@@ -463,12 +501,15 @@ module _ (w : World) (before : List Reply) (k : Known) (kind : Kind) (name : ℕ
       let still : times mid ≡ times w.told.state = refused_times w.told.state mid (change_of (tx_of g)) error refused in
       let cause : HasCause k (Commit kind name) error =
       items_cause w.told.state mid k (Commit kind name) (items_of (tx_of g).own) (ByMode (tx_of g).mode) error known.alike known.well item_known
-      (λ item there. contains_map (λ (i : Item). i.id) (items_in k (Commit kind name)) (item_in item) (item_known item there)) refused in
+      (λ item there. contains_map (λ (i : Item). i.id) (items_in k (Commit kind name)) (item_in item) (item_known item there)) (takes_place instant opened apart) refused in
+      let quiet : k.broken ≡ true → attempted k (Commit kind name) (Refused error) ≡ [] =
+      λ broken. refused_attempts k kind name error (λ fault is. never_faulty w.told.state mid (items_of (tx_of g).own) (ByMode (tx_of g).mode) fault (some_items (tx_of g).own some) (known.broken broken)
+      (subst (λ (e : Error). StepOf w.told.state (change_of (tx_of g)) (Refused e) mid) is refused)) in
       let breaks : (after k (Commit kind name) (Refused error)).broken ≡ true → mid.poisoned ≡ true =
       λ broken. ⊎_elim (λ is. stays_poisoned w.told.state mid (change_of (tx_of g)) (Refused error) refused (known.broken is))
       (λ fault. fault_poisons w.told.state mid (change_of (tx_of g)) fault.0 (asks_some w.told.state (items_of (tx_of g).own) (ByMode (tx_of g).mode) (some_items (tx_of g).own some))
       (subst (λ (e : Error). StepOf w.told.state (change_of (tx_of g)) (Refused e) mid) fault.1 refused)) (refused_breaks k kind name error broken) in
-      commit_tells (outcomes.Aborted error) step cause (subst (SameOn w.told new) (sym (refused_none k kind name error)) (same_still w.told new goes same))
+      commit_tells (outcomes.Aborted error) step (cause, quiet) (subst (SameOn w.told new) (sym (refused_none k kind name error)) (same_still w.told new goes same))
       (closing_next mid new.state id closes ∙ ap (λ (t : Times). t.tickets.next) still)
       (gone_refused k kind name error (λ e. (subst (HasCause k (Commit kind name)) e cause) was.tx named_is kind_is))
       (alike_as (present w.told.state) (present new.state) k.present _ (ap latest (turned_history mid new.state (Close id) Done closes.1 ∙ ap (λ (t : Times). t.history) still)) refl known.alike)
@@ -490,16 +531,7 @@ module _ (w : World) (before : List Reply) (k : Known) (kind : Kind) (name : ℕ
       let something : (was.tx.own ≡ [] → ⊥) = λ nothing. some (was.same.own.no_items nothing) in
       let began : instant ≡ (tx_of g).ticket.instant = instant_is instant opened in
       commit_tells outcomes.Ok step (
-        (
-          was.tx,
-          named_is,
-          kind_is,
-          (
-            own_lawful k.present own was.tx.own was.same.own (change_lawful w.told.state k.present (items_of own) (ByMode (tx_of g).mode) known.alike made.0),
-            inr (λ met. apart (subst (λ (i : ℕ). MeetsSome i marks (commits (history_of w.told))) (sym began)
-                (some_met (history_of w.told) (tx_of g).ticket.instant own marks (tx_of g).mode was.tx was.same met))),
-          ),
-        ),
+        takes_place instant opened apart (change_lawful w.told.state k.present (items_of own) (ByMode (tx_of g).mode) known.alike made.0),
         tt,
         λ broken. absurd (asks_some w.told.state (items_of own) (ByMode (tx_of g).mode) (some_items own some)
             (poisoned_refuses w.told.state (change_of (tx_of g)) (known.broken broken) made.0)),

@@ -25,8 +25,9 @@ use Rattle.fjall_history.proofs.Views.{view_stays}
 use Rattle.fjall_calls.specs.declared.call.Kind.{Kind}
 use Rattle.fjall_calls.specs.declared.call.Kind.TheVariants.{Optimistic, Single}
 use Rattle.fjall_consistency.specs.Alike.{AreAlike}
-use Rattle.fjall_consistency.specs.Consistency.{IsMet, Transaction, met_by, one, reading, seen, updating, value_at}
+use Rattle.fjall_consistency.specs.Consistency.{IsMet, Transaction, one, reading, seen, updating, value_at}
 use Rattle.fjall_consistency.proofs.Alike.{IsOwn, keys_more, keys_of, own_alike, owns_more, owns_none}
+use Rattle.fjall_consistency.proofs.Meeting.{met_by}
 
 -- an optimistic transaction has marks, a single writer's none
 abbrev pub IsOfKind : Kind → Option Marks → Type 0

@@ -9,7 +9,7 @@ use Rattle.fjall_history.specs.Histories.{view}
 use Rattle.fjall_history.specs.Tickets.{is_open}
 use Rattle.fjall_machine.specs.Machine.{State, present}
 use Rattle.fjall_machine.specs.Places.{id_opened}
-use Rattle.fjall_transactions.specs.Standing.{history_of}
+use Rattle.fjall_calls.specs.Standing.{history_of}
 use Rattle.fjall_calls.specs.Hearing.{tx_of}
 use Rattle.fjall_calls.specs.Worlds.{Going, World}
 use Rattle.fjall_calls.proofs.KeptWorlds.{IsKept}

@@ -27,24 +27,24 @@ use Rattle.fjall_recovery.specs.Amid as amid
 use Rattle.fjall_recovery.specs.Folders.{Contents, ImageStandsFor}
 use Rattle.fjall_recovery.specs.Held.{IsOpenFolder}
 use Rattle.fjall_recovery.specs.Refusals.{IsDue, IsTornTail}
-use Rattle.fjall_transactions.specs.Crashes.{at_most_one}
-use Rattle.fjall_transactions.specs.Durables.{Passes}
-use Rattle.fjall_transactions.specs.Holding.{Held}
-use Rattle.fjall_transactions.specs.Openings.{OpensAs}
-use Rattle.fjall_transactions.specs.CoreStanding.{RunsOn}
+use Rattle.fjall_calls.specs.Crashes.{at_most_one}
+use Rattle.fjall_calls.specs.Durables.{Passes}
+use Rattle.fjall_calls.specs.Holding.{Held}
+use Rattle.fjall_calls.specs.Openings.{OpensAs}
+use Rattle.fjall_calls.specs.CoreStanding.{RunsOn}
 use Rattle.fjall_lives.proofs.CrashesInRuns.{no_more, run_passes}
-use Rattle.fjall_transactions.proofs.Reopening.{a_core_holds_amid, holds_store_amid}
+use Rattle.fjall_calls.proofs.Reopening.{a_core_holds_amid, holds_store_amid}
 use Rattle.fjall_lives.specs.Lives.{begun, start_of}
 use Rattle.fjall_lives.proofs.CrashedDisks.{new_disk_holds}
-use Rattle.fjall_transactions.specs.Standing.{StandFor, Told}
-use Rattle.fjall_transactions.specs.Transactions.{Kept, none_kept}
-use Rattle.fjall_transactions.proofs.Standing.{opening_stands}
+use Rattle.fjall_calls.specs.Standing.{StandFor, Told}
+use Rattle.fjall_calls.specs.Transactions.{Kept, none_kept}
+use Rattle.fjall_calls.proofs.CoreStanding.{opening_stands}
 use Rattle.fjall_calls.specs.declared.call.TxCall.{TxCall}
 use Rattle.fjall_calls.specs.Serving.{RunsTx}
 use Rattle.fjall_calls.specs.Worlds as worlds
 use Rattle.fjall_calls.proofs.Standing.{kept_beginning}
 use Rattle.fjall_consistency.specs.Alike.{AreAlike}
-use Rattle.fjall_consistency.specs.Consistency.{AreAnswers, AreLives, IsBeginning, IsLeft, IsLife, IsSyncAt, Known, NoLife, OneLife, RunsOut, after, all_attempted, attempted, begins, no_store}
+use Rattle.fjall_consistency.specs.Consistency.{AreAnswers, AreLives, IsBeginning, IsLeft, IsLife, IsSyncAt, Known, Leads, NoLife, OneLife, RunsOut, after, all_attempted, attempted, begins, no_store}
 use Rattle.fjall_consistency.specs.Links.{EndsAs, Holds, IsClosed, IsFresh, IsLet, IsUnclosed, Leaves, LivesOn, PassesOn, ServesOn}
 use Rattle.fjall_consistency.specs.declared.life.Life.{Life}
 use Rattle.fjall_consistency.specs.declared.life.Told as lives
@@ -101,9 +101,13 @@ no_longer before settled safe front pending tried has one other =
     let same : settled ≡ safe = append_cancel_right settled safe pending (one ∙ sym other) in
     omega (arith, ap length (has.1 ∙ same), length-append before has.0, length-append safe front)
 
+-- from each store that is alike this one, calls lead on to one that is alike that
+abbrev pub LeadAlike : Store → List TxCall → List Reply → Bool → Store → Type 0
+LeadAlike store calls replies closed next = (start : Store) → AreAlike store start → (end : Store) × Leads start calls replies closed end × AreAlike next end
+
 -- Calls that a core served which opened as this store: the calls of the core that they came to, over the disk.
 module _ (honest : Bool) (h : IsTrue honest) (core new : Held) (beside : Kept) (store : Store) (calls : List TxCall) (replies : List Reply) (opens : OpensAs core store) (ran : RunsTx honest core none_kept calls replies new beside) where
-  run : RunsOn core ran.made ran.told new (start_of core store opens) (begun core store)
+  abbrev pub run : RunsOn core ran.made ran.told new (start_of core store opens) (begun core store)
   run = ran.safe h (start_of core store opens) (begun core store) opens.state opens.reads opens.base
 
   -- some beginning passed into the base
@@ -154,6 +158,33 @@ module _ (honest : Bool) (h : IsTrue honest) (core new : Held) (beside : Kept) (
         let (other, each, begins_all) = alike_front (safe ++ front) run.tried (all_attempted (begins start) calls replies) tries (waits.0, append_assoc safe front waits.0 ∙ ap (λ (l : List Command). safe ++ l) waits.1 ∙ rest) in
         (other, each, record { within = begins_all; holds = λ i sync. synced safe rest front other each begins_all i sync })
 
+  -- they lead on to each store that the disk may hold behind them
+  pub open_leads : (front : List Command) → amid.IsBeginning front run.durable.pending → (next : Store) → next ≡ kept (fold run.durable.base front) → LeadAlike store calls replies false next
+  open_leads front waits next is start alike =
+      let (other, each, leaves) = left start alike passed.safe passed.rest front waits in (
+        kept (fold start other),
+        (answered start alike, other, leaves, (λ closed. absurd (true≢false (sym closed))), refl),
+        subst (λ (s : Store). AreAlike s (kept (fold start other))) (sym (is ∙ left_is passed.safe passed.base front))
+            (kept_alike (fold store (passed.safe ++ front)) (fold start other) (fold_alike (passed.safe ++ front) other store start each alike)),
+      )
+
+  -- and, where no fault poisoned the engine, to the one that all of them made
+  pub closed_leads : run.state.poisoned ≡ false → (next : Store) → next ≡ kept (present run.state) → LeadAlike store calls replies true next
+  closed_leads well next is start alike =
+      let attempts = all_attempted (begins start) calls replies in
+      let pending = run.durable.pending in
+      let (other, each, leaves) = left start alike passed.safe passed.rest pending ([], append-nil pending) in
+      let n = alike_length (passed.safe ++ pending) other each in
+      let m = alike_length run.tried attempts (tries start alike) in
+      let c : length (passed.safe ++ pending) ≡ length run.tried = ap length passed.rest in
+      let all : other ≡ attempts = same_front other attempts attempts leaves.within ([], append-nil attempts) (omega (arith, n, m, c)) in (
+        kept (fold start other),
+        (answered start alike, other, leaves, (λ closed. all), refl),
+        subst (λ (s : Store). AreAlike s (kept (fold start other)))
+            (sym (is ∙ ap kept (all_there well) ∙ ap (λ (l : List Command). kept (fold store l)) (sym passed.rest)))
+            (kept_alike (fold store (passed.safe ++ pending)) (fold start other) (fold_alike (passed.safe ++ pending) other store start each alike)),
+      )
+
 -- ---- one life
 
 module _ (honest : Bool) (h : IsTrue honest) (core new : Held) (beside : Kept) (store : Store) (life : Life) (told : lives.Told) (opens : OpensAs core store) (ran : RunsTx honest core none_kept life.calls.items told.replies.items new beside) where
@@ -163,31 +194,19 @@ module _ (honest : Bool) (h : IsTrue honest) (core new : Held) (beside : Kept) (
   -- an engine that didn't close leaves so
   open_life : told.closed ≡ false → (front : List Command) → amid.IsBeginning front ran_on.durable.pending → (next : Store) → next ≡ kept (fold ran_on.durable.base front) → LivesOn false store life (Ok told) next
   open_life unclosed front waits next is start alike =
-      let p = passed honest h core new beside store life.calls.items told.replies.items opens ran in
-      let (other, each, leaves) = left honest h core new beside store life.calls.items told.replies.items opens ran start alike p.safe p.rest front waits in (
-        kept (fold start other),
-        ((λ closed. absurd (true≢false (sym closed ∙ unclosed))), (answered honest h core new beside store life.calls.items told.replies.items opens ran start alike, other, leaves, (λ closed. absurd (true≢false (sym closed ∙ unclosed))), refl)),
-        subst (λ (s : Store). AreAlike s (kept (fold start other))) (sym (is ∙ left_is honest h core new beside store life.calls.items told.replies.items opens ran p.safe p.base front))
-            (kept_alike (fold store (p.safe ++ front)) (fold start other) (fold_alike (p.safe ++ front) other store start each alike)),
+      let (end, on, alike_end) = open_leads honest h core new beside store life.calls.items told.replies.items opens ran front waits next is start alike in (
+        end,
+        ((λ closed. absurd (true≢false (sym closed ∙ unclosed))), subst (λ (b : Bool). Leads start life.calls.items told.replies.items b end) (sym unclosed) on),
+        alike_end,
       )
 
   -- and one that closed so
-  closed_life : life.closes ≡ true → ran_on.state.poisoned ≡ false → (next : Store) → next ≡ kept (present ran_on.state) → LivesOn false store life (Ok told) next
-  closed_life closes well next is start alike =
-      let p = passed honest h core new beside store life.calls.items told.replies.items opens ran in
-      let tried = tries honest h core new beside store life.calls.items told.replies.items opens ran start alike in
-      let attempts = all_attempted (begins start) life.calls.items told.replies.items in
-      let pending = ran_on.durable.pending in
-      let (other, each, leaves) = left honest h core new beside store life.calls.items told.replies.items opens ran start alike p.safe p.rest pending ([], append-nil pending) in
-      let n = alike_length (p.safe ++ pending) other each in
-      let m = alike_length ran_on.tried attempts tried in
-      let c : length (p.safe ++ pending) ≡ length ran_on.tried = ap length p.rest in
-      let all : other ≡ attempts = same_front other attempts attempts leaves.within ([], append-nil attempts) (omega (arith, n, m, c)) in (
-        kept (fold start other),
-        ((λ closed. closes), (answered honest h core new beside store life.calls.items told.replies.items opens ran start alike, other, leaves, (λ closed. all), refl)),
-        subst (λ (s : Store). AreAlike s (kept (fold start other)))
-            (sym (is ∙ ap kept (all_there honest h core new beside store life.calls.items told.replies.items opens ran well) ∙ ap (λ (l : List Command). kept (fold store l)) (sym p.rest)))
-            (kept_alike (fold store (p.safe ++ pending)) (fold start other) (fold_alike (p.safe ++ pending) other store start each alike)),
+  closed_life : told.closed ≡ true → life.closes ≡ true → ran_on.state.poisoned ≡ false → (next : Store) → next ≡ kept (present ran_on.state) → LivesOn false store life (Ok told) next
+  closed_life is_closed closes well next is start alike =
+      let (end, on, alike_end) = closed_leads honest h core new beside store life.calls.items told.replies.items opens ran well next is start alike in (
+        end,
+        ((λ closed. closes), subst (λ (b : Bool). Leads start life.calls.items told.replies.items b end) (sym is_closed) on),
+        alike_end,
       )
 
   -- however the engine ended
@@ -221,7 +240,7 @@ module _ (honest : Bool) (h : IsTrue honest) (core new : Held) (beside : Kept) (
         next = kept (present ran_on.state);
         waits = [];
         holds = holds_store_amid (state_in gone) (kept (present ran_on.state)) closes.closed;
-        each = λ front waits. closed_life (asked refl) (ran_on.stands.remembered.poisoned ∙ owes.0) (kept (fold (kept (present ran_on.state)) front))
+        each = λ front waits. closed_life is (asked refl) (ran_on.stands.remembered.poisoned ∙ owes.0) (kept (fold (kept (present ran_on.state)) front))
             (ap (λ (l : List Command). kept (fold (kept (present ran_on.state)) l)) (no_more front waits.0 waits.1) ∙ kept_twice (present ran_on.state));
       }
 
@@ -289,7 +308,7 @@ retained_none {X = X} p = same_maps (retain_keys (empty {K = ℕ} {X = X} {R = n
     by q true e = ap (λ (x : Bool). cond x (get (empty {K = ℕ} {X = X} {R = nat_cmp}) q) None) e ∙ get-empty nat_cmp q
     by q false e = ap (λ (x : Bool). cond x (get (empty {K = ℕ} {X = X} {R = nat_cmp}) q) None) e
 
-nothing_kept : kept (bare no_keyspaces) ≡ no_store
+pub nothing_kept : kept (bare no_keyspaces) ≡ no_store
 nothing_kept =
     let p = contains_key (bare no_keyspaces).names in
     λ i. record { names = (bare no_keyspaces).names; maps = retained_none p i; options = retained_none p i; next = 1 }

@@ -1,3 +1,4 @@
+pub mod Meeting
 pub mod Alike
 pub mod Attempting
 pub mod BeginTelling
@@ -15,3 +16,7 @@ pub mod Telling
 pub mod Turning
 pub mod WildTurns
 pub mod WithinTelling
+-- Their lemmas that those above cite.
+pub use Rattle.fjall_lives.proofs.CrashedDisks
+pub use Rattle.fjall_lives.proofs.LastSyncs
+pub use Rattle.fjall_lives.proofs.Lives

@@ -19,8 +19,8 @@ use Rattle.fjall_tx.specs.declared.key.Key.{Key}
 use Rattle.fjall_tx.proofs.Growing.{writes_add_up}
 use Rattle.fjall_tx.proofs.Keys.{key_tied, key_total}
 use Rattle.fjall_tx.proofs.Merges.{first, is_tied, not_found, second, tied, tied_all}
-use Rattle.fjall_transactions.specs.Transactions.{with_items}
-use Rattle.fjall_transactions.proofs.Items.{items_within}
+use Rattle.fjall_calls.specs.Transactions.{with_items}
+use Rattle.fjall_calls.proofs.Items.{items_within}
 use Rattle.fjall_consistency.proofs.Causes.{contains_map}
 use Rattle.fjall_consistency.proofs.Going.{IsWritten, WroteThese}
 

@@ -25,8 +25,9 @@ use Rattle.fjall_calls.specs.declared.call.TxCall.{TxCall}
 use Rattle.fjall_calls.specs.declared.call.TxCall.TheVariants.{Begin, Commit, Rollback, Within}
 use Rattle.fjall_calls.specs.declared.call.Within.{Within as Inner}
 use Rattle.fjall_calls.specs.declared.call.Within.TheVariants as inner
-use Rattle.fjall_consistency.specs.Consistency.{AreAnswers, IsAnswer, IsMet, Known, Transaction, after, after_within, begins, begun, commits, met_by, named, one, one_write, seen, transactions_after, updating, value_at}
+use Rattle.fjall_consistency.specs.Consistency.{AreAnswers, IsAnswer, IsMet, Known, Transaction, after, after_within, begins, begun, commits, named, one, one_write, seen, transactions_after, updating, value_at}
 use Rattle.fjall_consistency.specs.Serial.{ActInOrder, ActsNow, ChangesByCommits, IsOptimistic}
+use Rattle.fjall_consistency.proofs.Meeting.{met_by}
 
 -- ---- what a write leaves at one key
 

@@ -26,7 +26,7 @@ use Rattle.fjall_machine.specs.Machine.{Answers, BeginsFlush, BeginsMerge, Count
 use Rattle.fjall_machine.proofs.Dues.{is_so, neither, none_due}
 use Rattle.fjall_machine.proofs.Viewing.{latest_grown}
 use Rattle.fjall_consistency.specs.Consistency.{is_fault}
-use Rattle.fjall_transactions.specs.Crashes.{asked, is_io}
+use Rattle.fjall_calls.specs.Crashes.{asked, is_io}
 
 -- ---- refused
 
@@ -513,3 +513,28 @@ poisoned_refuses s (OfCreation name options) poisoned none =
 poisoned_refuses s (OfDeletion id) poisoned none =
     ap (λ b. if b then (Delete id ∷ []) else []) (before_true (is_living (present s) id) s.poisoned poisoned (none_due (deletion_refusals (facts s) id) none).1.0)
 poisoned_refuses s shape poisoned none = refl
+
+-- where a call is told of a fault that no refusal tells of, none is due
+fault_undue : (s t : State) (shape : CallShape) (kind : ErrorKind) (refusals : List (Bool × Error)) → list_any (λ refusal. is_io refusal.1) refusals ≡ false
+    → Refuses (first_due refusals) shape (Io kind) s t → first_due refusals ≡ None
+fault_undue s t shape kind refusals none = by (first_due refusals) refl
+  where
+    by : (first : Option Error) → first_due refusals ≡ first → Refuses first shape (Io kind) s t → first_due refusals ≡ None
+    by (Some first) is (told, same) = absurd (no_fault_due refusals kind none (is ∙ ap Some (sym told)))
+    by None is fails = is
+
+-- in a poisoned engine no call that was to change the store meets a fault
+pub poisoned_faults : (s t : State) (shape : CallShape) (kind : ErrorKind) → s.poisoned ≡ true → StepOf s shape (Refused (Io kind)) t → asked s shape ≡ []
+poisoned_faults s t (OfChange (Items []) how) kind poisoned step = refl
+poisoned_faults s t (OfChange (Items (item ∷ items)) how) kind poisoned step =
+    let shape : CallShape = OfChange (Items (item ∷ items)) how in poisoned_refuses s shape poisoned (fault_undue s t shape kind (items_refusals (facts s) (item ∷ items)) refl step)
+poisoned_faults s t (OfChange (Emptied id) how) kind poisoned step =
+    let shape : CallShape = OfChange (Emptied id) how in poisoned_refuses s shape poisoned (fault_undue s t shape kind (clear_refusals (facts s) id) refl step)
+poisoned_faults s t (OfIngestion id []) kind poisoned step = refl
+poisoned_faults s t (OfIngestion id (item ∷ items)) kind poisoned step =
+    let shape : CallShape = OfIngestion id (item ∷ items) in poisoned_refuses s shape poisoned (fault_undue s t shape kind (ingestion_refusals (facts s) id (item ∷ items)) refl step)
+poisoned_faults s t (OfCreation name options) kind poisoned step =
+    let shape : CallShape = OfCreation name options in poisoned_refuses s shape poisoned (fault_undue s t shape kind (creation_refusals (facts s) name) refl step)
+poisoned_faults s t (OfDeletion id) kind poisoned step =
+    let shape : CallShape = OfDeletion id in poisoned_refuses s shape poisoned (fault_undue s t shape kind (deletion_refusals (facts s) id) refl step)
+poisoned_faults s t shape kind poisoned step = refl

@@ -30,9 +30,9 @@ use Rattle.fjall_machine.specs.Shapes.{CallShape, Clone, Close, Collect, OfTicke
 use Rattle.fjall_machine.specs.declared.call.Call.{Call}
 use Rattle.fjall_machine.specs.declared.call.Call.TheVariants.{CloseSnapshot}
 use Rattle.fjall_machine.proofs.Moving.{shape_moves}
-use Rattle.fjall_transactions.specs.Commits.{change_of}
-use Rattle.fjall_transactions.specs.Standing.{CommitStep, IsCommitted, IsGone, IsIdle, IsMet, IsRefused, Told, history_of}
-use Rattle.fjall_transactions.specs.Transactions.{Tx}
+use Rattle.fjall_calls.specs.Commits.{change_of}
+use Rattle.fjall_calls.specs.Standing.{CommitStep, IsCommitted, IsGone, IsIdle, IsMet, IsRefused, Told, history_of}
+use Rattle.fjall_calls.specs.Transactions.{Tx}
 use Rattle.fjall_calls.specs.Hearing.{tx_of}
 use Rattle.fjall_calls.specs.Names.{Takes}
 use Rattle.fjall_calls.specs.Worlds.{Going, World, along}
@@ -41,10 +41,11 @@ use Rattle.fjall_calls.proofs.Following.{GoesOn, IsSound, counted_next, goes_now
 use Rattle.fjall_calls.proofs.KeptWorlds.{IsKept, core_goes_on}
 use Rattle.fjall_calls.proofs.Lists.{holds_at, stands_last, stays_at}
 use Rattle.fjall_consistency.specs.Alike.{AreAlike}
-use Rattle.fjall_consistency.specs.Consistency.{Known, Transaction, met_by, named}
+use Rattle.fjall_consistency.specs.Consistency.{Known, Transaction, named}
 use Rattle.fjall_consistency.proofs.Going.{IsSame, same_plain}
 use Rattle.fjall_consistency.proofs.Known.{AreApart, AreTwo, IsGoing, IsKnown, IsShown, no_id}
 use Rattle.fjall_consistency.proofs.Steps.{answered_open, refused_times}
+use Rattle.fjall_consistency.proofs.Meeting.{met_by}
 
 -- What is told goes on, ids of tickets are left, and each ticket that is open stays so but for the one that is closed, where one is.
 pub record Turns (old new : Told) (gone : Option ℕ) : Type 0 where

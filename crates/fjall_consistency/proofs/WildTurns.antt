@@ -12,13 +12,13 @@ use Rattle.fjall_recovery.specs.Folders.{Contents}
 use Rattle.fjall_recovery.specs.Amid.{HoldsAmid, StandsAmid}
 use Rattle.fjall_recovery.specs.Held.{IsOpenFolder}
 use Rattle.fjall_wild.specs.Wild.{IsUnforged, SurvivesUnforged}
-use Rattle.fjall_transactions.specs.Holding.{Held}
-use Rattle.fjall_transactions.specs.Openings.{ForHeld, IsDueTo, IsLeftWildly, OpensAmid, OpensWithin, StaysAmid}
-use Rattle.fjall_transactions.proofs.CrashedDisks.{crash_holds}
+use Rattle.fjall_calls.specs.Holding.{Held}
+use Rattle.fjall_calls.specs.Openings.{ForHeld, IsDueTo, IsLeftWildly, OpensAmid, OpensWithin, StaysAmid}
+use Rattle.fjall_calls.proofs.CrashedDisks.{crash_holds}
 use Rattle.fjall_lives.proofs.CrashesInRuns.{no_more}
-use Rattle.fjall_transactions.proofs.Reopening.{holds_store_amid}
+use Rattle.fjall_calls.proofs.Reopening.{holds_store_amid}
 use Rattle.fjall_lives.proofs.CrashedDisks.{a_wild_crash_amid_holds}
-use Rattle.fjall_transactions.specs.Transactions.{Kept, none_kept}
+use Rattle.fjall_calls.specs.Transactions.{Kept, none_kept}
 use Rattle.fjall_consistency.specs.Alike.{AreAlike}
 use Rattle.fjall_consistency.specs.Consistency.{RunsOut}
 use Rattle.fjall_consistency.specs.Links.{GoesOn, Holds, IsTurned, LivesOn, PassesOn, ServesOn, view}

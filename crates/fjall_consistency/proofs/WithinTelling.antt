@@ -42,15 +42,16 @@ use Rattle.fjall_calls.proofs.Following.{told_view}
 use Rattle.fjall_calls.proofs.KeptWorlds.{IsKept, asked_goes_on, kept_step}
 use Rattle.fjall_calls.proofs.Lists.{of_others, of_taken, stays_at}
 use Rattle.fjall_calls.proofs.Marking.{Keeps, keeps_answered}
-use Rattle.fjall_transactions.specs.Standing.{history_of}
-use Rattle.fjall_transactions.specs.Transactions.{Tx, having_read, having_touched, is_same_value, op_of, replace_refusal, replacing, with_own}
+use Rattle.fjall_calls.specs.Standing.{history_of}
+use Rattle.fjall_calls.specs.Transactions.{Tx, having_read, having_touched, is_same_value, op_of, replace_refusal, replacing, with_own}
 use Rattle.fjall_consistency.specs.Alike.{AreAlike}
-use Rattle.fjall_consistency.specs.Consistency.{HasCause, IsAnswer, IsMade, IsToldWithin, Known, NamesMade, Transaction, accepted, after as known_after, after_within, ids_in, is_fault, items_in, met_by, named, one, seen, transactions_after, updating, value_at}
+use Rattle.fjall_consistency.specs.Consistency.{HasCause, IsAnswer, IsMade, IsToldWithin, Known, NamesThere, Transaction, accepted, after as known_after, after_within, attempted, ids_in, is_fault, items_in, named, one, seen, transactions_after, updating, value_at}
 use Rattle.fjall_consistency.proofs.Causes.{item_cause, read_cause}
 use Rattle.fjall_consistency.proofs.Going.{IsSame, same_mode, same_read, same_update, same_update_kept, same_write, sees_same}
 use Rattle.fjall_consistency.proofs.Known.{IsWritersOwn, AreApart, AreTwo, IsGoing, IsKnown, Tells, no_id}
 use Rattle.fjall_consistency.proofs.Steps.{refused_times, stays_poisoned, stays_well}
 use Rattle.fjall_consistency.proofs.Turning.{SameOn, Turns, all_shown, along_same, apart_push, apart_taken, going_on, named_after, never_open, none_shown, one_each_still, real_id, taken_or_left}
+use Rattle.fjall_consistency.proofs.Meeting.{met_by}
 
 -- ---- lists
 
@@ -127,7 +128,7 @@ asks_cause s t k name tx call made told alike undamaged stands AsksNothing error
 asks_cause s t k name tx call made told alike undamaged stands (AsksFor id query is reply u step) error e =
     let same : reply ≡ Refused error = cc in
     let read = read_step s u tx id query (Refused error) (subst (λ (r : Reply). Step s (call_for tx id query) r u) same step) in
-    read_cause s u k (Within name call) (At tx.ticket) id read.0 error alike undamaged stands (read_among k name call id query is) read.1
+    read_cause s u k (Within name call) (At tx.ticket) id read.0 error alike undamaged stands (read_among k name call id query is) tt read.1
 
 -- and a poisoned engine stays so
 asks_poisoned : (s t : State) (tx : Tx) (call : Inner) (made : List Call) (told : List Reply) → AsksCore s tx call made told t → s.poisoned ≡ true → t.poisoned ≡ true
@@ -157,7 +158,7 @@ read_made s t k ticket id query reply alike fine (none, answers) = due_made s k 
 
 -- so all that a call names were made, which the core didn't refuse
 asks_made : (s t : State) (k : Known) (name : ℕ) (tx : Tx) (call : Inner) (made : List Call) (told : List Reply) → AreAlike (present s) k.present → AsksCore s tx call made told t
-    → (below : Reply) → told ≡ below ∷ [] → AreFine (below ∷ []) → NamesMade k (Within name call)
+    → (below : Reply) → told ≡ below ∷ [] → AreFine (below ∷ []) → NamesThere k (Within name call)
 asks_made s t k name tx call made told alike AsksNothing below e fine = absurd cc
 asks_made s t k name tx call made told alike (AsksFor id query is reply u step) below e fine =
     let same : reply ≡ below = cc in
@@ -262,6 +263,11 @@ refused_leaves : (k : Known) (name : ℕ) (call : Inner) (error : Error) → tra
 refused_leaves k name call SnapshotClosed = refl
 refused_leaves k name call error = refl
 
+-- and attempts nothing
+refused_attempts : (k : Known) (name : ℕ) (call : Inner) (error : Error) → attempted k (Within name call) (Refused error) ≡ []
+refused_attempts k name call (Io fault) = refl
+refused_attempts k name call error = refl
+
 -- another changes the one that it names
 answered_leaves : (k : Known) (name : ℕ) (call : Inner) (reply : Reply) (t : Transaction) → IsAnswered reply → named k name ≡ Some t
     → transactions_after k (Within name call) reply ≡ slice_set k.transactions name (Some (after_within t call))
@@ -269,7 +275,7 @@ answered_leaves k name call (Refused error) t answered is = absurd answered
 answered_leaves k name call reply t answered is = ap (λ (o : Option Transaction). slice_set k.transactions name (option_map (λ x. after_within x call) o)) is
 
 -- and is told so
-answered_told : (k : Known) (name : ℕ) (call : Inner) (reply : Reply) (t : Transaction) → IsAnswered reply → named k name ≡ Some t → IsToldWithin t call reply → NamesMade k (Within name call)
+answered_told : (k : Known) (name : ℕ) (call : Inner) (reply : Reply) (t : Transaction) → IsAnswered reply → named k name ≡ Some t → IsToldWithin t call reply → NamesThere k (Within name call)
     → IsAnswer k (Within name call) reply
 answered_told k name call (Refused error) t answered is told made = absurd answered
 answered_told k name call reply t answered is told made = ((t, is, told), made, λ broken. refl)
@@ -301,7 +307,7 @@ module _ (h : History) (instant : ℕ) (k : Known) (name : ℕ) (tx : Tx) (t : T
   -- a refusal leaves it
   refused_comes : (call : Inner) (error : Error) → HasCause k (Within name call) error → ComesTo h instant k name call (Refused error) tx
   refused_comes call error cause = record {
-    answer = cause;
+    answer = (cause, λ broken. refused_attempts k name call error);
     unopened = refl;
     new = t;
     left = refused_leaves k name call error ∙ sym (set_same k.transactions name (Some t) at);
@@ -309,7 +315,7 @@ module _ (h : History) (instant : ℕ) (k : Known) (name : ℕ) (tx : Tx) (t : T
   }
 
   -- an answer leaves it as its call does
-  answered_comes : (call : Inner) (reply : Reply) (after : Tx) → IsAnswered reply → IsToldWithin t call reply → NamesMade k (Within name call) → IsKnownAs h instant after (after_within t call)
+  answered_comes : (call : Inner) (reply : Reply) (after : Tx) → IsAnswered reply → IsToldWithin t call reply → NamesThere k (Within name call) → IsKnownAs h instant after (after_within t call)
       → ComesTo h instant k name call reply after
   answered_comes call reply after answered told made now = record {
     answer = answered_told k name call reply t answered here told made;
@@ -322,7 +328,7 @@ module _ (h : History) (instant : ℕ) (k : Known) (name : ℕ) (tx : Tx) (t : T
   -- each call within it, where callers know what it sees, what the core refuses has a cause, and what it answers is of keyspaces that were made
   comes : (s : State) → ((id : ℕ) → map_at (seen t).maps id ≡ seen_by s tx id) → (call : Inner) (told : List Reply) (reply : Reply) (after : Tx) → AnswersWithin s tx call told reply after
       → ((error : Error) → told ≡ Refused error ∷ [] → HasCause k (Within name call) error)
-      → ((below : Reply) → told ≡ below ∷ [] → AreFine (below ∷ []) → NamesMade k (Within name call)) → ComesTo h instant k name call reply after
+      → ((below : Reply) → told ≡ below ∷ [] → AreFine (below ∷ []) → NamesThere k (Within name call)) → ComesTo h instant k name call reply after
   comes s sees call told reply after (IsUnread c error) causes made = refused_comes c error (causes error refl)
   comes s sees call told reply after (RunsOut c some fine may) causes made = refused_comes c OutOfMemory tt
   comes s sees call told reply after (Gets id key below r fine tells) causes made =

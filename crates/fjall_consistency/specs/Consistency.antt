@@ -11,6 +11,7 @@ use Rattle.fjall_base.specs.Store.{Store, Item, Command, Write, Clear, Create, D
 use Rattle.fjall_base.specs.declared.error.Error.{Error}
 use Rattle.fjall_base.specs.declared.error.Error.TheVariants.{InvalidName, Io, KeyEmpty, KeyOrder, KeyTooLong, KeyspaceDeleted, NumbersUsedUp, OutOfMemory, Poisoned, SnapshotClosed, TooManyItems, TransactionOpen, UnknownKeyspace, ValueTooLong}
 use Rattle.fjall_journal.specs.Ops.{item_in, value_in}
+use Rattle.fjall_journal.specs.declared.op.Op.{Op}
 use Rattle.fjall_journal.specs.declared.persist_mode.PersistMode.{PersistMode}
 use Rattle.fjall_journal.specs.declared.persist_mode.PersistMode.TheVariants.{Buffer}
 use Rattle.fjall_tx.specs.Marks.{IsCovered, Mark, OfKey, OfRange}
@@ -184,13 +185,13 @@ abbrev pub IsWriting : Known → Type 0
 IsWriting k = Any (λ going. IsSomeAnd going (λ tx. tx.kind ≡ Single)) k.transactions
 
 -- What a call is told that isn't refused: a read what the store of its view has, and a creation an id that has the name then; what it
--- writes is lawful. Of counts nothing is said.
+-- writes is lawful. A change and a persist are acknowledged by whatever isn't a refusal. Of counts, lists of names and jobs nothing is said.
 abbrev pub IsTold : Known → TxCall → Reply → Type 0
 IsTold k (Core (core.GetAt view id key)) reply = (s : Store) × (shown k view ≡ Some s) × (reply ≡ Value (value_at s id key))
 IsTold k (Core (core.PageAt view id range back max)) reply = (s : Store) × (shown k view ≡ Some s) × IsPage range back max (map_at s.maps id) reply
 IsTold k (Core (core.Keyspace name options)) reply = (id : ℕ) × (reply ≡ Number id) × (name ≢ []) × (length name ≤ 255) × (get (fold k.present (asked k (Core (core.Keyspace name options)))).names id ≡ Some name)
 IsTold k (Core (core.KeyspaceExists name)) reply = reply ≡ Flag (has_name k.present name)
-IsTold k (Core (core.Clear id)) reply = is_living k.present id ≡ true
+IsTold k (Core (core.Ingest id items)) reply = AreLawful k.present (items_in k (Core (core.Ingest id items))) × AllPairs (λ a b. byte_order a.key b.key ≡ Less) (items_in k (Core (core.Ingest id items)))
 IsTold k (Core call) reply = AreLawful k.present (items_in k (Core call))
 IsTold k (Within place call) reply = (tx : Transaction) × (named k place ≡ Some tx) × IsToldWithin tx call reply
 IsTold k (Commit kind place) reply = (tx : Transaction) × (named k place ≡ Some tx) × (tx.kind ≡ kind) × IsOutcome k tx reply
@@ -240,6 +241,13 @@ RunsOut NumbersUsedUp = ⊤
 RunsOut TooManyItems = ⊤
 RunsOut error = ⊥
 
+-- What a fault of the disk may cut short: a creation of a lawful name, a lawful write, and a commit that would take place.
+abbrev pub MayBegin : Known → TxCall → Type 0
+MayBegin k (Core (core.Keyspace name options)) = (name ≢ []) × (length name ≤ 255)
+MayBegin k (Core call) = AreLawful k.present (items_in k (Core call))
+MayBegin k (Commit kind place) = (tx : Transaction) × (named k place ≡ Some tx) × (tx.kind ≡ kind) × IsOutcome k tx (Flag true)
+MayBegin k call = ⊤
+
 -- What holds where a call is refused so. A release may be of a handle that nobody has, and settings may be too long.
 abbrev pub HasCause : Known → TxCall → Error → Type 0
 HasCause k call UnknownKeyspace = Any (λ id. IsMade k.present id → ⊥) (ids_in k call) ⊎ ((id : ℕ) × (call ≡ Core (core.Release id)))
@@ -249,9 +257,10 @@ HasCause k call TransactionOpen = (call ≡ Begin Single) × IsWriting k
 HasCause k call KeyEmpty = Any (λ item. item.key ≡ []) (items_in k call)
 HasCause k call KeyTooLong = Any (λ item. 2 ^ 16 ≤ length item.key) (items_in k call)
 HasCause k call ValueTooLong = ChangesKeyspaces call ⊎ Any (λ item. IsSomeAnd item.value (λ value. 2 ^ 32 ≤ length value)) (items_in k call)
-HasCause k call KeyOrder = AllPairs (λ a b. byte_order a.key b.key ≡ Less) (items_in k call) → ⊥
+HasCause k call KeyOrder = (id : ℕ) × (items : Vec (Bytes × Op) Global) × (call ≡ Core (core.Ingest id items)) × (AllPairs (λ a b. byte_order a.key b.key ≡ Less) (items_in k call) → ⊥)
 HasCause k call InvalidName = (name : Bytes) × (options : List Bytes) × (call ≡ Core (core.Keyspace name options)) × ((name ≡ []) ⊎ (255 < length name))
 HasCause k call Poisoned = k.failed ≡ true
+HasCause k call (Io fault) = MayBegin k call
 HasCause k call error = RunsOut error
 
 -- ---- a list of calls
@@ -282,7 +291,7 @@ commits k (Commit Optimistic place) (Flag true) = flat_map (λ tx. if length tx.
 commits k call reply = []
 
 -- The transactions of the calls so far: one goes on by a call within it that isn't refused. A commit or a rollback ends the one that it
--- names, whatever it is told.
+-- names, if one is open, also where it is refused.
 abbrev pub transactions_after : Known → TxCall → Reply → List (Option Transaction)
 transactions_after k call (Refused SnapshotClosed) = k.transactions
 transactions_after k (Within place call) (Refused error) = k.transactions
@@ -291,29 +300,31 @@ transactions_after k (Commit kind place) reply = slice_set k.transactions place 
 transactions_after k (Rollback place) reply = slice_set k.transactions place None
 transactions_after k call reply = k.transactions
 
--- one that goes on beside a commit of these keys
-abbrev pub met_by : List (ℕ × Bytes) → Transaction → Transaction
-met_by keys tx = record tx { since = tx.since ++ keys }
-
--- what is known after a call
+-- what is known after a call: those that go on beside a commit know which keys it wrote
 abbrev pub after : Known → TxCall → Reply → Known
 after k call reply = record {
   present = fold k.present (accepted k call reply);
   snapshots = snapshots_after k call reply ++ opens k call reply ∷ [];
-  transactions = map (option_map (met_by (commits k call reply))) (transactions_after k call reply) ++ begun k call reply ∷ [];
+  transactions = map (option_map (λ (tx : Transaction). record tx { since = tx.since ++ commits k call reply })) (transactions_after k call reply) ++ begun k call reply ∷ [];
   failed = k.failed || is_fault reply;
   broken = k.broken || nat_lt (length (accepted k call reply)) (length (attempted k call reply));
 }
 
--- the keyspaces that it names were made; those of a commit that conflicts need not
-abbrev pub NamesMade : Known → TxCall → Type 0
-NamesMade k (Commit kind place) = ⊤
-NamesMade k call = All (IsMade k.present) (ids_in k call)
+-- The keyspaces that it names live; one that it deletes, holds or reads was made, since a deleted one is still read until its last release. Those of a
+-- commit that conflicts need not be there.
+abbrev pub NamesThere : Known → TxCall → Type 0
+NamesThere k (Commit kind place) = ⊤
+NamesThere k (Core (core.DeleteKeyspace id)) = IsMade k.present id
+NamesThere k (Core (core.Retain id)) = IsMade k.present id
+NamesThere k (Core (core.GetAt view id key)) = IsMade k.present id
+NamesThere k (Core (core.PageAt view id range back max)) = IsMade k.present id
+NamesThere k (Within place call) = All (IsMade k.present) (ids_in k (Within place call))
+NamesThere k call = All (λ id. is_living k.present id ≡ true) (ids_in k call)
 
--- A call is told what it asks for, or is refused for a cause. Behind a fault in a call that was to change the store none is accepted.
+-- A call is told what it asks for, or is refused for a cause. Behind a fault in a call that was to change the store no other one changes it.
 abbrev pub IsAnswer : Known → TxCall → Reply → Type 0
-IsAnswer k call (Refused error) = HasCause k call error
-IsAnswer k call reply = IsTold k call reply × NamesMade k call × (k.broken ≡ true → accepted k call reply ≡ [])
+IsAnswer k call (Refused error) = HasCause k call error × (k.broken ≡ true → attempted k call (Refused error) ≡ [])
+IsAnswer k call reply = IsTold k call reply × NamesThere k call × (k.broken ≡ true → accepted k call reply ≡ [])
 
 -- the same of a list of calls, each on what is known after those before it
 abbrev pub AreAnswers : Known → List TxCall → List Reply → Type 0

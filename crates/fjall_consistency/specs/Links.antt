@@ -5,12 +5,12 @@ use Rattle.fjall_base.specs.Crash.{IsHoused}
 use Rattle.fjall_base.specs.Disk.{Crash, DiskState, Image, IsImageBy, Meaning, Missing, Name, Survives, disk_of, state_in}
 use Rattle.fjall_base.specs.Store.{Command, Store, fold, kept}
 use Rattle.fjall_base.specs.declared.error.Error.{Error}
-use Rattle.fjall_transactions.specs.Holding.{Held}
-use Rattle.fjall_transactions.specs.Openings.{IsLeftWildly, OpensAs}
-use Rattle.fjall_transactions.specs.CoreStanding.{ClosesSafely, OwesClosing}
+use Rattle.fjall_calls.specs.Holding.{Held}
+use Rattle.fjall_calls.specs.Openings.{IsLeftWildly, OpensAs}
+use Rattle.fjall_calls.specs.CoreStanding.{ClosesSafely, OwesClosing}
 use Rattle.fjall_recovery.specs.Amid.{HoldsAmid, IsBeginning, StandsAmid}
 use Rattle.fjall_wild.specs.Wild.{SurvivesUnforged}
-use Rattle.fjall_transactions.specs.Transactions.{Kept, none_kept}
+use Rattle.fjall_calls.specs.Transactions.{Kept, none_kept}
 use Rattle.fjall_consistency.specs.Alike.{AreAlike}
 use Rattle.fjall_consistency.specs.Consistency.{IsLife}
 use Rattle.fjall_consistency.specs.declared.life.Life.{Life}

@@ -31,15 +31,15 @@ use Rattle.fjall_lines.specs.declared.command.Command.TheVariants.{Ask, Crash, C
 use Rattle.fjall_lines.specs.declared.command.Request.{Request}
 use Rattle.fjall_lines.specs.declared.command.Request.TheVariants.{Keyspace, Delete, Insert, Remove, RemoveWeak, Clear, Batch, Get, Len, Scan, Snapshot, GetAt, CloseSnapshot, Begin, TxGet, TxInsert, Commit, Gc, Rotate, Flush, Merge, Persist}
 use Rattle.fjall_script.specs.Answers.{bad_line, done_text, flag_text, is_idle, last_said, number_text, ok_line, reply_text, reply_to}
-use Rattle.fjall_transactions.specs.Holding.{Held}
-use Rattle.fjall_transactions.specs.Transactions.{Kept}
+use Rattle.fjall_calls.specs.Holding.{Held}
+use Rattle.fjall_calls.specs.Transactions.{Kept}
 use Rattle.fjall_calls.specs.declared.call.Kind.TheVariants.{Optimistic}
 use Rattle.fjall_calls.specs.declared.call.TxCall.{TxCall}
 use Rattle.fjall_calls.specs.declared.call.TxCall.TheVariants as tx
 use Rattle.fjall_calls.specs.declared.call.Within.TheVariants as within
 use Rattle.fjall_calls.specs.Serving as served
 use Rattle.fjall_calls.specs.Serving.{AllCome, ComesTo, Itself, OneComes, Others}
-use Rattle.fjall_transactions.specs.CoreStanding.{Gives, GivesRead, IsAnswerTo, Owes, OwesAll, OwesBegin, OwesFinish, OwesMerge, OwesMergeBegin, tables_of}
+use Rattle.fjall_calls.specs.CoreStanding.{Gives, GivesRead, IsAnswerTo, Owes, OwesAll, OwesBegin, OwesFinish, OwesMerge, OwesMergeBegin, tables_of}
 use Rattle.fjall_script.specs.Requests.{AreCallsBehind, IsCallOf, SoFar, all_calls, asked_with, begun_at, behind, calls_with, counts_of, finish_of, is_same, is_stop, job_of, left_of, named, none_so_far, place_in, numbers_before, requests_of}
 use Rattle.fjall_script.specs.declared.calls.Job.{Job}
 use Rattle.fjall_script.specs.declared.calls.Job.TheVariants as jobs

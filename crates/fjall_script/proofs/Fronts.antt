@@ -8,8 +8,8 @@ use Rattle.std.proofs.lemmas.List.Elements.{All-nil, All-cons}
 use Rattle.fjall_history.specs.declared.reply.Reply.{Reply}
 use Rattle.fjall_lines.specs.declared.command.Command.{Command}
 use Rattle.fjall_script.specs.Answers.{text_of}
-use Rattle.fjall_transactions.specs.Holding.{Held}
-use Rattle.fjall_transactions.specs.Transactions.{Kept}
+use Rattle.fjall_calls.specs.Holding.{Held}
+use Rattle.fjall_calls.specs.Transactions.{Kept}
 use Rattle.fjall_calls.specs.declared.call.TxCall.{TxCall}
 use Rattle.fjall_calls.specs.Serving.{RunsTx}
 use Rattle.fjall_script.specs.Requests.{AreOfLines, counts_of, is_stop, numbers_in}

@@ -5,6 +5,7 @@ mod Passing
 mod Restarting
 mod Answered
 mod Lending
+mod Telling
 mod Living
 mod Forging
 mod Serving

@@ -25,18 +25,18 @@ use Rattle.fjall_history.specs.declared.reply.Reply.{Reply}
 use Rattle.fjall_machine.specs.declared.call.Call.{Call}
 use Rattle.fjall_machine.specs.Machine.{present}
 use Rattle.fjall_history.proofs.Moving.{sound_opening}
-use Rattle.fjall_transactions.specs.Durables.{CrashLeavesPending, Durable}
-use Rattle.fjall_transactions.specs.Holding.{Held}
-use Rattle.fjall_lives.specs.Lives.{Closed, CutBehind, Ended, Life, Lives, NoLife, OneMore, Opened, Served, Unclosed, begun, start_of}
-use Rattle.fjall_transactions.specs.Openings.{OpensAmid, OpensAs}
-use Rattle.fjall_lives.proofs.LastSyncs.{a_last_sync}
-use Rattle.fjall_lives.proofs.CrashedDisks.{new_disk_tidy}
-use Rattle.fjall_lives.proofs.Lives.{lives_blame, lives_hold, lives_open}
-use Rattle.fjall_transactions.proofs.Reopening.{holds_store_amid}
-use Rattle.fjall_transactions.proofs.RunsOverCrashes.{no_run}
-use Rattle.fjall_transactions.specs.Standing.{StandFor}
-use Rattle.fjall_transactions.specs.Transactions.{Kept, none_kept}
-use Rattle.fjall_transactions.proofs.Standing.{opening_stands}
+use Rattle.fjall_calls.specs.Durables.{CrashLeavesPending, Durable}
+use Rattle.fjall_calls.specs.Holding.{Held}
+use Rattle.fjall_consistency.specs.Lives.{Closed, CutBehind, Ended, Life, Lives, NoLife, OneMore, Opened, Served, Unclosed, begun, start_of}
+use Rattle.fjall_calls.specs.Openings.{OpensAmid, OpensAs}
+use Rattle.fjall_consistency.proofs.LastSyncs.{a_last_sync}
+use Rattle.fjall_consistency.proofs.CrashedDisks.{new_disk_tidy}
+use Rattle.fjall_consistency.proofs.Lives.{lives_blame, lives_hold, lives_open}
+use Rattle.fjall_calls.proofs.Reopening.{holds_store_amid}
+use Rattle.fjall_calls.proofs.RunsOverCrashes.{no_run}
+use Rattle.fjall_calls.specs.Standing.{StandFor}
+use Rattle.fjall_calls.specs.Transactions.{Kept, none_kept}
+use Rattle.fjall_calls.proofs.CoreStanding.{opening_stands}
 use Rattle.fjall_calls.specs.declared.call.TxCall.{TxCall}
 use Rattle.fjall_calls.specs.Steps.{NoCall}
 use Rattle.fjall_calls.specs.Worlds.{begins}
@@ -51,7 +51,9 @@ use Rattle.fjall_script.specs.Requests.{AreCalls, AreCallsBehind, SoFar, all_cal
 use Rattle.fjall_script.specs.Sessions as sessions
 use Rattle.fjall_script.specs.Sessions.{ForgesNothing, IsUnforgedStop, Restarts, Session, answers_to}
 use Rattle.fjall_script.proofs.Counts.{asked_before, counted, none_asked, one_asked, stops_ask_none}
+use Rattle.fjall_script.specs.Told.{IsToldSo}
 use Rattle.fjall_script.proofs.Restarting.{bare_holds}
+use Rattle.fjall_script.proofs.Telling.{HaveLed, LeadsBehind, LeadsToEach, all_lead, have_led_on, leads_alone, leads_unclosed, none_led, run_leads, served_calls}
 
 abbrev IsCall : Option Command → Type 0
 IsCall found = is_stop found ≡ false
@@ -302,6 +304,8 @@ record LivedSo (commands rest : List (Option Command)) (ran : Bool) (printed : L
   pub through : GoesThrough first (kept (fold base opened.front)) opened.opens last calls replies core beside
   pub parts : Parts front lists lives last (Some (kept (fold base opened.front))) calls replies
   pub fresh : ran ≡ false → IsFresh parts.running calls replies last first core beside
+  pub led : HaveLed lists base pending
+  pub leads : ran ≡ true → LeadsBehind (kept (fold base opened.front)) last run.state run.durable
   pub printed_are : printed ≡ answers_to 0 front (made_of lists ++ counts_of last.made) (replies_of lists ++ last.replies)
   pub each : length (made_of lists ++ counts_of last.made) ≡ length (requests_of front)
   pub all : whole (made_of lists ++ counts_of last.made) ≡ length (replies_of lists ++ last.replies)
@@ -333,6 +337,8 @@ begins_so mode commands core h =
       through = goes_nowhere core store opened.opens;
       parts = parts.0;
       fresh = λ h. record { no_lines = parts.1; no_calls = refl; no_replies = refl; not_asked = refl; same_core = refl; none_beside = refl };
+      led = none_led;
+      leads = λ h. absurd (true≢false (sym h));
       printed_are = refl;
       each = refl;
       all = refl;
@@ -389,6 +395,8 @@ runs commands lines rest old new before beside printed made replies s alone are 
             through = through;
           });
       fresh = λ h. absurd (true≢false h);
+      led = s.led;
+      leads = λ h. run_leads s.first new beside store asked opens here;
       printed_are = ap (λ (l : List (List ℕ)). l ++ answers_to (numbers_before commands (lines ++ rest)) lines (counts_of made) replies)
           (s.printed_are ∙ ap (answers_to 0 s.front (counts ++ counts_of s.last.made)) so_far ∙ ap (λ (l : List ℕ). answers_to 0 s.front l lived) counted_so)
           ∙ ap (λ (n : ℕ). answers_to 0 s.front counts lived ++ answers_to n lines (counts_of made) replies) (earlier ∙ omega arith)
@@ -405,8 +413,8 @@ life_of commands rest printed old beside s synced = record { showed = Some (kept
 -- one life more, of a core that ended so, and another opened on what it left
 again : (mode : RecoveryMode) (commands : List (Option Command)) (stop : Option Command) (rest : List (Option Command)) (printed : List (List ℕ)) (old new : Held) (beside : Kept) (s : LivedSo commands (stop ∷ rest) true printed old beside) → is_stop stop ≡ true
     → (synced : List store.Command) (end : DiskState) (next : Store) (waits : List store.Command) → Ended s.first old (kept (fold s.base s.opened.front)) s.calls s.replies s.opened.opens s.run synced end next waits
-    → (disk : Meaning) → state_in disk ≡ end → OpenedOn mode true disk new → LivedSo commands rest false (printed ++ ok_line ∷ []) new none_kept
-again mode commands stop rest printed old new beside s stops synced end next waits ended disk same o =
+    → LeadsToEach (kept (fold s.base s.opened.front)) s.last next waits → (disk : Meaning) → state_in disk ≡ end → OpenedOn mode true disk new → LivedSo commands rest false (printed ++ ok_line ∷ []) new none_kept
+again mode commands stop rest printed old new beside s stops synced end next waits ended goes disk same o =
     let life = life_of commands (stop ∷ rest) printed old beside s synced in
     let lives = s.lives ++ life ∷ [] in
     let one = OneMore s.lives life s.disk s.base s.pending end next waits s.before (Opened s.first old s.calls s.replies synced end next waits s.opened s.run ended) in
@@ -438,6 +446,8 @@ again mode commands stop rest printed old new beside s stops synced end next wai
       through = goes_nowhere new store opened.opens;
       parts = parts.0;
       fresh = λ h. record { no_lines = parts.1; no_calls = refl; no_replies = refl; not_asked = refl; same_core = refl; none_beside = refl };
+      led = have_led_on s.lists s.last s.base s.pending s.opened.front next waits s.led s.opened.within goes;
+      leads = λ h. absurd (true≢false (sym h));
       printed_are = ap (λ (l : List (List ℕ)). l ++ ok_line ∷ []) s.printed_are
           ∙ ap (λ (l : List (List ℕ)). answers_to 0 s.front (made_of s.lists ++ counts_of s.last.made) (lived ++ s.last.replies) ++ l) (sym (ok_said (0 + numbers_in s.front) stop stops))
           ∙ sym (through-append 0 s.front (stop ∷ []) (made_of s.lists ++ counts_of s.last.made) [] (lived ++ s.last.replies) [] s.each s.all)
@@ -465,12 +475,15 @@ again mode commands stop rest printed old new beside s stops synced end next wai
 reopened : (mode : RecoveryMode) (commands rest : List (Option Command)) (printed : List (List ℕ)) (old new : Held) (beside : Kept) (s : LivedSo commands (Some Reopen ∷ rest) true printed old beside) (closing : Result Unit Error) (closed : Meaning) → ClosesCore true old closing closed → (disk : Meaning) → disk ≡ closed
     → OpenedOn mode true disk new → LivedSo commands rest false (printed ++ ok_line ∷ []) new none_kept
 reopened mode commands rest printed old new beside s (Ok _) closed closes disk same o =
-    again mode commands (Some Reopen) rest printed old new beside s refl s.run.tried (state_in closed) (kept (present s.run.state)) [] (Closed closed closes.owes (closes.safe refl)) disk (ap state_in same) o
+    again mode commands (Some Reopen) rest printed old new beside s refl s.run.tried (state_in closed) (kept (present s.run.state)) [] (Closed closed closes.owes (closes.safe refl))
+    (leads_alone (kept (fold s.base s.opened.front)) s.last (present s.run.state) ((s.leads refl).closed (s.run.stands.remembered.poisoned ∙ closes.owes.0))) disk (ap state_in same) o
 reopened mode commands rest printed old new beside s (Err error) closed closes disk same o =
     let last = a_last_sync s.first old (kept (fold s.base s.opened.front)) s.calls s.replies s.opened.opens s.run in
     let safely = closes.safe refl in
-    let after = (safely s.run.state s.run.durable s.run.stands s.run.reads s.run.on).after in
-    again mode commands (Some Reopen) rest printed old new beside s refl last.0 (state_in closed) after.base after.pending (Unclosed last.0 error closed last.1 safely) disk (ap state_in same) o
+    let left = safely s.run.state s.run.durable s.run.stands s.run.reads s.run.on in
+    let after = left.after in
+    again mode commands (Some Reopen) rest printed old new beside s refl last.0 (state_in closed) after.base after.pending (Unclosed last.0 error closed last.1 safely)
+    (leads_unclosed (kept (fold s.base s.opened.front)) s.last s.run.durable after left.passes (s.leads refl).left) disk (ap state_in same) o
 
 -- behind a run each crash leaves its base with a beginning of what is pending
 left_amid : (d : Durable) (disk : Meaning) → CrashLeavesPending d → d.meaning ≡ disk → (image : Image) → IsImage (state_in disk) image → StandsAmid d.base [] d.pending image
@@ -486,7 +499,8 @@ crashes mode commands rest printed old new beside keep s h =
     let amid = left_amid d old.disk s.run.on.rests s.run.on.same image is in
     let left = kept (fold d.base amid.front) in
     let unforged : IsImageBy SurvivesUnforged (state_in old.disk) image = leaves_wider Survives SurvivesUnforged (usual_where IsUnforged held_more held_alone) (state_in old.disk) [] image is in
-    again mode commands (Some (Crash keep)) rest printed old new beside s refl last.0 (disk_of image) left [] (CutBehind last.0 image left last.1 unforged amid.stands) h.disk (h.left refl) h.opened
+    again mode commands (Some (Crash keep)) rest printed old new beside s refl last.0 (disk_of image) left [] (CutBehind last.0 image left last.1 unforged amid.stands)
+    (leads_alone (kept (fold s.base s.opened.front)) s.last (fold d.base amid.front) ((s.leads refl).left amid.front amid.within)) h.disk (h.left refl) h.opened
 
 -- what a wild crash leaves that forges nothing, where it opens
 crashes_wild : (mode : RecoveryMode) (commands rest : List (Option Command)) (printed : List (List ℕ)) (old new : Held) (beside : Kept) (fills : Fills) (s : LivedSo commands (Some (CrashWild fills) ∷ rest) true printed old beside) → CrashesWild mode true fills old new
@@ -499,7 +513,8 @@ crashes_wild mode commands rest printed old new beside fills s h unforged =
     let there : IsOpenFolder image opened.folder = subst (λ (state : DiskState). IsOpenFolder (standing state) opened.folder) (h.left refl) opened.is in
     let amid = wild_amid (state_in old.disk) [] d.base [] d.pending image opened.folder (left_amid d old.disk s.run.on.rests s.run.on.same) unforged there in
     let left = kept (fold d.base amid.front) in
-    again mode commands (Some (CrashWild fills)) rest printed old new beside s refl last.0 (disk_of image) left [] (CutBehind last.0 image left last.1 unforged amid.stands) h.disk (h.left refl) h.opened
+    again mode commands (Some (CrashWild fills)) rest printed old new beside s refl last.0 (disk_of image) left [] (CutBehind last.0 image left last.1 unforged amid.stands)
+    (leads_alone (kept (fold s.base s.opened.front)) s.last (fold d.base amid.front) ((s.leads refl).left amid.front amid.within)) h.disk (h.left refl) h.opened
 
 restarts : (mode : RecoveryMode) (stop : Option Command) (commands rest : List (Option Command)) (printed : List (List ℕ)) (old new : Held) (beside : Kept) → LivedSo commands (stop ∷ rest) true printed old beside → Restarts mode true stop old new → IsUnforgedStop stop old.disk
     → LivedSo commands rest false (printed ++ ok_line ∷ []) new none_kept
@@ -551,3 +566,30 @@ pub session_lived : (mode : RecoveryMode) (honest : Bool) (commands rest : List 
     → HasLived commands rest printed core beside
 session_lived mode true commands rest ran core beside printed s h unforged = has_lived mode commands rest ran core beside printed s unforged
 session_lived mode false commands rest ran core beside printed s h unforged = absurd (true≢false (sym h))
+
+-- the same by what callers see
+is_told_so : (mode : RecoveryMode) (commands rest : List (Option Command)) (ran : Bool) (core : Held) (beside : Kept) (printed : List (List ℕ)) (session : Session mode true commands ran core beside printed rest) → ForgesNothing session → IsToldSo commands rest printed
+is_told_so mode commands rest ran core beside printed session unforged =
+    let s = lived_so mode commands rest ran core beside printed session unforged in
+    let lists = s.lists ++ s.last ∷ [] in
+    let d = s.run.durable in
+    let lead = all_lead ran s.lists s.last s.base s.pending s.opened.front d.base d.pending s.led s.opened.within (λ h. (s.fresh h).not_asked) (λ h. (s.leads h).left) in
+    let counts : made_of s.lists ++ counts_of s.last.made ≡ made_of lists =
+    ap (λ (l : List ℕ). made_of s.lists ++ l) (sym (append-nil (counts_of s.last.made))) ∙ sym (flat_map-append (λ (a : Asked). counts_of a.made) s.lists (s.last ∷ [])) in
+    let replies : replies_of s.lists ++ s.last.replies ≡ replies_of lists =
+    ap (λ (l : List Reply). replies_of s.lists ++ l) (sym (append-nil s.last.replies)) ∙ sym (flat_map-append (λ (a : Asked). a.replies) s.lists (s.last ∷ [])) in
+    let showed = Some (kept (fold s.base s.opened.front)) in
+    record {
+      front = s.front;
+      split = s.split;
+      lists = lists;
+      are = served_calls 0 (slice_split is_stop s.front) lists (map served_in s.lives ++ (showed, s.calls, s.replies) ∷ []) (parts_are s.front s.lists s.lives s.last showed s.calls s.replies s.parts);
+      end = lead.0;
+      lead = lead.1;
+      printed_are = s.printed_are ∙ ap (λ (l : List ℕ). answers_to 0 s.front l (replies_of s.lists ++ s.last.replies)) counts ∙ ap (answers_to 0 s.front (made_of lists)) replies;
+    }
+
+-- over a disk that returns what it holds, where no wild crash forged anything
+pub session_told : (mode : RecoveryMode) (honest : Bool) (commands rest : List (Option Command)) (ran : Bool) (core : Held) (beside : Kept) (printed : List (List ℕ)) (session : Session mode honest commands ran core beside printed rest) → IsTrue honest → ForgesNothing session → IsToldSo commands rest printed
+session_told mode true commands rest ran core beside printed s h unforged = is_told_so mode commands rest ran core beside printed s unforged
+session_told mode false commands rest ran core beside printed s h unforged = absurd (true≢false (sym h))

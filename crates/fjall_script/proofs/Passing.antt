@@ -5,13 +5,13 @@ use Rattle.std.specs.Io.KnownBytes.{Appends}
 use Rattle.std.proofs.KnownBytes.{Appends-kept, Appends-nil, Appends-trans, Keeps-refl}
 use Rattle.std.proofs.lemmas.List.Concat.{flat_map-append}
 use Rattle.fjall_journal.specs.declared.recovery_mode.RecoveryMode.{RecoveryMode}
-use Rattle.fjall_transactions.specs.CoreStanding.{OwesClosing, ClosesDisk, ClosesSafely}
+use Rattle.fjall_calls.specs.CoreStanding.{OwesClosing, ClosesDisk, ClosesSafely}
 use Rattle.fjall_lines.specs.declared.command.Command.{Command}
 use Rattle.fjall_base.specs.Disk.{Meaning}
 use Rattle.fjall_base.specs.declared.error.Error.{Error}
 use Rattle.fjall_base.specs.declared.error.Error.TheVariants.{OutOfMemory}
-use Rattle.fjall_transactions.specs.Holding.{Held}
-use Rattle.fjall_transactions.specs.Transactions.{Kept, none_kept}
+use Rattle.fjall_calls.specs.Holding.{Held}
+use Rattle.fjall_calls.specs.Transactions.{Kept, none_kept}
 use Rattle.fjall_script.specs.Answers.{ok_line, text_of}
 use Rattle.fjall_script.specs.Outputs.{AppendsFront, IsIo}
 use Rattle.fjall_script.specs.Machine.{BeginsSession, IsClosed}

@@ -10,8 +10,8 @@ use Rattle.fjall_recovery.specs.Folders.{IsUnfinished}
 use Rattle.fjall_repair.specs.Making.{IsKept}
 use Rattle.fjall_repair.proofs.Standing.{kept_image, missing_stands, unfinished_of}
 use Rattle.fjall_repair.proofs.Begun.{settled_comes_back}
-use Rattle.fjall_transactions.specs.Holding.{Held}
-use Rattle.fjall_transactions.specs.CoreStanding.{HoldsStore}
+use Rattle.fjall_calls.specs.Holding.{Held}
+use Rattle.fjall_calls.specs.CoreStanding.{HoldsStore}
 use Rattle.fjall_script.specs.Machine.{BeginsSession, IsNew, NotBegun, OpenedOn, RefusedOn}
 
 -- nothing stands anywhere

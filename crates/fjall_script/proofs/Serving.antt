@@ -15,7 +15,7 @@ use Rattle.fjall_script.specs.Outputs.{IsIo, IsIoOrMemory}
 use Rattle.fjall_script.specs.Runs.{AnswersInput, FailsInput, unopened, unread, refused}
 use Rattle.fjall_script.specs.Sessions.{PrintsAll, PrintsUntil}
 use Rattle.fjall_script.proofs.Answered.{all_answered, answered}
-use Rattle.fjall_script.proofs.Living.{session_lived}
+use Rattle.fjall_script.proofs.Living.{session_lived, session_told}
 
 -- the lines of what was read are those of the whole input
 same_text : (known start text slice : List ℕ) → start ≡ [] → text ≡ start ++ known → slice ≡ text → slice ≡ known
@@ -32,6 +32,7 @@ input_answered mode honest text commands old new reads all = record {
   session = all.session;
   closed = all.closed;
   lived = session_lived mode honest commands [] true all.core all.kept all.printed all.session;
+  told = session_told mode honest commands [] true all.core all.kept all.printed all.session;
   answers = all_answered mode honest commands true all.core all.kept all.printed all.session;
   appends = all.appends;
 }
@@ -55,6 +56,7 @@ input_failed mode honest text commands error old new reads until =
       session = until.session;
       answers = parts.2;
       lived = session_lived mode honest commands until.rest until.ran until.core until.kept until.printed until.session;
+      told = session_told mode honest commands until.rest until.ran until.core until.kept until.printed until.session;
     })
     until.ends
 

@@ -4,5 +4,6 @@ pub mod Machine
 pub mod Requests
 pub mod Sessions
 pub mod Lived
+pub mod Told
 pub mod Statuses
 pub mod Runs

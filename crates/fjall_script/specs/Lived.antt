@@ -8,13 +8,13 @@ use Rattle.fjall_meta.specs.Keyspaces.{no_keyspaces}
 use Rattle.fjall_contents.specs.Replays.{bare}
 use Rattle.fjall_history.specs.declared.reply.Reply.{Reply}
 use Rattle.fjall_machine.specs.declared.call.Call.{Call}
-use Rattle.fjall_transactions.specs.Holding.{Held}
-use Rattle.fjall_transactions.specs.Crashes.{BlamesEach}
-use Rattle.fjall_lives.specs.Lives.{IsFoldOf, Life, Lives, Served, all_left, begun, start_of}
-use Rattle.fjall_transactions.specs.Openings.{OpensAmid, OpensAs}
-use Rattle.fjall_transactions.specs.CoreStanding.{ReadsOn}
-use Rattle.fjall_transactions.specs.Standing.{StandFor, Told}
-use Rattle.fjall_transactions.specs.Transactions.{Kept}
+use Rattle.fjall_calls.specs.Holding.{Held}
+use Rattle.fjall_calls.specs.Crashes.{BlamesEach}
+use Rattle.fjall_consistency.specs.Lives.{IsFoldOf, Life, Lives, Served, all_left, begun, start_of}
+use Rattle.fjall_calls.specs.Openings.{OpensAmid, OpensAs}
+use Rattle.fjall_calls.specs.CoreStanding.{ReadsOn}
+use Rattle.fjall_calls.specs.Standing.{StandFor, Told}
+use Rattle.fjall_calls.specs.Transactions.{Kept}
 use Rattle.fjall_calls.specs.declared.call.TxCall.{TxCall}
 use Rattle.fjall_calls.specs.Steps.{TxRun}
 use Rattle.fjall_calls.specs.Worlds.{World, begins}

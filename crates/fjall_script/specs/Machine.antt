@@ -15,9 +15,9 @@ use Rattle.fjall_contents.specs.Replays.{bare}
 use Rattle.fjall_recovery.specs.Refusals.{HasRisen, HasTornTail}
 use Rattle.fjall_recovery.specs.Amid.{HoldsAmid}
 use Rattle.fjall_machine.specs.Remembered.{AreBeside}
-use Rattle.fjall_transactions.specs.Holding.{Held}
-use Rattle.fjall_transactions.specs.Openings.{IsDueTo, KeepsStore, Opens, OpensAmid, OpensAs, OpensOn}
-use Rattle.fjall_transactions.specs.CoreStanding.{ClosesDisk, ClosesSafely, HoldsStore, OwesClosing, store_with_tables}
+use Rattle.fjall_calls.specs.Holding.{Held}
+use Rattle.fjall_calls.specs.Openings.{IsDueTo, KeepsStore, Opens, OpensAmid, OpensAs, OpensOn}
+use Rattle.fjall_calls.specs.CoreStanding.{ClosesDisk, ClosesSafely, HoldsStore, OwesClosing, store_with_tables}
 
 -- A core that was opened on this disk in this mode: it stands for what stands there, and where the mode refuses a torn tail of
 -- the active journal, there was none. Where the disk held a store, whatever a crash

@@ -14,15 +14,16 @@ use Rattle.fjall_script.specs.declared.program.Status.TheVariants.{Failure}
 use Rattle.fjall_script.specs.Statuses.{status_code}
 use Rattle.fjall_script.specs.Answers.{refusal_line, text_of}
 use Rattle.fjall_script.specs.Outputs.{IsIoOrMemory}
-use Rattle.fjall_transactions.specs.Holding.{Held}
-use Rattle.fjall_transactions.specs.Transactions.{Kept}
+use Rattle.fjall_calls.specs.Holding.{Held}
+use Rattle.fjall_calls.specs.Transactions.{Kept}
 use Rattle.fjall_script.specs.Lived.{HasLived}
 use Rattle.fjall_script.specs.Machine.{IsClosed, NotBegun}
 use Rattle.fjall_script.specs.Sessions.{EndsBy, ForgesNothing, IsAnswer, Session}
+use Rattle.fjall_script.specs.Told.{IsToldSo}
 
 -- Each line of the text is read as a command or as none, a session of these came to its end, the core was
 -- closed, and what was printed was added: an answer for each. Over a disk that returns what it holds the session came to lives
--- of engines one after another, where no wild crash forged anything.
+-- of engines one after another, where no wild crash forged anything; and so it is told by what callers see alone.
 pub record AnswersInput (mode : RecoveryMode) (honest : Bool) (text : List ℕ) (old new : Option (List ℕ)) : Type 0 where
   pub commands : List (Option Command)
   pub core : Held
@@ -32,12 +33,13 @@ pub record AnswersInput (mode : RecoveryMode) (honest : Bool) (text : List ℕ) 
   pub session : Session mode honest commands true core kept printed []
   pub closed : IsClosed honest core
   pub lived : IsTrue honest → ForgesNothing session → HasLived commands [] printed core kept
+  pub told : IsTrue honest → ForgesNothing session → IsToldSo commands [] printed
   pub answers : AllZip IsAnswer commands printed
   pub appends : Appends old new (text_of printed)
 
 -- Each line of the text is read as a command or as none, and a session of these has come so far. What it printed are the
 -- answers to the commands of a beginning, one for each; the rest has none. Over a disk that returns what it holds it came to
--- lives of engines one after another, where no wild crash forged anything.
+-- lives of engines one after another, where no wild crash forged anything; and so it is told by what callers see alone.
 pub record RunsInput (mode : RecoveryMode) (honest : Bool) (text : List ℕ) : Type 0 where
   pub commands : List (Option Command)
   pub front : List (Option Command)
@@ -51,6 +53,7 @@ pub record RunsInput (mode : RecoveryMode) (honest : Bool) (text : List ℕ) : T
   pub session : Session mode honest commands ran core kept printed rest
   pub answers : AllZip IsAnswer front printed
   pub lived : IsTrue honest → ForgesNothing session → HasLived commands rest printed core kept
+  pub told : IsTrue honest → ForgesNothing session → IsToldSo commands rest printed
 
 -- What is printed for an input that fails with this refusal. Where no core could be opened, or the input could not be read,
 -- nothing; where the session was refused, all that it answered before; where the output failed, a beginning of that.

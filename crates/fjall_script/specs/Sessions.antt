@@ -8,8 +8,8 @@ use Rattle.fjall_base.specs.declared.error.Error.{Error}
 use Rattle.fjall_base.specs.declared.error.Error.TheVariants.{OutOfMemory}
 use Rattle.fjall_memory.specs.Wild.{filled}
 use Rattle.fjall_wild.specs.Wild.{SurvivesUnforged}
-use Rattle.fjall_transactions.specs.Holding.{Held}
-use Rattle.fjall_transactions.specs.Transactions.{Kept, none_kept}
+use Rattle.fjall_calls.specs.Holding.{Held}
+use Rattle.fjall_calls.specs.Transactions.{Kept, none_kept}
 use Rattle.fjall_calls.specs.declared.call.TxCall.{TxCall}
 use Rattle.fjall_calls.specs.Serving.{RunsTx}
 use Rattle.fjall_history.specs.declared.reply.Reply.{Reply}

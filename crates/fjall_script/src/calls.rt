@@ -8,10 +8,9 @@ ghost use Rattle.fjall_machine.specs.declared.call.Call.TheVariants as calls;
 ghost use Rattle.fjall_calls.specs.declared.call.TxCall.TheVariants as tx;
 
 use fjall_base::{Error, Result, Slice, UserValue};
-use fjall_calls::{Kind, TxCall, Within};
+use fjall_calls::{BatchItem, Call, JobId, Kind, Op, PersistMode, Ticket, TxCall, View, Within};
 use fjall_lines::{Command, Request, Write};
 use fjall_options::KeyspaceCreateOptions;
-use fjall_transactions::{BatchItem, Call, JobId, Op, PersistMode, Ticket, View};
 use std::alloc::Global;
 use std::ops::Bound;
 

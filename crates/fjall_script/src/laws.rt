@@ -2,8 +2,8 @@
 
 ghost use Rattle.std.specs.Prelude.{◌≡◌, ℕ, Bool, false, All, List, Option};
 ghost use Rattle.fjall_journal.specs.declared.recovery_mode.RecoveryMode.{RecoveryMode};
-ghost use Rattle.fjall_transactions.specs.Holding.{Held};
-ghost use Rattle.fjall_transactions.specs.Transactions.{Kept};
+ghost use Rattle.fjall_calls.specs.Holding.{Held};
+ghost use Rattle.fjall_calls.specs.Transactions.{Kept};
 ghost use Rattle.fjall_lines.specs.declared.command.Command.{Command};
 ghost use Rattle.fjall_script.specs.Requests.{is_wild_crash};
 ghost use Rattle.fjall_script.specs.Sessions.{ForgesNothing, Session};

@@ -9,9 +9,9 @@ mod place;
 mod program;
 mod session;
 
+pub use fjall_calls::{Config, Engine};
 pub use fjall_journal::RecoveryMode;
 pub use fjall_lines::Command;
-pub use fjall_transactions::{Config, Engine};
 pub use laws::only_wild_crashes_forge;
 pub use place::{Folder, Memory, Place};
 pub use program::{Status, fail, run, run_folder, run_memory, run_over, usage};

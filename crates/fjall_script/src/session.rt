@@ -2,7 +2,7 @@
 
 ghost use Rattle.std.specs.Prelude.{◌≡◌, ◌<◌, ◌+◌, ◌^◌, true, IfErr, IfOk, IsOkUnless, OnOk, drop, length, string_bytes, take};
 ghost use Rattle.std.specs.List.{position};
-ghost use Rattle.fjall_transactions.specs.Transactions.{none_kept};
+ghost use Rattle.fjall_calls.specs.Transactions.{none_kept};
 ghost use Rattle.fjall_script.specs.Answers.{text_of};
 ghost use Rattle.fjall_script.specs.Machine.{BeginsSession, NotBegun, OpenedOn, RefusedOn};
 ghost use Rattle.fjall_script.specs.Requests.{is_stop};
@@ -13,10 +13,9 @@ use crate::calls::{LineCalls, asked_in, asked_with};
 use crate::output::write_text;
 use crate::place::Place;
 use fjall_base::{Disk, Error, Result};
-use fjall_calls::run;
+use fjall_calls::{Config, Core, Reply, run};
 use fjall_journal::RecoveryMode;
 use fjall_lines::Command;
-use fjall_transactions::{Config, Core, Reply};
 use std::alloc::{AllocError, Global};
 use std::io::Write;
 

@@ -95,6 +95,8 @@ pub fn told(alloc: Global, wording: Wording, reply: &Reply, number: usize) -> Te
         (Reply::Names(names), _) => words(alloc, "names", names),
         (Reply::Flag(true), Wording::Commit) => String::from_str(alloc, "ok"),
         (Reply::Flag(false), Wording::Commit) => String::from_str(alloc, "conflict"),
+        (Reply::Flag(true), Wording::End) => String::from_str(alloc, "closed"),
+        (Reply::Flag(false), Wording::End) => String::from_str(alloc, "open"),
         (Reply::Flag(is_so), _) => flag(alloc, *is_so),
         (Reply::Opened(ticket), Wording::TicketId) => format!(in alloc; "ticket {}", ticket.id),
         (Reply::Opened(ticket), Wording::Ticket) => {
@@ -117,21 +119,13 @@ fn is_idle(reply: &Reply) -> bool {
     matches!(reply, Reply::Flag(false) | Reply::Began(_))
 }
 
-// The last of these replies that says something, or the last.
-fn last_said(replies: &[Reply]) -> Option<&Reply> {
-    let mut said = replies.last();
-    for reply in replies {
-        if !is_idle(reply) {
-            said = Some(reply);
-        }
-    }
-    said
-}
-
 // The reply that is told of those to a line: of a job the last that says something, of many the first refusal.
 fn chosen<'a>(wording: Wording, replies: &'a [Reply]) -> Option<&'a Reply> {
     match (wording, replies) {
-        (Wording::Job(_), replies) => last_said(replies),
+        (Wording::Job(_), replies) => {
+            let said = replies.iter().rev().find(|reply| !is_idle(reply));
+            said.or(replies.last())
+        }
         (Wording::Many(_), replies) => {
             let refused = replies
                 .iter()

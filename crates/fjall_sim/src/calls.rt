@@ -2,7 +2,7 @@
 
 use crate::items::{counted, items, name, options, pairs};
 use crate::list::{List, Wording, Work};
-use fjall_calls::{Call, KeyRange, Kind, Op, PersistMode, View, Within};
+use fjall_calls::{Call, KeyRange, Kind, Op, PersistMode, TxCall, View, Within};
 use fjall_recorder::{LineError, Parsed, bytes, durability, mode, number, op, range, size, value};
 use std::alloc::Global;
 use std::ops::Bound;
@@ -44,8 +44,8 @@ fn count_of(list: &mut List, what: &str, id: &str) -> Parsed<Wording> {
 fn of_none(list: &mut List, word: &str) -> Parsed<Wording> {
     match word {
         "snapshot" => list.told(Wording::Snapshot, Call::Snapshot),
-        "begin" => list.begin_transaction(Kind::Optimistic),
-        "begin_single" => list.begin_transaction(Kind::Single),
+        "begin" => list.add(Wording::Begin, TxCall::Begin(Kind::Optimistic)),
+        "begin_single" => list.add(Wording::Begin, TxCall::Begin(Kind::Single)),
         "gc" => list.told(Wording::Watermark, Call::Gc),
         "persist" => list.plain(Call::Persist(PersistMode::SyncAll)),
         "rotate_journal" => list.plain(Call::RotateJournal),

@@ -15,8 +15,8 @@ fn part(word: &str) -> Parsed<Part> {
 }
 
 impl Session {
-    /// What a line of the disk is answered that changes it or its faults.
-    pub(crate) fn of_disk(&mut self, words: &[&str]) -> Parsed<String> {
+    // What a line of the disk is answered that changes it or its faults.
+    fn of_disk(&mut self, words: &[&str]) -> Parsed<String> {
         match words {
             ["new"] => self.replace(MemoryDisk::new(self.alloc))?,
             ["lose", keep] => self.lose(size(keep)?)?,
@@ -52,11 +52,12 @@ impl Session {
         Ok(())
     }
 
-    /// What a line of the disk is answered that looks at it.
+    /// What a line of the disk is answered.
     pub(crate) fn of_look(&mut self, words: &[&str]) -> Parsed<String> {
         let alloc = self.alloc;
         match words {
-            ["file", name] => self.file(name),
+            ["file", name] => self.file(name, false),
+            ["len", name] => self.file(name, true),
             ["list", "/"] => self.names(""),
             ["list", folder] => self.names(folder),
             ["has", folder, name] => self.has(folder, name),
@@ -66,25 +67,18 @@ impl Session {
                 Ok(String::from_str(alloc, "ok")?)
             }
             ["held", name] => Ok(flag(alloc, self.disk.file(alloc, name)? == self.held)?),
-            _ => Err(LineError::BadLine),
+            _ => self.of_disk(words),
         }
     }
 
-    fn file(&self, name: &str) -> Parsed<String> {
+    // The bytes of a file, or how many they are.
+    fn file(&self, name: &str, is_len: bool) -> Parsed<String> {
         let alloc = self.alloc;
-        match self.disk.file(alloc, name)? {
-            Some(found) => Ok(format!(in alloc; "file {}", word(alloc, &found)?)?),
-            None => Ok(String::from_str(alloc, "none")?),
-        }
-    }
-
-    /// How long a file is.
-    pub(crate) fn file_len(&self, name: &str) -> Parsed<String> {
-        let alloc = self.alloc;
-        match self.disk.file(alloc, name)? {
-            Some(found) => Ok(count(alloc, found.len())?),
-            None => Ok(String::from_str(alloc, "none")?),
-        }
+        Ok(match self.disk.file(alloc, name)? {
+            Some(found) if is_len => count(alloc, found.len())?,
+            Some(found) => format!(in alloc; "file {}", word(alloc, &found)?)?,
+            None => String::from_str(alloc, "none")?,
+        })
     }
 
     // The names in a folder.

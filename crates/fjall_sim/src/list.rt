@@ -27,6 +27,8 @@ pub enum Wording {
     Job(usize),
     /// So many calls that are told as one.
     Many(usize),
+    /// The end of a life, which was closed or not.
+    End,
 }
 
 impl Wording {
@@ -97,6 +99,8 @@ pub struct List {
     pub places: Vec<u64>,
     /// How many lines before the list have numbers.
     pub earlier: usize,
+    /// Whether they are those of a life, which hasn't ended.
+    pub is_life: bool,
     begun: Vec<BegunJob>,
 }
 
@@ -108,13 +112,9 @@ impl List {
             calls: Vec::new(alloc),
             places: Vec::new(alloc),
             earlier,
+            is_life: false,
             begun: Vec::new(alloc),
         }
-    }
-
-    /// How many lines have numbers, those of the list and those before it.
-    pub fn numbered(&self) -> usize {
-        self.earlier.saturating_add(self.places.len())
     }
 
     /// Whether a word is the number of a line before the list.
@@ -191,11 +191,6 @@ impl List {
         self.add(Wording::Plain, TxCall::Rollback(place))
     }
 
-    /// Adds the beginning of a transaction.
-    pub fn begin_transaction(&mut self, kind: Kind) -> Parsed<Wording> {
-        self.add(Wording::Begin, TxCall::Begin(kind))
-    }
-
     // Adds a call that begins a job.
     fn begin(&mut self, keyspace_id: u64, work: Work, is_whole: bool) -> Parsed<Wording> {
         let begun = BegunJob {
@@ -215,8 +210,7 @@ impl List {
 
     /// Adds a call that begins a job which nothing finishes.
     pub fn lose_job(&mut self, id: &str, work: Work) -> Parsed<Wording> {
-        let keyspace_id = number(id)?;
-        self.told(Wording::Begun, work.begin(keyspace_id))
+        self.told(Wording::Begun, work.begin(number(id)?))
     }
 
     /// Adds the finish of the job that a word names.

@@ -7,6 +7,7 @@ mod earlier;
 mod files;
 mod items;
 mod list;
+mod lives;
 mod opening;
 mod own;
 mod records;
@@ -26,7 +27,7 @@ fn answer_lines(alloc: Global, text: &[u8], out: &mut String) -> Result<()> {
         // what is no text has no word of a command
         session.take(str::from_utf8(line).unwrap_or(""), out)?;
     }
-    session.end(out)
+    session.serve(out)
 }
 
 // Reads all lines, and prints their answers, also where it can't go on.

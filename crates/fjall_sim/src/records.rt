@@ -4,35 +4,21 @@ use crate::answer::count;
 use crate::session::Session;
 use fjall_recorder::{LineError, Parsed, Way, size};
 
-// The place of a tape, which has a number from 1 on.
-fn place(word: &str) -> Parsed<usize> {
-    Ok(size(word)?.wrapping_sub(1))
-}
-
 impl Session {
-    /// What a line of records is answered.
+    /// What a line of records is answered, or one of the disk.
     pub(crate) fn of_record(&mut self, words: &[&str]) -> Parsed<String> {
         let alloc = self.alloc;
-        let found = match words {
-            ["moments"] => Some(self.disk.moments()?),
+        match words {
+            ["moments"] => return Ok(count(alloc, self.disk.moments()?)?),
             ["stop"] => return self.stop(),
-            ["ways", tape, at] => self.ways(place(tape)?, size(at)?)?,
-            ["names_at", tape, at] => self.names_at(place(tape)?, size(at)?)?,
-            ["record"] => {
-                self.disk.record(alloc)?;
-                return Ok(String::from_str(alloc, "ok")?);
+            ["record"] => self.disk.record(alloc)?,
+            ["forget", kept] => self.tapes.truncate(size(kept)?),
+            ["ways" | "names_at", tape, at] | ["image", tape, at, _] => {
+                return self.of_tape(size(tape)?, size(at)?, words);
             }
-            ["forget", kept] => {
-                self.tapes.truncate(size(kept)?);
-                return Ok(String::from_str(alloc, "ok")?);
-            }
-            ["image", tape, at, way] => return self.image(place(tape)?, size(at)?, Way::read(way)?),
-            _ => return Err(LineError::BadLine),
-        };
-        match found {
-            Some(found) => Ok(count(alloc, found)?),
-            None => Ok(String::from_str(alloc, "none")?),
+            _ => return self.of_look(words),
         }
+        Ok(String::from_str(alloc, "ok")?)
     }
 
     // The record ends, and is kept as a tape.
@@ -46,32 +32,23 @@ impl Session {
         Ok(format!(in alloc; "tape {} {moments}", self.tapes.len())?)
     }
 
-    // In how many ways a crash at a moment leaves something.
-    fn ways(&mut self, tape: usize, at: usize) -> Parsed<Option<usize>> {
-        match self.tapes.get_mut(tape) {
-            Some(tape) => Ok(Some(tape.ways(at)?)),
-            None => Ok(None),
-        }
-    }
-
-    // In how many of them files keep none of their unsynced bytes or all.
-    fn names_at(&mut self, tape: usize, at: usize) -> Parsed<Option<usize>> {
-        match self.tapes.get_mut(tape) {
-            Some(tape) => Ok(Some(tape.names(at)?)),
-            None => Ok(None),
-        }
-    }
-
-    // The disk is what a crash leaves.
-    fn image(&mut self, tape: usize, at: usize, way: Way) -> Parsed<String> {
-        let image = match self.tapes.get_mut(tape) {
-            Some(tape) => tape.image(at, way)?,
-            None => None,
+    // What a line of the tape of this number, from 1 on, is answered: in how many ways a crash at a moment leaves something, in how many
+    // of them files keep none of their unsynced bytes or all; or the disk is what such a crash leaves.
+    fn of_tape(&mut self, number: usize, at: usize, words: &[&str]) -> Parsed<String> {
+        let alloc = self.alloc;
+        let Some(tape) = self.tapes.get_mut(number.wrapping_sub(1)) else {
+            return Ok(String::from_str(alloc, "none")?);
         };
-        let Some(disk) = image else {
-            return Ok(String::from_str(self.alloc, "none")?);
+        let image = match words {
+            ["ways", ..] => return Ok(count(alloc, tape.ways(at)?)?),
+            ["names_at", ..] => return Ok(count(alloc, tape.names(at)?)?),
+            [_, _, _, way] => tape.image(at, Way::read(way)?)?,
+            _ => return Err(LineError::BadLine),
         };
-        self.replace(disk)?;
-        Ok(String::from_str(self.alloc, "ok")?)
+        let is_there = image.is_some();
+        if let Some(disk) = image {
+            self.replace(disk)?;
+        }
+        Ok(String::from_str(alloc, if is_there { "ok" } else { "none" })?)
     }
 }

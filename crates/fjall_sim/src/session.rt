@@ -5,6 +5,7 @@ use crate::list::{List, Wording};
 use crate::own::is_own;
 use fjall_base::{Error, Result};
 use fjall_calls::{Core, Reply, Ticket, TxCall, run};
+use fjall_consistency::{Life, Turn};
 use fjall_recorder::{Handle, LineError, Parsed, Tape};
 use std::alloc::Global;
 use std::mem;
@@ -12,13 +13,8 @@ use std::mem;
 /// What a call is answered where no database is open.
 pub const SHUT: &str = "shut";
 
-/// Why a list of calls wasn't served.
-#[derive(Clone, Copy)]
-enum Unserved {
-    /// No database is open.
-    Shut,
-    Refused(Error),
-}
+/// The replies to a list of calls, or why it wasn't served: the refusal, none where no database is open.
+pub type Heard = std::result::Result<Vec<Reply>, Option<Error>>;
 
 /// A disk in memory, and the database on it where one is open.
 #[derive(Drop)]
@@ -28,7 +24,11 @@ pub struct Session {
     pub(crate) core: Box<Option<Core<Handle>>>,
     pub(crate) list: List,
     // how the reply to each line of the list is worded, or why the line isn't done
-    wordings: Vec<Parsed<Wording>>,
+    pub(crate) wordings: Vec<Parsed<Wording>>,
+    // the lives that are to be run before the list, what happens behind each, and how the replies to its lines are worded
+    pub(crate) lives: Vec<Life>,
+    pub(crate) turns: Vec<Turn>,
+    pub(crate) lines: Vec<Vec<Parsed<Wording>>>,
     pub(crate) tapes: Vec<Tape>,
     pub(crate) held: Option<Vec<u8>>,
     // of each line that has a number the snapshot that it opened, while its database is open
@@ -56,6 +56,9 @@ impl Session {
             core,
             list: List::new(alloc, 0),
             wordings: Vec::new(alloc),
+            lives: Vec::new(alloc),
+            turns: Vec::new(alloc),
+            lines: Vec::new(alloc),
             tapes: Vec::new(alloc),
             held: None,
             tickets: Vec::new(alloc),
@@ -64,13 +67,13 @@ impl Session {
     }
 
     // Makes the calls of a list.
-    fn run(&mut self, calls: Vec<TxCall>) -> std::result::Result<Vec<Reply>, Unserved> {
+    fn run(&mut self, calls: Vec<TxCall>) -> Heard {
         match &mut *self.core {
             Some(core) => match run(self.alloc, core, calls) {
                 Ok(replies) => Ok(replies),
-                Err(error) => Err(Unserved::Refused(error)),
+                Err(error) => Err(Some(error)),
             },
-            None => Err(Unserved::Shut),
+            None => Err(None),
         }
     }
 
@@ -82,30 +85,26 @@ impl Session {
         Ok(self.tickets.len())
     }
 
-    // The answer to a line that got these replies, or whose list wasn't served.
-    fn answered(
-        &mut self,
-        wording: Wording,
-        replies: &[Reply],
-        unserved: Option<Unserved>,
-    ) -> Result<String> {
-        let number = self.keep_ticket(wording, replies)?;
-        Ok(match unserved {
-            None => answer(self.alloc, wording, replies, number)?,
-            Some(Unserved::Shut) => String::from_str(self.alloc, SHUT)?,
-            Some(Unserved::Refused(error)) => refusal(self.alloc, error)?,
-        })
+    /// The calls of the list, and its lines; another one begins.
+    pub(crate) fn next_list(&mut self) -> (Vec<TxCall>, Vec<Parsed<Wording>>) {
+        let new = List::new(self.alloc, self.tickets.len());
+        let list = mem::replace(&mut self.list, new);
+        let wordings = mem::replace(&mut self.wordings, Vec::new(self.alloc));
+        (list.calls, wordings)
     }
 
-    // Serves the list, and adds the answers to its lines.
-    fn serve(&mut self, out: &mut String) -> Result<()> {
+    /// Adds the answers to the lines of a list.
+    pub(crate) fn tell(
+        &mut self,
+        wordings: Vec<Parsed<Wording>>,
+        heard: Heard,
+        out: &mut String,
+    ) -> Result<()> {
         let alloc = self.alloc;
-        let numbered = self.list.numbered();
-        let list = mem::replace(&mut self.list, List::new(alloc, numbered));
-        let wordings = mem::replace(&mut self.wordings, Vec::new(alloc));
-        let (replies, unserved) = match self.run(list.calls) {
+        let (replies, unserved) = match heard {
             Ok(replies) => (replies, None),
-            Err(unserved) => (Vec::new(alloc), Some(unserved)),
+            Err(Some(error)) => (Vec::new(alloc), Some(refusal(alloc, error)?)),
+            Err(None) => (Vec::new(alloc), Some(String::from_str(alloc, SHUT)?)),
         };
         let mut left = replies.as_slice();
         for wording in wordings {
@@ -113,7 +112,11 @@ impl Session {
                 Ok(wording) => {
                     let (own, later) = left.split_at(wording.calls().min(left.len()));
                     left = later;
-                    self.answered(wording, own, unserved)?
+                    let number = self.keep_ticket(wording, own)?;
+                    match &unserved {
+                        Some(why) => why.clone()?,
+                        None => answer(alloc, wording, own, number)?,
+                    }
                 }
                 Err(error) => undone(alloc, error)?,
             };
@@ -123,13 +126,23 @@ impl Session {
         Ok(())
     }
 
-    // Serves the list, and then a line of its own.
+    /// Runs the lives and serves the list, and adds the answers to their lines.
+    pub(crate) fn serve(&mut self, out: &mut String) -> Result<()> {
+        self.live(out)?;
+        let (calls, wordings) = self.next_list();
+        let heard = self.run(calls);
+        self.tell(wordings, heard, out)?;
+        self.list.earlier = self.tickets.len();
+        Ok(())
+    }
+
+    // Serves the list, and then a line of its own, or one that names a snapshot of an earlier list.
     fn take_own(&mut self, words: &[&str], out: &mut String) -> Result<()> {
         self.serve(out)?;
-        let done = if self.is_of_earlier(words) {
-            self.ask_earlier(words)
-        } else {
+        let done = if is_own(words) {
             self.own(words)
+        } else {
+            self.ask_earlier(words)
         };
         if self.is_lost {
             return Err(Error::OutOfMemory);
@@ -152,13 +165,13 @@ impl Session {
         if is_own(&words) || self.is_of_earlier(&words) {
             return self.take_own(&words, out);
         }
-        let wording = self.list.take(&words);
-        self.wordings.push(wording)?;
-        Ok(())
-    }
-
-    /// Adds the answers that are due at the end.
-    pub fn end(&mut self, out: &mut String) -> Result<()> {
-        self.serve(out)
+        match words.as_slice() {
+            ["life"] => self.begin_life(out),
+            ["end", how @ ..] if self.list.is_life => self.end_life(how),
+            words => {
+                let wording = self.list.take(words);
+                Ok(self.wordings.push(wording)?)
+            }
+        }
     }
 }

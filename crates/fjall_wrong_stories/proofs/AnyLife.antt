@@ -161,4 +161,4 @@ no_unknown_keyspace_is_read wild lives told end are story =
     let life = goes wild no_store end lives told (Ended (before ++ last)) [] are went in
     let unknown = along (λ k. IsMade k.present id → ⊥) (λ step. (name : Bytes) (options : List Bytes) → step ≢ (keyspace name options, Number id)) (unmade id)
     (begins no_store) before last life.served.answers untold_before (λ made. omega (arith, made.0, made.1)) in
-    unknown ((told_behind (begins no_store) before last life.served.answers).0.1 0 id (omega arith))
+    unknown (told_behind (begins no_store) before last life.served.answers).0.1

@@ -3,7 +3,7 @@ use Rattle.std.proofs.Common.{◌≡◌, ◌≢◌, ℕ, zero, suc, ◌≤◌, t
 use Rattle.fjall_base.specs.Pairs.{Bytes}
 use Rattle.fjall_base.specs.Store.{Store, kept}
 use Rattle.fjall_base.specs.declared.error.Error.{Error}
-use Rattle.fjall_base.specs.declared.error.Error.TheVariants.{InvalidName, KeyEmpty, KeyOrder, KeyTooLong, KeyspaceDeleted, Poisoned, SnapshotClosed, TransactionOpen, UnknownKeyspace, ValueTooLong}
+use Rattle.fjall_base.specs.declared.error.Error.TheVariants.{InvalidName, Io, KeyEmpty, KeyOrder, KeyTooLong, KeyspaceDeleted, Poisoned, SnapshotClosed, TransactionOpen, UnknownKeyspace, ValueTooLong}
 use Rattle.fjall_history.specs.declared.reply.Reply.{Reply}
 use Rattle.fjall_history.specs.declared.reply.Reply.TheVariants.{Refused, Value}
 use Rattle.fjall_consistency.specs.Consistency.{HasCause, IsMade, begins, is_living, value_at}
@@ -64,7 +64,8 @@ refused s id key value KeyEmpty h c wrong = no_any _ c
 refused s id key value KeyTooLong h c wrong = no_any _ c
 refused s id key value ValueTooLong h (inl c) wrong = c
 refused s id key value ValueTooLong h (inr c) wrong = no_any _ c
-refused s id key value KeyOrder h c wrong = c (λ i j d before below. absurd (omega (arith, below)))
+refused s id key value KeyOrder h c wrong = cc (c.2)
+refused s id key value (Io fault) h c wrong = wrong tt
 refused s id key value InvalidName h c wrong = cc (c.2)
 refused s id key value Poisoned h c wrong = cc
 refused s id key value error h c wrong = wrong c
@@ -76,5 +77,5 @@ other_reply s id key value reply h told wrong = wrong (told.2 ∙ ap Value (told
 
 -- nor is it told wrong
 pub no_wrong_read : (s next : Store) (id : ℕ) (key : Bytes) (value : Option Bytes) (reply : Reply) → Holds s id key value → Served s (reads id key reply) next → IsWrong value reply → ⊥
-no_wrong_read s next id key value (Refused error) h served wrong = refused s id key value error h served.answers.0 wrong
+no_wrong_read s next id key value (Refused error) h served wrong = refused s id key value error h served.answers.0.0 wrong
 no_wrong_read s next id key value reply h served wrong = other_reply s id key value reply h served.answers.0.0 wrong

@@ -254,7 +254,7 @@ pub no_living_keyspace_is_unknown : Never stories.AnUnknownKeyspaceThatLives
 no_living_keyspace_is_unknown wild lives told end are story =
     let (name, options, id, key, value, went) = story in
     let life = one_life wild name options id (Ended ((insert id key value, Refused UnknownKeyspace) ∷ [])) lives told end are went in
-    by name id key value (made_id name id life.1.named) life.1.answers.0
+    by name id key value (made_id name id life.1.named) life.1.answers.0.0
   where
     by : (name : Bytes) (id : ℕ) (key value : Bytes) → id ≡ 1 → HasCause (founded name) (insert id key value) UnknownKeyspace → ⊥
     by name id key value e (inl unmade) = only id (λ other. IsMade (made name) other → ⊥) unmade (first_made (made name) id e (omega arith))

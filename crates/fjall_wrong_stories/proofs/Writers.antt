@@ -12,7 +12,8 @@ use Rattle.fjall_calls.specs.declared.call.TxCall.{TxCall}
 use Rattle.fjall_calls.specs.declared.call.TxCall.TheVariants.{Begin, Commit, Rollback, Within}
 use Rattle.fjall_calls.specs.declared.call.Within.{Within as Inner}
 use Rattle.fjall_calls.specs.declared.call.Within.TheVariants as inner
-use Rattle.fjall_consistency.specs.Consistency.{IsAnswer, IsWriting, Known, Transaction, after, after_within, begun, commits, met_by, named, transactions_after}
+use Rattle.fjall_consistency.specs.Consistency.{IsAnswer, IsWriting, Known, Transaction, after, after_within, begun, commits, named, transactions_after}
+use Rattle.fjall_consistency.proofs.Meeting.{met_by}
 use Rattle.fjall_wrong_stories.specs.Stories.{LeavesOpen, Step}
 use Rattle.fjall_wrong_stories.proofs.Along.{known_after}
 

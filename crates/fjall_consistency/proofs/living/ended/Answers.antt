@@ -1,7 +1,7 @@
 use Rattle.std.proofs.Common.{false, Result, sym, subst}
 use Rattle.fjall_base.specs.Disk.{Meaning}
 use Rattle.fjall_base.specs.declared.error.Error.{Error}
-use Rattle.fjall_transactions.specs.CoreStanding.{ClosesSafely, OwesClosing}
+use Rattle.fjall_calls.specs.CoreStanding.{ClosesSafely, OwesClosing}
 use Rattle.fjall_consistency.specs.Links.{EndsAs, IsClosed, IsLet, IsUnclosed}
 use Rattle.fjall_consistency.proofs.living.ended.Goals as goal
 
