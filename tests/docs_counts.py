@@ -14,6 +14,8 @@ LISTS = {
 CHAIN = re.compile(r"longest\s+chain(?:\s+of\s+crates)?\s+(?:has|is)\s+(\d+)")
 CRATES = re.compile(r"[Tt]here\s+are\s+(\d+)\s+crates")
 LONG = re.compile(r"`(\w+)`\s+\((\d,\d{3})(?:\s+lines)?\)|`(\w+)`\s+has\s+(\d,\d{3})\s+lines")
+LIKE = re.compile(r"\b(\d+)\s+(?:have\s+their\s+like\s+here|of\s+the\s+Rust\s+crate's\s+tests)")
+OWN = re.compile(r"\b(\d+)\s+tests\s+of\s+this\s+folder\s+are\s+our\s+own")
 ROWS = re.compile(r"\b([\d,]+)\s+(?:rows|lists|scripts|tests)\b[^.|`]{0,40}`(tests/(?:sim|scripts|sweeps|index|handles))`")
 
 
@@ -40,6 +42,13 @@ def rows_in(folder):
     return len({path.parent / path.name.split(".")[0] for path in (ROOT / folder).rglob("*") if path.suffix in ends})
 
 
+@functools.cache
+def tests_with_like():
+    """How many tests of the Rust crate have their like in tests/handles, by the table there."""
+    here = (ROOT / "tests/handles/README.md").read_text().split("## Here")[1].split("\n## ")[0]
+    return sum(map(int, re.findall(r"^\| [^|]* \| (\d+) \|", here, re.MULTILINE)))
+
+
 def wrong_numbers(text):
     """Other numbers than those that are counted."""
     for match in CHAIN.finditer(text):
@@ -52,6 +61,12 @@ def wrong_numbers(text):
         crate, count = match.group(1) or match.group(3), match.group(2) or match.group(4)
         if crate in LISTS and number(count) != lines_of(crate):
             yield match.start(), f"{crate} has {lines_of(crate):,} lines"
+    for match in LIKE.finditer(text):
+        if int(match.group(1)) != tests_with_like():
+            yield match.start(), f"{tests_with_like()} tests of the Rust crate have their like in tests/handles"
+    for match in OWN.finditer(text):
+        if int(match.group(1)) != rows_in("tests/handles") - tests_with_like():
+            yield match.start(), f"{rows_in('tests/handles') - tests_with_like()} tests of tests/handles are our own"
     for match in ROWS.finditer(text):
         if number(match.group(1)) != rows_in(match.group(2)):
             yield match.start(), f"{match.group(2)} has {rows_in(match.group(2))} rows"

@@ -1,4 +1,4 @@
-/* Gives an input to one of the readers behind crates/fjall_fuzz, as its first byte says, under libFuzzer. The reader is asked twice, once as
+/* Gives an input to one of the readers behind crates/fjall_readers, as its first byte says, under libFuzzer. The reader is asked twice, once as
    another compiler built it, its names beginning with other_ (where OTHER is defined), and once with a request for memory that fails. It
    aborts where the answers differ, where a reader answers what it never may, holds more memory than its input accounts for, or keeps some. */
 #include <malloc.h>
@@ -24,11 +24,11 @@
 typedef uint64_t read_bytes(const uint8_t *input, size_t len);
 
 #ifdef OTHER
-#define READER(name) extern read_bytes fjall_fuzz_##name, other_##name;
-#define BUILDS(name) #name, fjall_fuzz_##name, other_##name
+#define READER(name) extern read_bytes fjall_read_##name, other_##name;
+#define BUILDS(name) #name, fjall_read_##name, other_##name
 #else
-#define READER(name) extern read_bytes fjall_fuzz_##name;
-#define BUILDS(name) #name, fjall_fuzz_##name, fjall_fuzz_##name
+#define READER(name) extern read_bytes fjall_read_##name;
+#define BUILDS(name) #name, fjall_read_##name, fjall_read_##name
 #endif
 
 READER(journal) READER(batches) READER(current) READER(records) READER(table) READER(blocks)

@@ -1,10 +1,16 @@
 //! An embedded key-value engine whose calls are proved: many keyspaces, ordered maps from bytes to bytes, over one journal in one folder;
-//! snapshots, batches, transactions of both kinds, recovery behind crashes, and workers that flush and merge.
+//! snapshots, batches, transactions of both kinds, recovery behind crashes, workers that flush and merge, and secondary indexes.
 //!
 //! A crate that uses it lists this one alone. [`Database`] has plain writes; [`OptimisticTxDatabase`] and [`SingleWriterTxDatabase`] have
-//! transactions that act one after another, as long as what they read changes through them alone.
+//! transactions that act one after another, as long as what they read changes through them alone. An [`IndexedKeyspace`] is a main keyspace
+//! and one that finds its pairs by what is in their values.
 #![tactic(auto)]
 
+mod changing;
+mod indexed;
+mod indexed_tx;
+mod reading;
+mod rebuilding;
 mod tx_database;
 mod tx_keyspace;
 
@@ -18,6 +24,9 @@ pub use fjall_handles::{
     RestartIntervalPolicy, Result, Single, Slice, Snapshot, StorageError, TransactionReader,
     UserKey, UserValue, WriteTransaction, prefix_to_range, prefixed_range,
 };
+pub use fjall_index_entries::{Extract, IndexError, Result as IndexResult, Slot};
+pub use indexed::IndexedKeyspace;
+pub use indexed_tx::IndexedWriteTx;
 pub use tx_database::{OptimisticTxDatabase, SingleWriterTxDatabase, TxDatabase};
 pub use tx_keyspace::{OptimisticTxKeyspace, SingleWriterTxKeyspace, TxKeyspace};
 

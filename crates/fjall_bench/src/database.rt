@@ -1,7 +1,7 @@
 //! Opening, closing, flushing and merging a database.
 
 use fjall_base::{Disk, Result};
-use fjall_core::{Call, Config, Engine, JobId, Reply};
+use fjall_engine::{Call, Config, Engine, JobId, Reply};
 use std::alloc::Global;
 
 /// Opens the database on a disk.

@@ -5,11 +5,11 @@ use crate::data::{VALUE_LEN, at_random, key_of};
 use crate::report::{HEAD, Row};
 use anyhow::{Result, bail};
 use fjall_base::{Disk, KvPair, Slice};
-use fjall_folder::FolderDisk;
+use fjall_core::{Config, Core, View};
+use fjall_disk_folder::FolderDisk;
+use fjall_disk_memory::MemoryDisk;
 use fjall_index::{Indexed, Slot};
-use fjall_memory::MemoryDisk;
 use fjall_options::KeyspaceCreateOptions;
-use fjall_transactions::{Config, Core, View};
 use std::alloc::Global;
 use std::fs;
 

@@ -3,7 +3,7 @@
 use crate::data::{VALUE_LEN, is_value_of, key_behind, key_of};
 use crate::rows::PAIRS_TOGETHER;
 use fjall_base::{Disk, KvPair, Result, Slice};
-use fjall_core::{Engine, View};
+use fjall_engine::{Engine, View};
 use std::alloc::Global;
 use std::ops::Bound;
 

@@ -4,8 +4,8 @@ use crate::data::{key_of, value_of};
 use crate::database::flush;
 use crate::rows::{Action, PAIRS_TOGETHER};
 use fjall_base::{Disk, Result};
-use fjall_core::{BatchItem, Engine, PersistMode};
-use fjall_writes::OwnedWriteBatch;
+use fjall_engine::{BatchItem, Engine, PersistMode};
+use fjall_reading::OwnedWriteBatch;
 use std::alloc::Global;
 
 // Flushes a keyspace whose memtable is full.

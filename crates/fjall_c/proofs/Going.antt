@@ -4,8 +4,8 @@ use Rattle.std.proofs.lemmas.Option.{slice_get-get_or}
 use Rattle.std.specs.Prelude.{slice_get, slice_set}
 use Rattle.fjall_base.specs.declared.error.Error.{Error}
 use Rattle.fjall_base.specs.declared.error.Error.TheVariants.{SnapshotClosed}
-use Rattle.fjall_transactions.specs.Holding.{Held}
-use Rattle.fjall_transactions.specs.Transactions.{Tx}
+use Rattle.fjall_core.specs.Holding.{Held}
+use Rattle.fjall_core.specs.Transactions.{Tx}
 use Rattle.fjall_c.specs.Live.{Live}
 use Rattle.fjall_c.specs.Transactions.{OfOne, Within, place_of}
 

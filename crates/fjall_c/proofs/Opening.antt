@@ -8,14 +8,14 @@ use Rattle.fjall_journal.specs.declared.recovery_mode.RecoveryMode.{RecoveryMode
 use Rattle.fjall_journal.specs.declared.recovery_mode.RecoveryMode.TheVariants.{TolerateCorruptTail}
 use Rattle.fjall_machine.specs.Places.{resolved_all}
 use Rattle.fjall_machine.specs.declared.call.Call.{Call}
-use Rattle.fjall_transactions.specs.CoreStanding.{HoldsStore, OwesAll, Runs, RunsSafely}
-use Rattle.fjall_transactions.specs.Holding.{Held}
-use Rattle.fjall_transactions.specs.Openings.{IsDueTo, KeepsStore, OpensAs, OpensOn}
-use Rattle.fjall_transactions.specs.Transactions.{Kept, none_kept}
+use Rattle.fjall_core.specs.CoreStanding.{HoldsStore, OwesAll, Runs, RunsSafely}
+use Rattle.fjall_core.specs.Holding.{Held}
+use Rattle.fjall_core.specs.Openings.{IsDueTo, KeepsStore, OpensAs, OpensFolder}
+use Rattle.fjall_core.specs.Transactions.{Kept, none_kept}
 use Rattle.fjall_c.specs.Openings.{FlushesEngine, IsOpenedOver, IsRefusedOver, first_refusal, flush_calls}
 
 -- what the disk holds that is opened is what the files do
-pub opened_so : (files given : Meaning) (engine : Held) (kept : Kept) → given ≡ files → OpensOn given engine → ((store : Store) → HoldsStore (state_in given) store → OpensAs engine store)
+pub opened_so : (files given : Meaning) (engine : Held) (kept : Kept) → given ≡ files → OpensFolder given engine → ((store : Store) → HoldsStore (state_in given) store → OpensAs engine store)
     → KeepsStore given engine.disk → kept ≡ none_kept → IsOpenedOver files engine kept
 opened_so files given engine kept same stands store moment none =
     subst (λ (m : Meaning). IsOpenedOver m engine kept) same (record { stands = stands; store = store; any_moment = moment; none = none })

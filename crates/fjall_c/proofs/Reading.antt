@@ -16,10 +16,10 @@ use Rattle.fjall_history.specs.declared.ticket.View.{View}
 use Rattle.fjall_history.specs.declared.ticket.View.TheVariants.{At}
 use Rattle.fjall_tx.specs.Marks.{Mark}
 use Rattle.fjall_tx.specs.Owns.{own_written}
-use Rattle.fjall_transactions.specs.Holding.{Held}
-use Rattle.fjall_transactions.specs.ReadsGoing.{memory_refuses}
-use Rattle.fjall_transactions.specs.Shown.{IsRefusedFor}
-use Rattle.fjall_transactions.specs.Transactions.{Tx, having_read}
+use Rattle.fjall_core.specs.Holding.{Held}
+use Rattle.fjall_core.specs.ReadsGoing.{memory_refuses}
+use Rattle.fjall_core.specs.Shown.{IsRefusedFor}
+use Rattle.fjall_core.specs.Transactions.{Tx, having_read}
 use Rattle.fjall_c.specs.Transactions.{IsUnshown, ReadsIn, ShowsIn}
 
 -- maps of one keyspace have its map

@@ -1,5 +1,5 @@
 -- What comes of the engine's calls that a session makes. Callers have the words of the engine's calls from here.
-pub use Rattle.fjall_transactions.specs.CoreStanding.{number_reply, pairs_reply, reply_of, ticket_reply, value_reply}
+pub use Rattle.fjall_core.specs.CoreStanding.{number_reply, pairs_reply, reply_of, ticket_reply, value_reply}
 pub use Rattle.fjall_history.specs.Queries.{Get, Page}
 pub use Rattle.fjall_history.specs.declared.ticket.View.TheVariants.{At, Present}
 pub use Rattle.fjall_journal.specs.Changes.{Items}
@@ -13,8 +13,8 @@ use Rattle.fjall_history.specs.declared.reply.Reply.{Reply}
 use Rattle.fjall_history.specs.declared.ticket.View.{View}
 use Rattle.fjall_journal.specs.declared.op.Op.TheVariants as ops
 use Rattle.fjall_machine.specs.Shapes.{CallShape, of_write}
-use Rattle.fjall_transactions.specs.CoreStanding.{Owes, Serves}
-use Rattle.fjall_transactions.specs.Holding.{Held}
+use Rattle.fjall_core.specs.CoreStanding.{Owes, Serves}
+use Rattle.fjall_core.specs.Holding.{Held}
 use Rattle.fjall_c.specs.Live.{Live}
 
 -- one call of an engine over a disk that returns what it holds: a step of the machine, whose reply is owed

@@ -1,9 +1,9 @@
 -- A database from its files on to its closing, as contracts see it.
 use Rattle.std.specs.Prelude.{List, Option, Some, None}
 use Rattle.fjall_base.specs.Disk.{Meaning}
-use Rattle.fjall_memory.specs.MemoryDisk.{meaning_in}
-use Rattle.fjall_transactions.specs.Holding.{Held}
-use Rattle.fjall_transactions.specs.Transactions.{Kept, Tx}
+use Rattle.fjall_disk_memory.specs.MemoryDisk.{meaning_in}
+use Rattle.fjall_core.specs.Holding.{Held}
+use Rattle.fjall_core.specs.Transactions.{Kept, Tx}
 use Rattle.fjall_c.specs.declared.session.Session.{Session}
 use Rattle.fjall_c.specs.declared.session.opened.Opened.{Opened}
 use Rattle.fjall_c.specs.declared.session.place.Place.{Place}

@@ -11,10 +11,10 @@ use Rattle.fjall_journal.specs.declared.recovery_mode.RecoveryMode.TheVariants.{
 use Rattle.fjall_machine.specs.Places.{resolved_all}
 use Rattle.fjall_machine.specs.declared.call.Call.{Call}
 use Rattle.fjall_machine.specs.declared.call.Call.TheVariants.{FlushBegin, FlushFinish, Maintenance, MergeBegin, MergeFinish, RotateMemtable}
-use Rattle.fjall_transactions.specs.CoreStanding.{ClosesDisk, ClosesSafely, HoldsStore, OwesAll, OwesClosing, Runs, RunsSafely}
-use Rattle.fjall_transactions.specs.Holding.{Held}
-use Rattle.fjall_transactions.specs.Openings.{IsDueTo, KeepsStore, OpensAs, OpensOn}
-use Rattle.fjall_transactions.specs.Transactions.{Kept, none_kept}
+use Rattle.fjall_core.specs.CoreStanding.{ClosesDisk, ClosesSafely, HoldsStore, OwesAll, OwesClosing, Runs, RunsSafely}
+use Rattle.fjall_core.specs.Holding.{Held}
+use Rattle.fjall_core.specs.Openings.{IsDueTo, KeepsStore, OpensAs, OpensFolder}
+use Rattle.fjall_core.specs.Transactions.{Kept, none_kept}
 use Rattle.fjall_c.specs.Live.{Live}
 
 -- ---- files
@@ -41,7 +41,7 @@ PutsFile name bytes None new result = (result ≡ Err Poisoned) × (new ≡ None
 -- An engine was opened over what a disk held, and no transaction has committed: it stands for what stood there. Whatever store the disk
 -- held, that is its own, and a crash at each moment of the opening leaves it.
 pub record IsOpenedOver (files : Meaning) (engine : Held) (kept : Kept) : Type 0 where
-  pub stands : OpensOn files engine
+  pub stands : OpensFolder files engine
   pub store : (store : Store) → HoldsStore (state_in files) store → OpensAs engine store
   pub any_moment : KeepsStore files engine.disk
   pub none : kept ≡ none_kept

@@ -15,14 +15,14 @@ use Rattle.fjall_tx.specs.Marks.{Mark, OfKey, OfRange}
 use Rattle.fjall_tx.specs.Oracles.{pruned}
 use Rattle.fjall_tx.specs.declared.outcome.CommitOutcome.{CommitOutcome}
 use Rattle.fjall_tx.specs.declared.outcome.CommitOutcome.TheVariants.{Aborted}
-use Rattle.fjall_transactions.specs.Commits.{Ends}
-use Rattle.fjall_transactions.specs.CoreStanding.{Looks, Owes, ReadsOn, Serves, reply_of, ticket_reply}
-use Rattle.fjall_transactions.specs.Holding.{Held}
-use Rattle.fjall_transactions.specs.Leaving.{LeavesStanding}
-use Rattle.fjall_transactions.specs.Seeing.{Sees}
-use Rattle.fjall_transactions.specs.Shown.{IsRefusedFor, Shows, read_due}
-use Rattle.fjall_transactions.specs.Standing.{CommitGoesOn, GoesOn, StandFor, Told}
-use Rattle.fjall_transactions.specs.Transactions.{Tx, begun, having_read, no_marks, with_own}
+use Rattle.fjall_core.specs.Commits.{Ends}
+use Rattle.fjall_core.specs.CoreStanding.{Looks, Owes, ReadsOn, Serves, reply_of, ticket_reply}
+use Rattle.fjall_core.specs.Holding.{Held}
+use Rattle.fjall_core.specs.Leaving.{LeavesStanding}
+use Rattle.fjall_core.specs.Seeing.{Sees}
+use Rattle.fjall_core.specs.Shown.{IsRefusedFor, Shows, read_due}
+use Rattle.fjall_core.specs.Standing.{CommitGoesOn, GoesOn, StandFor, CoreState}
+use Rattle.fjall_core.specs.Transactions.{Tx, transaction_begun, having_read, no_marks, with_own}
 use Rattle.fjall_c.specs.Calls.{Makes}
 use Rattle.fjall_c.specs.Live.{Live}
 
@@ -30,7 +30,7 @@ use Rattle.fjall_c.specs.Live.{Live}
 
 -- behind the beginning of an optimistic transaction it is open too, where it began
 abbrev pub going_with : Result Ticket Error → List Tx → List Tx
-going_with (Ok ticket) going = going ++ begun (Some no_marks) ticket ∷ []
+going_with (Ok ticket) going = going ++ transaction_begun (Some no_marks) ticket ∷ []
 going_with (Err error) going = going
 
 -- An optimistic transaction begins: a ticket is opened, at whose instant it reads. Or nothing changes, for want of memory before.
@@ -136,7 +136,7 @@ without place going = take place going ++ drop (place + 1) going
 pub record CommitsOne (outcome : CommitOutcome Error) (place : ℕ) (tx : Tx) (old new : Live) : Type 0 where
   pub serves : Ends Serves old.kept old.engine tx outcome new.kept new.engine
   pub owes : Ends Owes old.kept old.engine tx outcome new.kept new.engine
-  pub steps : (t : Told) → StandFor old.engine old.kept t → ReadsOn old.engine t.state → CommitGoesOn old.engine t tx outcome new.engine new.kept
+  pub steps : (t : CoreState) → StandFor old.engine old.kept t → ReadsOn old.engine t.state → CommitGoesOn old.engine t tx outcome new.engine new.kept
   pub gone : new.going ≡ without place old.going
 
 -- What comes of a rollback, as the core's: its ticket is closed, and the transaction is open no more.
@@ -144,7 +144,7 @@ pub record RollsOneBack (result : Result Unit Error) (place : ℕ) (tx : Tx) (ol
   pub makes : Makes old.engine (OfTickets (Close tx.ticket.id)) (reply_of result) new.engine
   pub ok : OnOk result (new.kept ≡ record old.kept { commits = pruned old.kept.commits new.engine.memory.tickets.watermark })
   pub err : OnErr result (new.kept ≡ old.kept)
-  pub steps : (t : Told) → StandFor old.engine old.kept t → ReadsOn old.engine t.state
+  pub steps : (t : CoreState) → StandFor old.engine old.kept t → ReadsOn old.engine t.state
       → GoesOn old.engine t (OfTickets (Close tx.ticket.id)) (reply_of result) new.engine new.kept
   pub gone : new.going ≡ without place old.going
 

@@ -5,8 +5,8 @@ ghost use Rattle.std.specs.Str.{IsUtf8};
 ghost use Rattle.fjall_c.specs.Answers.{Copies, IsNameOf, IsRefusalOf, PutsId, answer_of, mode_at, outcome_number};
 
 use fjall_base::{CompressionType, Error, JournalRecoveryError, Result, StorageError};
+use fjall_core::{CommitOutcome, Ticket};
 use fjall_journal::PersistMode;
-use fjall_transactions::{CommitOutcome, Ticket};
 use std::io::ErrorKind;
 use std::str;
 

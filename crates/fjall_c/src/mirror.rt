@@ -1,7 +1,7 @@
 //! A disk in memory, whose caller carries out what the disk took: a log keeps each change until it is handed out.
 
 ghost use Rattle.std.specs.Prelude.{◌≡◌, true, IsFalse};
-ghost use Rattle.fjall_memory.specs.MemoryDisk.{meaning_in};
+ghost use Rattle.fjall_disk_memory.specs.MemoryDisk.{meaning_in};
 
 pub(crate) mod change;
 pub(crate) mod log;
@@ -9,7 +9,7 @@ pub(crate) mod log;
 use crate::mirror::change::{Change, ChangeKind};
 use crate::mirror::log::Log;
 use fjall_base::{DirEntry, Disk, Result};
-use fjall_memory::MemoryDisk;
+use fjall_disk_memory::MemoryDisk;
 use std::alloc::Global;
 
 /// A disk in memory, whose log keeps each change that it took until its owner has it.

@@ -10,7 +10,7 @@ use crate::handle::Database;
 use crate::pack::pack_pairs;
 use crate::ranges::range_of;
 use fjall_base::{KvPair, Result, UserValue};
-use fjall_transactions::{Ticket, View};
+use fjall_core::{Ticket, View};
 use std::alloc::Global;
 
 /// Whether a key has a value, and how many bytes it has.

@@ -19,8 +19,8 @@ use crate::mirror::log::Log;
 use crate::session::opening::{opened_over, put_synced};
 use crate::session::place::Place;
 use fjall_base::{Disk, Error, Result};
+use fjall_disk_memory::MemoryDisk;
 use fjall_journal::BatchItem;
-use fjall_memory::MemoryDisk;
 use std::alloc::Global;
 use std::mem;
 

@@ -15,9 +15,9 @@ use Rattle.fjall_history.specs.declared.reply.Reply.TheVariants.{Done, Refused, 
 use Rattle.fjall_machine.specs.Machine.{State}
 use Rattle.fjall_machine.specs.Shapes.{shape_of}
 use Rattle.fjall_machine.specs.declared.call.Call.{Call}
-use Rattle.fjall_transactions.specs.Holding.{Held}
-use Rattle.fjall_transactions.specs.CoreStanding.{Owes, Serves, reply_of, value_reply}
-use Rattle.fjall_transactions.specs.Transactions.{Tx, having_read, replace_refusal, replacing, with_own}
+use Rattle.fjall_core.specs.Holding.{Held}
+use Rattle.fjall_core.specs.CoreStanding.{Owes, Serves, reply_of, value_reply}
+use Rattle.fjall_core.specs.Transactions.{Tx, having_read, replace_refusal, replacing, with_own}
 use Rattle.fjall_calls.specs.Acting.{AnswersWithin, AsksFor, AsksNothing, Gets, IsNotUpdated, IsUnread, IsUnwritable, MayRunOut, Persists, RunsOut, Updates, Writes, call_for, query_of, update_of, update_reply}
 use Rattle.fjall_calls.specs.declared.call.Within.{Within}
 use Rattle.fjall_calls.specs.declared.call.Within.TheVariants as within

@@ -19,7 +19,7 @@ use Rattle.fjall_history.specs.declared.ticket.Ticket.{Ticket}
 use Rattle.fjall_history.specs.declared.ticket.View.TheVariants.{At}
 use Rattle.fjall_history.proofs.Resting.{key_itself, range_itself}
 use Rattle.fjall_machine.specs.Machine.{State, maps_in}
-use Rattle.fjall_transactions.specs.Transactions.{Tx, having_read, replacing, with_own}
+use Rattle.fjall_core.specs.Transactions.{Tx, having_read, replacing, with_own}
 use Rattle.fjall_calls.specs.declared.call.Within.{Within}
 use Rattle.fjall_calls.specs.declared.call.Within.TheVariants as within
 use Rattle.fjall_calls.specs.Acting.{AnswersWithin, Gets, IsNotUpdated, IsUnread, IsUnwritable, Pages, Persists, RunsOut, Updates, Writes, heard_by, seen_by, update_of, update_reply}

@@ -13,16 +13,16 @@ use Rattle.fjall_machine.specs.Machine.{State}
 use Rattle.fjall_machine.specs.Shapes.{OfTickets, Open, shape_of}
 use Rattle.fjall_machine.specs.declared.call.Call.{Call}
 use Rattle.fjall_machine.specs.declared.call.Call.TheVariants.{Snapshot}
-use Rattle.fjall_transactions.specs.Holding.{Held}
-use Rattle.fjall_transactions.specs.Jobs.{KeepsJobs}
-use Rattle.fjall_transactions.specs.CoreStanding.{Owes, Serves, StandsFor}
-use Rattle.fjall_transactions.specs.Commits.{begun_reply}
-use Rattle.fjall_transactions.specs.Standing.{StandFor, Told, gone_on}
-use Rattle.fjall_transactions.specs.Transactions.{Kept, Tx, begun}
-use Rattle.fjall_transactions.proofs.Standing.{served_stands, shape_stands}
+use Rattle.fjall_core.specs.Holding.{Held}
+use Rattle.fjall_core.specs.Jobs.{KeepsJobs}
+use Rattle.fjall_core.specs.CoreStanding.{Owes, Serves, StandsFor}
+use Rattle.fjall_core.specs.Commits.{begun_reply}
+use Rattle.fjall_core.specs.Standing.{StandFor, CoreState, gone_on}
+use Rattle.fjall_core.specs.Transactions.{Kept, Tx, transaction_begun}
+use Rattle.fjall_core.proofs.Standing.{served_stands, shape_stands}
 use Rattle.fjall_calls.specs.Acting.{Acts, AsksCore, AsksFor, AsksNothing, call_for}
 use Rattle.fjall_calls.specs.Names.{Takes, is_wanted}
-use Rattle.fjall_calls.specs.Steps.{IsBegun, IsHeldBack, IsNotBegun, IsUnknown, IsWithin, first_marks, gone_by, name_in, with_begun, writer_after}
+use Rattle.fjall_calls.specs.Steps.{IsBegun, IsHeldBack, IsNotBegun, IsUnknown, IsWithin, first_marks, gone_by, transaction_named, with_begun, writer_after}
 use Rattle.fjall_calls.specs.Worlds.{Going, along}
 use Rattle.fjall_calls.specs.declared.call.Kind.{Kind}
 use Rattle.fjall_calls.specs.declared.call.Kind.TheVariants.{Optimistic, Single}
@@ -69,7 +69,7 @@ not_begun honest core left kept listed before kind error free serves owes = reco
 pub begun_so : (honest : Bool) (core left : Held) (kept : Kept) (listed : List Named) (before : List Reply) (kind : Kind) (place : ℕ) (ticket : Ticket) → may_begin core kept kind ≡ true → place ≡ length before
     → (IsTrue honest → Serves core (OfTickets Open) (Opened ticket) left) → Owes core (OfTickets Open) (Opened ticket) left
     → ServesTx honest core kept listed before (calls.Begin kind) Done left (record kept { writer = writer_after kind ticket kept.writer })
-    (listed ++ record { place = place; transaction = begun (first_marks kind) ticket } ∷ [])
+    (listed ++ record { place = place; transaction = transaction_begun (first_marks kind) ticket } ∷ [])
 begun_so honest core left kept listed before kind place ticket free at serves owes = record {
   made = Snapshot ∷ [];
   told = Opened ticket ∷ [];
@@ -78,13 +78,13 @@ begun_so honest core left kept listed before kind place ticket free at serves ow
   steps = λ h w stands reads.
       let (s, stay, on, step) = served_stands core left kept w.told (OfTickets Open) (Opened ticket) stands.told reads (serves h) in
       let after = record kept { writer = writer_after kind ticket kept.writer } in
-      let first : Going = record { named = record { place = length before; transaction = begun (first_marks kind) ticket }; heard = [] } in (
+      let first : Going = record { named = record { place = length before; transaction = transaction_begun (first_marks kind) ticket }; heard = [] } in (
         with_begun (along w s) kind (length before) ticket,
         record {
           told = other_writer left kept after (gone_on w.told s) refl stay;
           writer = ap (writer_after kind ticket) stands.writer;
           going = map-append (λ (g : Going). g.named) w.going (first ∷ []) ∙ ap (λ (l : List Named). l ++ first.named ∷ []) stands.going
-              ∙ ap (λ (n : ℕ). listed ++ record { place = n; transaction = begun (first_marks kind) ticket } ∷ []) (sym at);
+              ∙ ap (λ (n : ℕ). listed ++ record { place = n; transaction = transaction_begun (first_marks kind) ticket } ∷ []) (sym at);
         },
         on,
         IsBegun kind (same_beginning core kept listed w kind stands ∙ free) ticket s step,
@@ -94,7 +94,7 @@ begun_so honest core left kept listed before kind place ticket free at serves ow
 -- ---- names
 
 -- a name of no open transaction of its kind
-pub unknown : (honest : Bool) (core : Held) (kept : Kept) (listed rest : List Named) (before : List Reply) (call : TxCall) (name : ℕ) (kind : Option Kind) → name_in call ≡ Some (name, kind) → IsReplyToCall call (Refused SnapshotClosed)
+pub unknown : (honest : Bool) (core : Held) (kept : Kept) (listed rest : List Named) (before : List Reply) (call : TxCall) (name : ℕ) (kind : Option Kind) → transaction_named call ≡ Some (name, kind) → IsReplyToCall call (Refused SnapshotClosed)
     → Takes (is_wanted core.memory.tickets name kind) listed None rest → ServesTx honest core kept listed before call (Refused SnapshotClosed) core kept rest
 unknown honest core kept listed rest before call name kind is fits takes = record {
   made = [];
@@ -112,10 +112,10 @@ unknown honest core kept listed rest before call name kind is fits takes = recor
 -- ---- within
 
 -- what was asked leaves the core where it stands for what is told
-asked_stands : (core left : Held) (kept : Kept) (t : Told) (tx : Tx) (call : Within) (made : List Call) (told : List Reply) (s : State) → StandFor core kept t → StandsFor left s → ServesAll core made told left
+asked_stands : (core left : Held) (kept : Kept) (t : CoreState) (tx : Tx) (call : Within) (made : List Call) (told : List Reply) (s : State) → StandFor core kept t → StandsFor left s → ServesAll core made told left
     → AsksCore t.state tx call made told s → StandFor left kept (gone_on t s)
 asked_stands core left kept t tx call _ _ _ stands is same AsksNothing =
-    subst (λ (u : Told). StandFor left kept u) (sym (same_state t)) (subst (λ (h : Held). StandFor h kept t) (sym same) stands)
+    subst (λ (u : CoreState). StandFor left kept u) (sym (same_state t)) (subst (λ (h : Held). StandFor h kept t) (sym same) stands)
 asked_stands core left kept t tx call _ _ _ stands is all (AsksFor id query q reply s step) = shape_stands core left kept t s (shape_of (call_for tx id query)) reply stands step is
 
 pub acts_so : (honest : Bool) (core left : Held) (kept : Kept) (listed rest : List Named) (before : List Reply) (name : ℕ) (call : Within) (named : Named) (reply : Reply) (after : Tx)
@@ -153,12 +153,12 @@ module _ (honest : Bool) (core left : Held) (kept after : Kept) (listed : List N
     (due : may_begin core kept kind ≡ false → (result ≡ Err TransactionOpen) × (left ≡ core))
     (serves : may_begin core kept kind ≡ true → IsTrue honest → Serves core (OfTickets Open) (begun_reply result) left)
     (owes : may_begin core kept kind ≡ true → Owes core (OfTickets Open) (begun_reply result) left) where
-  pub begin_ok : (place : ℕ) (tx : Tx) (rest : List Named) → result ≡ Ok tx → IfOk result (λ t. (t ≡ begun (first_marks kind) t.ticket) × (after ≡ record kept { writer = writer_after kind t.ticket kept.writer }))
+  pub begin_ok : (place : ℕ) (tx : Tx) (rest : List Named) → result ≡ Ok tx → IfOk result (λ t. (t ≡ transaction_begun (first_marks kind) t.ticket) × (after ≡ record kept { writer = writer_after kind t.ticket kept.writer }))
       → place ≡ length before → rest ≡ listed ++ record { place = place; transaction = tx } ∷ [] → ServesTx honest core kept listed before (calls.Begin kind) Done left after rest
   begin_ok place tx rest is all at pushed = by (may_begin core kept kind) refl
     where
-      both : (tx ≡ begun (first_marks kind) tx.ticket) × (after ≡ record kept { writer = writer_after kind tx.ticket kept.writer })
-      both = subst (λ (r : Result Tx Error). IfOk r (λ t. (t ≡ begun (first_marks kind) t.ticket) × (after ≡ record kept { writer = writer_after kind t.ticket kept.writer }))) is all
+      both : (tx ≡ transaction_begun (first_marks kind) tx.ticket) × (after ≡ record kept { writer = writer_after kind tx.ticket kept.writer })
+      both = subst (λ (r : Result Tx Error). IfOk r (λ t. (t ≡ transaction_begun (first_marks kind) t.ticket) × (after ≡ record kept { writer = writer_after kind t.ticket kept.writer }))) is all
 
       by : (b : Bool) → may_begin core kept kind ≡ b → ServesTx honest core kept listed before (calls.Begin kind) Done left after rest
       by false held = let bad : Err TransactionOpen ≡ Ok tx = sym (due held).0 ∙ is in absurd cc

@@ -2,16 +2,16 @@
 use Rattle.std.proofs.Common.{◌≡◌, Bool, List, [], ◌∷◌, ◌++◌, refl, sym, subst, append_assoc, ap, length, suc}
 use Rattle.std.proofs.lemmas.List.{append-nil}
 use Rattle.fjall_history.specs.declared.reply.Reply.{Reply}
-use Rattle.fjall_transactions.specs.CoreJob.{Job}
+use Rattle.fjall_core.specs.CoreJob.{Job}
 use Rattle.fjall_machine.specs.Machine.{State}
 use Rattle.fjall_machine.specs.Shapes.{shape_of}
 use Rattle.fjall_machine.specs.declared.call.Call.{Call}
-use Rattle.fjall_transactions.specs.Durables.{Durable}
-use Rattle.fjall_transactions.specs.Holding.{Held}
-use Rattle.fjall_transactions.specs.Jobs.{KnowsMerges}
-use Rattle.fjall_transactions.specs.CoreStanding.{OwesAll}
-use Rattle.fjall_transactions.proofs.KeptMerges.{merges_stay, serves_where}
-use Rattle.fjall_transactions.proofs.RunsOverCrashes.{RunsKnown, SoFar, one_more, runs_push}
+use Rattle.fjall_core.specs.Durables.{Durable}
+use Rattle.fjall_core.specs.Holding.{Held}
+use Rattle.fjall_core.specs.Jobs.{KnowsMerges}
+use Rattle.fjall_core.specs.CoreStanding.{OwesAll}
+use Rattle.fjall_core.proofs.KeptMerges.{merges_stay, serves_where}
+use Rattle.fjall_core.proofs.RunsOverCrashes.{RunsKnown, SoFar, one_more, runs_push}
 use Rattle.fjall_calls.specs.Serving.{MakesCoreCalls, MakesKept, ServesAll, ServesKept}
 
 -- served behind a run that may crash

@@ -17,10 +17,10 @@ use Rattle.fjall_history.proofs.Maps.{none_left}
 use Rattle.fjall_machine.specs.Shapes.{ByMode, Close, OfChange, OfTickets, Persistence}
 use Rattle.fjall_machine.specs.Machine.{MayFail, Refuses, State, StepOf, accepted, due, times}
 use Rattle.fjall_machine.proofs.Moving.{shape_moves}
-use Rattle.fjall_transactions.specs.Commits.{change_of}
-use Rattle.fjall_transactions.specs.Standing.{CommitStep, IsCommitted, IsGone, IsIdle, IsMet, IsRefused, Told, accepted_of}
-use Rattle.fjall_transactions.specs.Transactions.{Tx}
-use Rattle.fjall_transactions.proofs.Items.{some_items}
+use Rattle.fjall_core.specs.Commits.{change_of}
+use Rattle.fjall_core.specs.Standing.{CommitStep, IsCommitted, IsGone, IsIdle, IsMet, IsRefused, CoreState, accepted_of}
+use Rattle.fjall_core.specs.Transactions.{Tx}
+use Rattle.fjall_core.proofs.Items.{some_items}
 use Rattle.fjall_calls.proofs.Following.{GoesOn, IsSound, goes_nowhere, goes_on, goes_on_still}
 use Rattle.fjall_calls.proofs.Lists.{stands_last}
 
@@ -73,7 +73,7 @@ closing_closes s t id closes =
 -- ---- a commit
 
 -- what is told goes on
-pub commit_goes_on : (old new : Told) (tx : Tx) (outcome : CommitOutcome Error) → IsSound old → CommitStep old tx outcome new → GoesOn old new
+pub commit_goes_on : (old new : CoreState) (tx : Tx) (outcome : CommitOutcome Error) → IsSound old → CommitStep old tx outcome new → GoesOn old new
 commit_goes_on old new tx outcome sound (IsGone none told same) = subst (GoesOn old) (sym same) (goes_nowhere old sound)
 commit_goes_on old new tx outcome sound (IsIdle instant opened none told closes same) =
     goes_on_still old new sound (closing_moves old.state new.state tx.ticket.id closes) (closing_history old.state new.state tx.ticket.id closes) same
@@ -93,8 +93,8 @@ commit_goes_on old new tx outcome sound (IsCommitted instant opened some apart t
     refl
 
 -- whatever comes of it, its ticket is open no more
-pub commit_closes : (old new : Told) (tx : Tx) (outcome : CommitOutcome Error) → CommitStep old tx outcome new → get new.state.tickets.instants tx.ticket.id ≡ None
-commit_closes old new tx outcome (IsGone none told same) = ap (λ (t : Told). get t.state.tickets.instants tx.ticket.id) same ∙ none
+pub commit_closes : (old new : CoreState) (tx : Tx) (outcome : CommitOutcome Error) → CommitStep old tx outcome new → get new.state.tickets.instants tx.ticket.id ≡ None
+commit_closes old new tx outcome (IsGone none told same) = ap (λ (t : CoreState). get t.state.tickets.instants tx.ticket.id) same ∙ none
 commit_closes old new tx outcome (IsIdle instant opened none told closes same) = closing_closes old.state new.state tx.ticket.id closes
 commit_closes old new tx outcome (IsMet instant opened some meets told closes same) = closing_closes old.state new.state tx.ticket.id closes
 commit_closes old new tx outcome (IsRefused instant opened some apart error told mid refused closes same) = closing_closes mid new.state tx.ticket.id closes
@@ -104,10 +104,10 @@ not_longer : (old new : List Accepted) → new ≡ old → length old < length n
 not_longer old new same longer = let n = ap length same in omega (arith, n, longer)
 
 -- where something was accepted, it is the transaction's command
-pub commit_stands_last : (old new : Told) (tx : Tx) (outcome : CommitOutcome Error) → ((instant : ℕ) → get old.state.tickets.instants tx.ticket.id ≡ Some instant → instant ≡ tx.ticket.instant)
+pub commit_stands_last : (old new : CoreState) (tx : Tx) (outcome : CommitOutcome Error) → ((instant : ℕ) → get old.state.tickets.instants tx.ticket.id ≡ Some instant → instant ≡ tx.ticket.instant)
     → CommitStep old tx outcome new → length old.accepted < length new.accepted
     → slice_get new.accepted (length old.accepted) ≡ Some (accepted_of tx.ticket.instant tx.marks (items_of tx.own))
-commit_stands_last old new tx outcome reads (IsGone none told same) longer = absurd (not_longer old.accepted new.accepted (ap (λ (t : Told). t.accepted) same) longer)
+commit_stands_last old new tx outcome reads (IsGone none told same) longer = absurd (not_longer old.accepted new.accepted (ap (λ (t : CoreState). t.accepted) same) longer)
 commit_stands_last old new tx outcome reads (IsIdle instant opened none told closes same) longer = absurd (not_longer old.accepted new.accepted same longer)
 commit_stands_last old new tx outcome reads (IsMet instant opened some meets told closes same) longer = absurd (not_longer old.accepted new.accepted same longer)
 commit_stands_last old new tx outcome reads (IsRefused instant opened some apart error told mid refused closes same) longer = absurd (not_longer old.accepted new.accepted same longer)

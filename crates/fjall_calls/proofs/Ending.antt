@@ -19,15 +19,15 @@ use Rattle.fjall_machine.specs.Machine.{Step}
 use Rattle.fjall_machine.specs.Shapes.{ByMode, CallShape, Close, OfChange, OfTickets, Persistence, shape_of}
 use Rattle.fjall_machine.specs.declared.call.Call.{Call}
 use Rattle.fjall_machine.specs.declared.call.Call.TheVariants.{CloseSnapshot, CommitBatch}
-use Rattle.fjall_transactions.specs.Holding.{Held}
-use Rattle.fjall_transactions.specs.CoreStanding.{Owes, ReadsOn, Serves, held_due, reply_of}
-use Rattle.fjall_transactions.proofs.ServedCalls.{RunsOut}
-use Rattle.fjall_transactions.specs.Commits.{Comes, Commits, Ends, Fails, Gone, Idle, Lets, Meets, change_of}
-use Rattle.fjall_transactions.specs.Standing.{CommitStep, StandFor, Told, gone_on}
-use Rattle.fjall_transactions.specs.Transactions.{Kept, Tx}
-use Rattle.fjall_transactions.proofs.Ending.{pruned_stands}
-use Rattle.fjall_transactions.proofs.Items.{some_items}
-use Rattle.fjall_transactions.proofs.Standing.{served_stands}
+use Rattle.fjall_core.specs.Holding.{Held}
+use Rattle.fjall_core.specs.CoreStanding.{Owes, ReadsOn, Serves, held_due, reply_of}
+use Rattle.fjall_core.proofs.ServedCalls.{RunsOut}
+use Rattle.fjall_core.specs.Commits.{Comes, Commits, Ends, Fails, Gone, Idle, Lets, Meets, change_of}
+use Rattle.fjall_core.specs.Standing.{CommitStep, StandFor, CoreState, gone_on}
+use Rattle.fjall_core.specs.Transactions.{Kept, Tx}
+use Rattle.fjall_core.proofs.Ending.{pruned_stands}
+use Rattle.fjall_core.proofs.Items.{some_items}
+use Rattle.fjall_core.proofs.Standing.{served_stands}
 use Rattle.fjall_calls.specs.Names.{Takes, is_wanted}
 use Rattle.fjall_calls.specs.Steps.{IsEnded, IsRolledBack, gone_with, reply_to}
 use Rattle.fjall_calls.specs.Steps as steps
@@ -101,7 +101,7 @@ two_made honest core left first second reply told serves (mid, owes, more) = rec
 module _ (honest : Bool) (core left : Held) (kept after : Kept) (listed rest : List Named) (before : List Reply) (kind : Kind) (name : ℕ) (named : Named) (takes : Takes (is_wanted core.memory.tickets name (Some kind)) listed (Some named) rest) (writer : after.writer ≡ kept.writer) where
   -- the steps of a commit whose calls of the core are these
   ended : (outcome : CommitOutcome Error) (made : List Call) (told : List Reply) → MakesCoreCalls honest core made told left → steps.Commits named.transaction outcome made told
-      → (IsTrue honest → (t : Told) → StandFor core kept t → ReadsOn core t.state → (new : Told) × StandFor left after new × ReadsOn left new.state × CommitStep t named.transaction outcome new)
+      → (IsTrue honest → (t : CoreState) → StandFor core kept t → ReadsOn core t.state → (new : CoreState) × StandFor left after new × ReadsOn left new.state × CommitStep t named.transaction outcome new)
       → IsReplyToCall (calls.Commit kind name) (reply_to outcome)
       → ServesTx honest core kept listed before (calls.Commit kind name) (reply_to outcome) left after rest
   ended outcome made told makes commits goes fits = record {
@@ -123,7 +123,7 @@ module _ (honest : Bool) (core left : Held) (kept after : Kept) (listed rest : L
 
   pub commit_serves : (items : Vec BatchItem Global) → items.items ≡ items_of named.transaction.own → (outcome : CommitOutcome Error)
       → (IsTrue honest → Chain Serves core named.transaction outcome left) → Chain Owes core named.transaction outcome left
-      → (IsTrue honest → (t : Told) → StandFor core kept t → ReadsOn core t.state → (new : Told) × StandFor left after new × ReadsOn left new.state × CommitStep t named.transaction outcome new)
+      → (IsTrue honest → (t : CoreState) → StandFor core kept t → ReadsOn core t.state → (new : CoreState) × StandFor left after new × ReadsOn left new.state × CommitStep t named.transaction outcome new)
       → ServesTx honest core kept listed before (calls.Commit kind name) (reply_to outcome) left after rest
   commit_serves items are outcomes.Ok serves (inl (none, closes)) goes =
       let tx = named.transaction in
@@ -196,7 +196,7 @@ rollback_serves honest core left kept after listed rest before name named result
     fits (Ok u) = tt
     fits (Err error) = tt
 
-    kept_after : (r : Result Unit Error) → OnOk r (after ≡ record kept { commits = pruned kept.commits left.memory.tickets.watermark }) → OnErr r (after ≡ kept) → (t : Told) → StandFor left kept t
+    kept_after : (r : Result Unit Error) → OnOk r (after ≡ record kept { commits = pruned kept.commits left.memory.tickets.watermark }) → OnErr r (after ≡ kept) → (t : CoreState) → StandFor left kept t
         → StandFor left after t × (after.writer ≡ kept.writer)
     kept_after (Ok u) is none t stands = (subst (λ (k : Kept). StandFor left k t) (sym is) (pruned_stands left kept t stands), ap (λ (k : Kept). k.writer) is)
     kept_after (Err error) none is t stands = (subst (λ (k : Kept). StandFor left k t) (sym is) stands, ap (λ (k : Kept). k.writer) is)

@@ -10,22 +10,22 @@ use Rattle.fjall_history.specs.Tickets.{Tickets, collected, counted}
 use Rattle.fjall_history.proofs.Moving.{history_grows, sound_moves, was_open_before}
 use Rattle.fjall_history.proofs.Views.{commands_append, same_grown}
 use Rattle.fjall_machine.specs.Machine.{State, times}
-use Rattle.fjall_transactions.specs.Standing.{Told, gone_on, history_of}
+use Rattle.fjall_core.specs.Standing.{CoreState, gone_on, history_of}
 
 -- What is told goes on: the history has more behind what it had, ids of tickets are given out upwards, and a ticket that was closed
 -- stays closed.
-pub record Follows (old new : Told) : Type 0 where
+pub record Follows (old new : CoreState) : Type 0 where
   pub grown : HasGrown (history_of old) (history_of new)
   pub given : old.state.tickets.next ≤ new.state.tickets.next
   pub was_open : (id instant : ℕ) → id < old.state.tickets.next → get new.state.tickets.instants id ≡ Some instant → get old.state.tickets.instants id ≡ Some instant
 
 -- The commands that are told are those of the state's history, whose tickets are sound.
-pub record IsSound (t : Told) : Type 0 where
+pub record IsSound (t : CoreState) : Type 0 where
   pub same : commands_of t.accepted ≡ commands_of t.state.history.accepted
   pub sound : AreSound (times t.state)
 
 -- both, as what is told goes on
-pub record GoesOn (old new : Told) : Type 0 where
+pub record GoesOn (old new : CoreState) : Type 0 where
   pub follows : Follows old new
   pub sound : IsSound new
 
@@ -55,18 +55,18 @@ given_up old new (OneMove a mid b move rest) = let x = given_once old mid move i
 
 -- ---- one behind another
 
-pub follows_itself : (t : Told) → Follows t t
+pub follows_itself : (t : CoreState) → Follows t t
 follows_itself t = record { grown = same_grown (history_of t); given = omega arith; was_open = λ id instant lt is. is }
 
 -- ---- moves
 
 -- the history as it is told, with more
-told_as : (old new : Told) (more later : List Accepted) → new.state.history ≡ extended old.state.history more → new.accepted ≡ old.accepted ++ later
+told_as : (old new : CoreState) (more later : List Accepted) → new.state.history ≡ extended old.state.history more → new.accepted ≡ old.accepted ++ later
     → history_of new ≡ extended (history_of old) later
 told_as old new more later e grown =
     ap (λ (h : History). record h { accepted = new.accepted }) e ∙ ap (λ (l : List Accepted). record old.state.history { accepted = l }) grown
 
-commands_as : (old new : Told) (more later : List Accepted) → IsSound old → new.state.history ≡ extended old.state.history more → new.accepted ≡ old.accepted ++ later
+commands_as : (old new : CoreState) (more later : List Accepted) → IsSound old → new.state.history ≡ extended old.state.history more → new.accepted ≡ old.accepted ++ later
     → commands_of later ≡ commands_of more → commands_of new.accepted ≡ commands_of new.state.history.accepted
 commands_as old new more later sound e grown alike =
     ap commands_of grown
@@ -77,7 +77,7 @@ commands_as old new more later sound e grown alike =
     ∙ sym (ap (λ (h : History). commands_of h.accepted) e)
 
 -- moves of the state, where what is told grows by the same commands
-pub goes_on : (old new : Told) (more later : List Accepted) → IsSound old → MovesOn (times old.state) (times new.state) → new.state.history ≡ extended old.state.history more
+pub goes_on : (old new : CoreState) (more later : List Accepted) → IsSound old → MovesOn (times old.state) (times new.state) → new.state.history ≡ extended old.state.history more
     → new.accepted ≡ old.accepted ++ later → commands_of later ≡ commands_of more → GoesOn old new
 goes_on old new more later sound moves e grown alike = record {
   follows = record {
@@ -92,11 +92,11 @@ goes_on old new more later sound moves e grown alike = record {
 }
 
 -- moves that accept nothing
-pub goes_on_still : (old new : Told) → IsSound old → MovesOn (times old.state) (times new.state) → new.state.history ≡ old.state.history → new.accepted ≡ old.accepted → GoesOn old new
+pub goes_on_still : (old new : CoreState) → IsSound old → MovesOn (times old.state) (times new.state) → new.state.history ≡ old.state.history → new.accepted ≡ old.accepted → GoesOn old new
 goes_on_still old new sound moves e same =
     goes_on old new [] [] sound moves (e ∙ (λ i. record old.state.history { accepted = sym (append-nil old.state.history.accepted) i })) (same ∙ sym (append-nil old.accepted)) refl
 
-pub goes_nowhere : (t : Told) → IsSound t → GoesOn t t
+pub goes_nowhere : (t : CoreState) → IsSound t → GoesOn t t
 goes_nowhere t sound = record { follows = follows_itself t; sound = sound }
 
 plain_commands : (commands : List Command) → commands_of (map plain commands) ≡ commands
@@ -104,7 +104,7 @@ plain_commands [] = refl
 plain_commands (command ∷ commands) = ap (λ l. command ∷ l) (plain_commands commands)
 
 -- a call of the core
-pub goes_along : (t : Told) (s : State) → IsSound t → Moves (times t.state) (times s) → GoesOn t (gone_on t s)
+pub goes_along : (t : CoreState) (s : State) → IsSound t → Moves (times t.state) (times s) → GoesOn t (gone_on t s)
 goes_along t s sound move =
     let moves : MovesOn (times t.state) (times s) = OneMove (times t.state) (times s) (times s) move (NoMove (times s)) in
     let (more, e) = history_grows (times t.state) (times s) moves in
@@ -115,12 +115,12 @@ goes_along t s sound move =
 -- ---- numbers and views
 
 -- the number of the history as it is told
-pub told_number : (t : Told) → IsSound t → number (history_of t) ≡ number t.state.history
+pub told_number : (t : CoreState) → IsSound t → number (history_of t) ≡ number t.state.history
 told_number t sound =
     ap (λ n. t.state.history.base + n) (sym (length-map t.accepted command_of) ∙ ap length sound.same ∙ length-map t.state.history.accepted command_of)
 
 -- and its views
-pub told_view : (t : Told) → IsSound t → (instant : ℕ) → view (history_of t) instant ≡ view t.state.history instant
+pub told_view : (t : CoreState) → IsSound t → (instant : ℕ) → view (history_of t) instant ≡ view t.state.history instant
 told_view t sound instant =
     ap (fold t.state.history.opened)
     (sym (take-map command_of (instant - t.state.history.base) t.accepted)

@@ -4,13 +4,13 @@ use Rattle.std.specs.List.{slice_get}
 use Rattle.fjall_history.specs.declared.job.JobId.{JobId}
 use Rattle.fjall_history.specs.declared.reply.Reply.{Reply}
 use Rattle.fjall_history.specs.declared.reply.Reply.TheVariants.{Began}
-use Rattle.fjall_transactions.specs.CoreJob.{Job}
+use Rattle.fjall_core.specs.CoreJob.{Job}
 use Rattle.fjall_machine.specs.Remembered.{Remembered}
 use Rattle.fjall_machine.specs.Shapes.{CallShape}
-use Rattle.fjall_transactions.specs.Holding.{Held}
-use Rattle.fjall_transactions.specs.Jobs.{IsPlain, KeepsJobs}
-use Rattle.fjall_transactions.specs.CoreStanding.{Owes}
-use Rattle.fjall_transactions.proofs.KeptJobs.{keeps_on, plain_begins}
+use Rattle.fjall_core.specs.Holding.{Held}
+use Rattle.fjall_core.specs.Jobs.{IsPlain, KeepsJobs}
+use Rattle.fjall_core.specs.CoreStanding.{Owes}
+use Rattle.fjall_core.proofs.KeptJobs.{keeps_on, plain_begins}
 use Rattle.fjall_calls.specs.Serving.{KeepsOn}
 
 -- what a list has at a place, a longer one has

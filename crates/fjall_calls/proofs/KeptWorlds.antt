@@ -25,14 +25,14 @@ use Rattle.fjall_machine.specs.Places.{resolved}
 use Rattle.fjall_machine.specs.declared.call.Call.{Call}
 use Rattle.fjall_machine.specs.declared.call.Call.TheVariants.{CloseSnapshot, Snapshot}
 use Rattle.fjall_machine.proofs.Moving.{step_moves}
-use Rattle.fjall_transactions.specs.Transactions.{Tx, begun}
-use Rattle.fjall_transactions.specs.Standing.{CommitStep, Told, accepted_of, gone_on, history_of}
+use Rattle.fjall_core.specs.Transactions.{Tx, transaction_begun}
+use Rattle.fjall_core.specs.Standing.{CommitStep, CoreState, accepted_of, gone_on, history_of}
 use Rattle.fjall_calls.specs.declared.call.Kind.{Kind}
 use Rattle.fjall_calls.specs.declared.call.TxCall.{TxCall}
 use Rattle.fjall_calls.specs.declared.call.Within.{Within}
 use Rattle.fjall_calls.specs.Acting.{Acts, AsksCore, AsksFor, AsksNothing, call_for, heard_by}
 use Rattle.fjall_calls.specs.Names.{Takes, is_of_kind}
-use Rattle.fjall_calls.specs.Steps.{IsBegun, IsEnded, IsHeldBack, IsNotBegun, IsRolledBack, IsUnknown, IsWithin, NoCall, OfCore, OneCall, TxRun, TxStep, first_marks, gone_by, gone_with, has_name}
+use Rattle.fjall_calls.specs.Steps.{IsBegun, IsEnded, IsHeldBack, IsNotBegun, IsRolledBack, IsUnknown, IsWithin, NoCall, OfCore, OneCall, TxRun, TxStep, first_marks, gone_by, gone_with, is_transaction_named}
 use Rattle.fjall_calls.specs.Worlds.{Going, Gone, Heard, World, along}
 use Rattle.fjall_calls.specs.Hearing.{IsOfView, StandsIn, tx_of}
 use Rattle.fjall_calls.proofs.Answering.{heard_of_view, kept_of_views}
@@ -43,14 +43,14 @@ use Rattle.fjall_calls.proofs.Marking.{Keeps, keeps_answered}
 
 -- A transaction that is open in the list: its ticket was given out, and reads, where it is open, at the instant that it says, which is
 -- one of the history; and what it heard is of its view.
-pub record IsKnown (t : Told) (g : Going) : Type 0 where
+pub record IsKnown (t : CoreState) (g : Going) : Type 0 where
   pub given : (tx_of g).ticket.id < t.state.tickets.next
   pub within : (tx_of g).ticket.instant ≤ number (history_of t)
   pub reads : (instant : ℕ) → get t.state.tickets.instants (tx_of g).ticket.id ≡ Some instant → instant ≡ (tx_of g).ticket.instant
   pub heard : All (IsOfView (history_of t) (tx_of g)) g.heard
 
 -- One that committed stands in the history, and its instant is one of it.
-pub record HasCommitted (t : Told) (g : Gone) : Type 0 where
+pub record HasCommitted (t : CoreState) (g : Gone) : Type 0 where
   pub within : (tx_of g.was).ticket.instant ≤ number (history_of t)
   pub stands : StandsIn (history_of t) g
 
@@ -71,7 +71,7 @@ viewed_on old new tx same heard all =
       marked = of.marked;
     }) heard all
 
-known_on : (old new : Told) → Follows old new → (g : Going) → IsKnown old g → IsKnown new g
+known_on : (old new : CoreState) → Follows old new → (g : Going) → IsKnown old g → IsKnown new g
 known_on old new follows g known =
     let tx = tx_of g in
     let lt = known.given in
@@ -85,7 +85,7 @@ known_on old new follows g known =
       heard = viewed_on (history_of old) (history_of new) tx (view_grown (history_of old) (history_of new) tx.ticket.instant follows.grown le) g.heard known.heard;
     }
 
-committed_on : (old new : Told) → Follows old new → (g : Gone) → HasCommitted old g → HasCommitted new g
+committed_on : (old new : CoreState) → Follows old new → (g : Gone) → HasCommitted old g → HasCommitted new g
 committed_on old new follows g committed =
     let tx = tx_of g.was in
     let le = committed.within in
@@ -99,10 +99,10 @@ committed_on old new follows g committed =
       };
     }
 
-pub all_known_on : (old new : Told) → Follows old new → (going : List Going) → All (IsKnown old) going → All (IsKnown new) going
+pub all_known_on : (old new : CoreState) → Follows old new → (going : List Going) → All (IsKnown old) going → All (IsKnown new) going
 all_known_on old new follows going all = All-weaker (IsKnown old) (IsKnown new) (known_on old new follows) going all
 
-pub all_committed_on : (old new : Told) → Follows old new → (gone : List Gone) → All (HasCommitted old) gone → All (HasCommitted new) gone
+pub all_committed_on : (old new : CoreState) → Follows old new → (gone : List Gone) → All (HasCommitted old) gone → All (HasCommitted new) gone
 all_committed_on old new follows gone all = All-weaker (HasCommitted old) (HasCommitted new) (committed_on old new follows) gone all
 
 -- ---- calls of the core
@@ -124,7 +124,7 @@ pub same_ticket : (ticket other : Ticket) → Opened ticket ≡ Opened other →
 same_ticket ticket other is = cc
 
 known_begun : (w : World) (s : State) (place : ℕ) (marks : Option Marks) (ticket : Ticket) → IsSound w.told → GoesOn w.told (gone_on w.told s) → Step w.told.state Snapshot (Opened ticket) s
-    → IsKnown (gone_on w.told s) (record { named = record { place = place; transaction = begun marks ticket }; heard = [] })
+    → IsKnown (gone_on w.told s) (record { named = record { place = place; transaction = transaction_begun marks ticket }; heard = [] })
 known_begun w s place marks ticket sound goes (none, ((told, opens), is)) =
     let old = w.told.state in
     let first : Ticket = record { id = old.tickets.next; instant = number old.history } in
@@ -141,7 +141,7 @@ known_begun w s place marks ticket sound goes (none, ((told, opens), is)) =
           (λ e. let now = e.1 in omega (arith, now, instant))
           (λ was. let lt = (sound.sound ticket.id at was).0 in absurd (omega (arith, lt, id)))
           (found_in old.tickets.instants old.tickets.next (number old.history) ticket.id at (ap (λ (k : Tickets). get k.instants ticket.id) (sym opens) ∙ there));
-      heard = All-nil (IsOfView (history_of (gone_on w.told s)) (begun marks ticket));
+      heard = All-nil (IsOfView (history_of (gone_on w.told s)) (transaction_begun marks ticket));
     }
 
 -- ---- within
@@ -159,16 +159,16 @@ both true b e = (refl, e)
 both false b e = absurd (true≢false (sym e))
 
 -- one that is found by its name is of its kind, and its ticket is open
-found_as : (w : World) (name : ℕ) (kind : Option Kind) (g : Going) → has_name w name kind g ≡ true → (is_of_kind kind (tx_of g) ≡ true) × (is_open w.told.state.tickets (tx_of g).ticket.id ≡ true)
+found_as : (w : World) (name : ℕ) (kind : Option Kind) (g : Going) → is_transaction_named w name kind g ≡ true → (is_of_kind kind (tx_of g) ≡ true) × (is_open w.told.state.tickets (tx_of g).ticket.id ≡ true)
 found_as w name kind g found =
     let of_kind = is_of_kind kind (tx_of g) in
     let there = is_open w.told.state.tickets (tx_of g).ticket.id in
     both of_kind there (both (g.named.place == name) (of_kind && there) found).1
 
-pub found_kind : (w : World) (name : ℕ) (kind : Option Kind) (g : Going) → has_name w name kind g ≡ true → is_of_kind kind (tx_of g) ≡ true
+pub found_kind : (w : World) (name : ℕ) (kind : Option Kind) (g : Going) → is_transaction_named w name kind g ≡ true → is_of_kind kind (tx_of g) ≡ true
 found_kind w name kind g found = (found_as w name kind g found).0
 
-pub found_open : (w : World) (name : ℕ) (kind : Option Kind) (g : Going) → has_name w name kind g ≡ true → (instant : ℕ) × (get w.told.state.tickets.instants (tx_of g).ticket.id ≡ Some instant)
+pub found_open : (w : World) (name : ℕ) (kind : Option Kind) (g : Going) → is_transaction_named w name kind g ≡ true → (instant : ℕ) × (get w.told.state.tickets.instants (tx_of g).ticket.id ≡ Some instant)
 found_open w name kind g found = open_at w.told.state.tickets (tx_of g).ticket.id (found_as w name kind g found).1
 
 -- what it asks of the core
@@ -177,7 +177,7 @@ asked_goes_on w tx call made told s sound AsksNothing = goes_along w.told w.told
 asked_goes_on w tx call made told s sound (AsksFor id query is reply t step) = core_goes_on w (call_for tx id query) reply t sound step
 
 -- the maps of its view are those that its reads are of
-shown_by : (w : World) (new : Told) (g : Going) (at : ℕ) → IsSound w.told → Follows w.told new → IsKnown w.told g → get w.told.state.tickets.instants (tx_of g).ticket.id ≡ Some at
+shown_by : (w : World) (new : CoreState) (g : Going) (at : ℕ) → IsSound w.told → Follows w.told new → IsKnown w.told g → get w.told.state.tickets.instants (tx_of g).ticket.id ≡ Some at
     → (view (history_of new) (tx_of g).ticket.instant).maps ≡ maps_in w.told.state (At (tx_of g).ticket)
 shown_by w new g at sound follows known there =
     let instant = (tx_of g).ticket.instant in
@@ -186,7 +186,7 @@ shown_by w new g at sound follows known there =
     ∙ told_view w.told sound instant
     ∙ ap (view w.told.state.history) (sym (ap (λ (o : Option ℕ). unwrap_or o 0) there ∙ known.reads at there)))
 
-known_by : (t : Told) (g : Going) (call : Within) (reply : Reply) (after : Tx) → IsKnown t g → Keeps (tx_of g) after → All (IsOfView (history_of t) after) (heard_by call (tx_of g).own reply)
+known_by : (t : CoreState) (g : Going) (call : Within) (reply : Reply) (after : Tx) → IsKnown t g → Keeps (tx_of g) after → All (IsOfView (history_of t) after) (heard_by call (tx_of g).own reply)
     → IsKnown t (gone_by g call reply after)
 known_by t g call reply after known keeps heard = record {
   given = subst (λ (k : Ticket). k.id < t.state.tickets.next) (sym keeps.ticket) known.given;
@@ -205,7 +205,7 @@ known_within w g at call reply made told s after sound goes known there acts =
 -- ---- ending
 
 -- what holds of those that committed, and of this one where its command was accepted
-pub all_gone_with : (P : Gone → Type 0) (gone : List Gone) (g : Going) (old new : Told) → All P gone → (length old.accepted < length new.accepted → P (record { place = length old.accepted; was = g }))
+pub all_gone_with : (P : Gone → Type 0) (gone : List Gone) (g : Going) (old new : CoreState) → All P gone → (length old.accepted < length new.accepted → P (record { place = length old.accepted; was = g }))
     → All P (gone_with gone g old new)
 all_gone_with P gone g old new all here = either (nat_lt (length old.accepted) (length new.accepted)) refl
   where
@@ -216,7 +216,7 @@ all_gone_with P gone g old new all here = either (nat_lt (length old.accepted) (
     either true longer = All-push P gone one all (here (let lt : length old.accepted < length new.accepted = grind (arith, nat_tests) in lt))
     either false not_longer = all
 
-committed_here : (w : World) (g : Going) (outcome : CommitOutcome Error) (new : Told) → Follows w.told new → IsKnown w.told g → CommitStep w.told (tx_of g) outcome new
+committed_here : (w : World) (g : Going) (outcome : CommitOutcome Error) (new : CoreState) → Follows w.told new → IsKnown w.told g → CommitStep w.told (tx_of g) outcome new
     → length w.told.accepted < length new.accepted → HasCommitted new (record { place = length w.told.accepted; was = g })
 committed_here w g outcome new follows known step longer =
     let now = known_on w.told new follows g known in
@@ -226,14 +226,14 @@ committed_here w g outcome new follows known step longer =
     }
 
 -- behind a commit
-pub kept_ended : (w : World) (kind : Kind) (name : ℕ) (g : Going) (others : List Going) (outcome : CommitOutcome Error) (new : Told) → IsKept w → Takes (has_name w name (Some kind)) w.going (Some g) others
+pub kept_ended : (w : World) (kind : Kind) (name : ℕ) (g : Going) (others : List Going) (outcome : CommitOutcome Error) (new : CoreState) → IsKept w → Takes (is_transaction_named w name (Some kind)) w.going (Some g) others
     → CommitStep w.told (tx_of g) outcome new → IsKept (record w { told = new; going = others; gone = gone_with w.gone g w.told new })
 kept_ended w kind name g others outcome new kept takes step =
     let goes = commit_goes_on w.told new (tx_of g) outcome kept.sound step in
-    let known = of_taken (IsKnown w.told) (has_name w name (Some kind)) w.going others g takes kept.going in
+    let known = of_taken (IsKnown w.told) (is_transaction_named w name (Some kind)) w.going others g takes kept.going in
     record {
       sound = goes.sound;
-      going = all_known_on w.told new goes.follows others (of_others (IsKnown w.told) (has_name w name (Some kind)) w.going others g takes kept.going);
+      going = all_known_on w.told new goes.follows others (of_others (IsKnown w.told) (is_transaction_named w name (Some kind)) w.going others g takes kept.going);
       gone = all_gone_with (HasCommitted new) w.gone g w.told new (all_committed_on w.told new goes.follows w.gone kept.gone) (committed_here w g outcome new goes.follows known step);
     }
 
@@ -260,7 +260,7 @@ kept_step w v before call reply made told kept (IsBegun kind free ticket s step)
     let on = kept_along w s kept goes in
     record {
       sound = on.sound;
-      going = All-push (IsKnown (gone_on w.told s)) w.going (record { named = record { place = length before; transaction = begun (first_marks kind) ticket }; heard = [] }) on.going
+      going = All-push (IsKnown (gone_on w.told s)) w.going (record { named = record { place = length before; transaction = transaction_begun (first_marks kind) ticket }; heard = [] }) on.going
           (known_begun w s (length before) (first_marks kind) ticket kept.sound goes step);
       gone = on.gone;
     }
@@ -268,11 +268,11 @@ kept_step w v before call reply made told kept (IsUnknown c name kind is none) =
 kept_step w v before call reply made told kept (IsWithin name c g others takes r m t s after acts) =
     let goes = asked_goes_on w (tx_of g) c m t s kept.sound acts.asks in
     let on = kept_along w s kept goes in
-    let known = of_taken (IsKnown w.told) (has_name w name None) w.going others g takes kept.going in
+    let known = of_taken (IsKnown w.told) (is_transaction_named w name None) w.going others g takes kept.going in
     let (at, there) = found_open w name None g takes.0 in
     record {
       sound = on.sound;
-      going = All-push (IsKnown (gone_on w.told s)) others (gone_by g c r after) (of_others (IsKnown (gone_on w.told s)) (has_name w name None) w.going others g takes on.going)
+      going = All-push (IsKnown (gone_on w.told s)) others (gone_by g c r after) (of_others (IsKnown (gone_on w.told s)) (is_transaction_named w name None) w.going others g takes on.going)
           (known_within w g at c r m t s after kept.sound goes known there acts);
       gone = on.gone;
     }
@@ -281,7 +281,7 @@ kept_step w v before call reply made told kept (IsRolledBack name g others takes
     let on = kept_along w s kept (core_goes_on w (CloseSnapshot (tx_of g).ticket) r s kept.sound step) in
     record {
       sound = on.sound;
-      going = of_others (IsKnown (gone_on w.told s)) (has_name w name None) w.going others g takes on.going;
+      going = of_others (IsKnown (gone_on w.told s)) (is_transaction_named w name None) w.going others g takes on.going;
       gone = on.gone;
     }
 

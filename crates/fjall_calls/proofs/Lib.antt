@@ -1,9 +1,15 @@
+pub mod LivedDisks
+pub mod LastSyncs
+mod WildTidying
+pub mod Lives
+-- The lemmas on crashes in runs that those above cite.
+pub use Rattle.fjall_engine.proofs.CrashesInRuns
 -- Their lemmas that those above cite.
-pub use Rattle.fjall_transactions.proofs.CrashedDisks
-pub use Rattle.fjall_transactions.proofs.Items
-pub use Rattle.fjall_transactions.proofs.Reopening
-pub use Rattle.fjall_transactions.proofs.RunsOverCrashes
-pub use Rattle.fjall_transactions.proofs.Standing as CoreStanding
+pub use Rattle.fjall_core.proofs.CrashedDisks
+pub use Rattle.fjall_core.proofs.Items
+pub use Rattle.fjall_core.proofs.Reopening
+pub use Rattle.fjall_core.proofs.RunsOverCrashes
+pub use Rattle.fjall_core.proofs.Standing as CoreStanding
 mod Same
 mod Chains
 mod Jobs

@@ -1,15 +1,15 @@
 -- A call of a list beside the merges that are kept.
 use Rattle.std.proofs.Common.{◌≡◌, Bool, IsTrue, false, List, [], ◌∷◌, refl}
 use Rattle.fjall_history.specs.declared.reply.Reply.{Reply}
-use Rattle.fjall_transactions.specs.CoreJob.{Job}
+use Rattle.fjall_core.specs.CoreJob.{Job}
 use Rattle.fjall_machine.specs.Places.{resolved}
 use Rattle.fjall_machine.specs.Shapes.{shape_of}
 use Rattle.fjall_machine.specs.declared.call.Call.{Call}
-use Rattle.fjall_transactions.specs.Holding.{Held}
-use Rattle.fjall_transactions.specs.Jobs.{KeepsMerges, KnowsMerges}
-use Rattle.fjall_transactions.specs.CoreStanding.{Owes, ServesWhere}
-use Rattle.fjall_transactions.specs.Transactions.{Kept}
-use Rattle.fjall_transactions.proofs.Standing.{served_stands_where}
+use Rattle.fjall_core.specs.Holding.{Held}
+use Rattle.fjall_core.specs.Jobs.{KeepsMerges, KnowsMerges}
+use Rattle.fjall_core.specs.CoreStanding.{Owes, ServesWhere}
+use Rattle.fjall_core.specs.Transactions.{Kept}
+use Rattle.fjall_core.proofs.Standing.{served_stands_where}
 use Rattle.fjall_calls.specs.Steps.{OfCore}
 use Rattle.fjall_calls.specs.Worlds.{along}
 use Rattle.fjall_calls.specs.declared.call.TxCall.{TxCall}

@@ -17,9 +17,9 @@ use Rattle.fjall_history.specs.declared.ticket.View.TheVariants.{At}
 use Rattle.fjall_machine.specs.Machine.{State, StepOf, maps_in}
 use Rattle.fjall_machine.specs.Shapes.{OfRead}
 use Rattle.fjall_machine.specs.declared.call.Call.TheVariants.{GetAt, PageAt}
-use Rattle.fjall_transactions.specs.Holding.{Held}
-use Rattle.fjall_transactions.specs.CoreStanding.{Owes, Serves, pairs_reply, value_reply}
-use Rattle.fjall_transactions.specs.Transactions.{Tx, having_read}
+use Rattle.fjall_core.specs.Holding.{Held}
+use Rattle.fjall_core.specs.CoreStanding.{Owes, Serves, pairs_reply, value_reply}
+use Rattle.fjall_core.specs.Transactions.{Tx, having_read}
 use Rattle.fjall_calls.specs.Acting.{AnswersWithin, AsksFor, AsksNothing, IsUnread, Pages, RunsOut}
 use Rattle.fjall_calls.specs.declared.call.Within.TheVariants as within
 use Rattle.fjall_calls.specs.Serving.{ActsOn, FoundWithin, IsRefused, IsSeen, LooksWithin}

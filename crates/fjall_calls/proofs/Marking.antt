@@ -8,7 +8,7 @@ use Rattle.fjall_tx.specs.Marks.{Mark, Marks, OfKey, OfRange, with_read, with_wr
 use Rattle.fjall_history.specs.declared.reply.Reply.{Reply}
 use Rattle.fjall_history.proofs.Resting.{more_marked}
 use Rattle.fjall_machine.specs.Machine.{State}
-use Rattle.fjall_transactions.specs.Transactions.{Tx, having_read, having_touched, is_same_value, op_of, replacing, with_own}
+use Rattle.fjall_core.specs.Transactions.{Tx, having_read, having_touched, is_same_value, op_of, replacing, with_own}
 use Rattle.fjall_calls.specs.declared.call.Within.{Within}
 use Rattle.fjall_calls.specs.Acting.{AnswersWithin, Gets, IsNotUpdated, IsUnread, IsUnwritable, Pages, Persists, RunsOut, Updates, Writes}
 use Rattle.fjall_calls.specs.Worlds.{Heard}

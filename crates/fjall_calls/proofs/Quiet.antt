@@ -11,12 +11,12 @@ use Rattle.fjall_machine.specs.Merging.{IsQuiet}
 use Rattle.fjall_machine.specs.Shapes.{CallShape, Close, OfTickets, Open, shape_of}
 use Rattle.fjall_machine.specs.declared.call.Call.{Call}
 use Rattle.fjall_machine.proofs.QuietSteps.{quiet_stays}
-use Rattle.fjall_transactions.specs.CoreJob.{Job}
-use Rattle.fjall_transactions.specs.CoreJob.TheVariants.{Flush, Merge}
-use Rattle.fjall_transactions.specs.Jobs.{IsMergeKnown, KnowsMerges}
-use Rattle.fjall_transactions.specs.Commits.{change_of}
-use Rattle.fjall_transactions.specs.Standing.{CommitStep, IsCommitted, IsGone, IsIdle, IsMet, IsRefused, Told}
-use Rattle.fjall_transactions.specs.Transactions.{Tx}
+use Rattle.fjall_core.specs.CoreJob.{Job}
+use Rattle.fjall_core.specs.CoreJob.TheVariants.{Flush, Merge}
+use Rattle.fjall_core.specs.Jobs.{IsMergeKnown, KnowsMerges}
+use Rattle.fjall_core.specs.Commits.{change_of}
+use Rattle.fjall_core.specs.Standing.{CommitStep, IsCommitted, IsGone, IsIdle, IsMet, IsRefused, CoreState}
+use Rattle.fjall_core.specs.Transactions.{Tx}
 use Rattle.fjall_tx.specs.declared.outcome.CommitOutcome.{CommitOutcome}
 use Rattle.fjall_calls.specs.Acting.{AsksCore, AsksFor, AsksNothing, call_for}
 use Rattle.fjall_calls.specs.Steps.{IsBegun, IsEnded, IsHeldBack, IsNotBegun, IsRolledBack, IsUnknown, IsWithin, OfCore, TxStep}
@@ -45,8 +45,8 @@ asked : (jobs : List Job) (s t : State) (tx : Tx) (call : Within) (made : List C
 asked jobs s _ tx call _ _ AsksNothing known = known
 asked jobs s _ tx call _ _ (AsksFor id query is reply t step) known = known_on jobs s t (shape_of (call_for tx id query)) reply (read_is_quiet tx id query) step known
 
-committed : (jobs : List Job) (old new : Told) (tx : Tx) (outcome : CommitOutcome Error) → CommitStep old tx outcome new → KnowsMerges old.state jobs → KnowsMerges new.state jobs
-committed jobs old new tx outcome (IsGone none told same) known = subst (λ (t : Told). KnowsMerges t.state jobs) (sym same) known
+committed : (jobs : List Job) (old new : CoreState) (tx : Tx) (outcome : CommitOutcome Error) → CommitStep old tx outcome new → KnowsMerges old.state jobs → KnowsMerges new.state jobs
+committed jobs old new tx outcome (IsGone none told same) known = subst (λ (t : CoreState). KnowsMerges t.state jobs) (sym same) known
 committed jobs old new tx outcome (IsIdle instant opened none told closes same) known = known_on jobs old.state new.state (OfTickets (Close tx.ticket.id)) Done tt closes known
 committed jobs old new tx outcome (IsMet instant opened some meets told closes same) known = known_on jobs old.state new.state (OfTickets (Close tx.ticket.id)) Done tt closes known
 committed jobs old new tx outcome (IsRefused instant opened some apart error told mid refused closes same) known =

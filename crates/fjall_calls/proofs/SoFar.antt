@@ -1,17 +1,17 @@
 -- A list of calls, as far as it was served.
 use Rattle.std.proofs.Common.{Bool, IsTrue, List, [], ◌∷◌, ◌++◌, refl}
 use Rattle.fjall_history.specs.declared.reply.Reply.{Reply}
-use Rattle.fjall_transactions.specs.CoreJob.{Job}
+use Rattle.fjall_core.specs.CoreJob.{Job}
 use Rattle.fjall_machine.specs.Machine.{State}
 use Rattle.fjall_machine.specs.declared.call.Call.{Call}
-use Rattle.fjall_transactions.specs.Durables.{Durable}
-use Rattle.fjall_transactions.specs.Holding.{Held}
-use Rattle.fjall_transactions.specs.Jobs.{KnowsMerges}
-use Rattle.fjall_transactions.specs.CoreStanding.{OwesAll, ReadsOn, StandsFor, StandsOn}
-use Rattle.fjall_transactions.proofs.KeptMerges.{none_known}
-use Rattle.fjall_transactions.proofs.RunsOverCrashes.{RunsKnown, SoFar, ends, none_yet, runs_end, runs_none}
-use Rattle.fjall_transactions.specs.Standing.{StandFor, Told}
-use Rattle.fjall_transactions.specs.Transactions.{Kept}
+use Rattle.fjall_core.specs.Durables.{Durable}
+use Rattle.fjall_core.specs.Holding.{Held}
+use Rattle.fjall_core.specs.Jobs.{KnowsMerges}
+use Rattle.fjall_core.specs.CoreStanding.{OwesAll, ReadsOn, StandsFor, StandsOn}
+use Rattle.fjall_core.proofs.KeptMerges.{none_known}
+use Rattle.fjall_core.proofs.RunsOverCrashes.{RunsKnown, SoFar, ends, none_yet, runs_end, runs_none}
+use Rattle.fjall_core.specs.Standing.{StandFor, CoreState}
+use Rattle.fjall_core.specs.Transactions.{Kept}
 use Rattle.fjall_calls.specs.Steps.{NoCall, TxRun}
 use Rattle.fjall_calls.specs.Worlds.{World, begins}
 use Rattle.fjall_calls.specs.declared.call.TxCall.{TxCall}
@@ -28,7 +28,7 @@ pub record RunSoFar (honest : Bool) (jobs : List Job) (core : Held) (kept : Kept
   pub safe : IsTrue honest → (s : State) (d : Durable) → StandsFor core s → ReadsOn core s → StandsOn core s.parts.entries d → SoFar jobs left s d made told
   pub owes : OwesAll core made told left
   pub comes : AllCome [] calls replies made told
-  pub runs : IsTrue honest → (t : Told) → StandFor core kept t → ReadsOn core t.state
+  pub runs : IsTrue honest → (t : CoreState) → StandFor core kept t → ReadsOn core t.state
       → (v : World) × Stands left after listed v × ReadsOn left v.told.state × KnowsMerges v.told.state jobs × TxRun (begins t kept.writer) [] calls replies made told v
 
 -- none was

@@ -17,10 +17,10 @@ use Rattle.fjall_history.specs.Checked.{IsChecked}
 use Rattle.fjall_history.specs.Serial.{ReadsChangeByTransactions}
 use Rattle.fjall_history.proofs.Resting.{answered_before}
 use Rattle.fjall_machine.specs.declared.call.Call.{Call}
-use Rattle.fjall_transactions.specs.Holding.{Held}
-use Rattle.fjall_transactions.specs.Standing.{StandFor, Told, accepted_of, history_of}
-use Rattle.fjall_transactions.specs.Transactions.{Kept, with_items}
-use Rattle.fjall_transactions.proofs.Items.{same_reads}
+use Rattle.fjall_core.specs.Holding.{Held}
+use Rattle.fjall_core.specs.Standing.{StandFor, CoreState, accepted_of, history_of}
+use Rattle.fjall_core.specs.Transactions.{Kept, marks_of_items}
+use Rattle.fjall_core.proofs.Items.{same_reads}
 use Rattle.fjall_calls.specs.declared.call.TxCall.{TxCall}
 use Rattle.fjall_calls.specs.Steps.{TxRun}
 use Rattle.fjall_calls.specs.Worlds.{Gone, Heard, World, begins}
@@ -28,7 +28,7 @@ use Rattle.fjall_calls.specs.Hearing.{IsMarkedBy, IsOfThoseBefore, IsOfView, Sta
 use Rattle.fjall_calls.proofs.KeptWorlds.{HasCommitted, IsKept, IsKnown, kept_run}
 
 -- as a list begins, nothing of it is there
-pub kept_beginning : (core : Held) (kept : Kept) (t : Told) (writer : Option Ticket) → StandFor core kept t → IsKept (begins t writer)
+pub kept_beginning : (core : Held) (kept : Kept) (t : CoreState) (writer : Option Ticket) → StandFor core kept t → IsKept (begins t writer)
 kept_beginning core kept t writer stands = record {
   sound = record { same = stands.same; sound = stands.sound };
   going = All-nil (IsKnown t);
@@ -36,7 +36,7 @@ kept_beginning core kept t writer stands = record {
 }
 
 -- those that committed stand in the history
-pub all_stand : (core : Held) (kept : Kept) (t : Told) → StandFor core kept t → (calls : List TxCall) (replies : List Reply) (made : List Call) (told : List Reply) (v : World)
+pub all_stand : (core : Held) (kept : Kept) (t : CoreState) → StandFor core kept t → (calls : List TxCall) (replies : List Reply) (made : List Call) (told : List Reply) (v : World)
     → TxRun (begins t kept.writer) [] calls replies made told v → All (StandsIn (history_of v.told)) v.gone
 all_stand core kept t stands calls replies made told v run =
     All-weaker (HasCommitted v.told) (StandsIn (history_of v.told)) (λ g committed. committed.stands) v.gone
@@ -45,11 +45,11 @@ all_stand core kept t stands calls replies made told v run =
 -- ---- those before
 
 -- what a transaction marked, its commit tells
-commit_of_marks : (instant : ℕ) (marks : Option Marks) (items : List BatchItem) (c : Commit) → option_map (λ (m : Marks). record { instant = instant; marks = with_items m items }) marks ≡ Some c
+commit_of_marks : (instant : ℕ) (marks : Option Marks) (items : List BatchItem) (c : Commit) → option_map (λ (m : Marks). record { instant = instant; marks = marks_of_items m items }) marks ≡ Some c
     → (c.instant ≡ instant) × ((heard : Heard) → IsMarkedBy marks heard → IsMarked c.marks.reads heard.id heard.query)
 commit_of_marks instant None items c is = absurd (none-some c is)
 commit_of_marks instant (Some marks) items c is =
-    let told : Commit = record { instant = instant; marks = with_items marks items } in
+    let told : Commit = record { instant = instant; marks = marks_of_items marks items } in
     let same : c ≡ told = ap (λ (o : Option Commit). unwrap_or o c) (sym is) in (
       ap (λ (d : Commit). d.instant) same,
       λ heard marked. subst (λ (reads : List Mark). IsMarked reads heard.id heard.query) (sym (ap (λ (d : Commit). d.marks.reads) same ∙ same_reads items marks)) marked,

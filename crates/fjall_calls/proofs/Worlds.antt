@@ -8,12 +8,12 @@ use Rattle.fjall_base.proofs.Codecs.{some_is}
 use Rattle.fjall_history.specs.Histories.{Accepted, commands_of, plain}
 use Rattle.fjall_history.specs.Tickets.{Tickets}
 use Rattle.fjall_history.specs.declared.ticket.Ticket.{Ticket}
-use Rattle.fjall_transactions.specs.Holding.{Held}
-use Rattle.fjall_transactions.specs.Commits.{is_writing}
-use Rattle.fjall_transactions.specs.Standing.{StandFor, Told, gone_on}
-use Rattle.fjall_transactions.specs.Transactions.{Kept}
+use Rattle.fjall_core.specs.Holding.{Held}
+use Rattle.fjall_core.specs.Commits.{is_writing}
+use Rattle.fjall_core.specs.Standing.{StandFor, CoreState, gone_on}
+use Rattle.fjall_core.specs.Transactions.{Kept}
 use Rattle.fjall_calls.specs.Names.{Takes, is_wanted}
-use Rattle.fjall_calls.specs.Steps.{has_name, is_one_open, is_written}
+use Rattle.fjall_calls.specs.Steps.{is_transaction_named, is_one_open, is_written}
 use Rattle.fjall_calls.specs.Steps as steps
 use Rattle.fjall_calls.specs.Worlds.{Going, World}
 use Rattle.fjall_calls.specs.declared.call.Kind.{Kind}
@@ -41,7 +41,7 @@ same_beginning core kept listed w Single stands =
 -- ---- what is kept
 
 -- which ticket is the single writer's is of no matter to the commits that are kept
-pub other_writer : (core : Held) (kept after : Kept) (t : Told) → after.commits ≡ kept.commits → StandFor core kept t → StandFor core after t
+pub other_writer : (core : Held) (kept after : Kept) (t : CoreState) → after.commits ≡ kept.commits → StandFor core kept t → StandFor core after t
 other_writer core kept after t same stands = record {
   machine = stands.machine;
   same = stands.same;
@@ -68,7 +68,7 @@ all_going P (g ∷ going) all = All-cons (λ (g : Going). P g.named) g going (Al
 pub record TakesGoing (w : World) (name : ℕ) (kind : Option Kind) (named : Named) (rest : List Named) : Type 0 where
   pub going : Going
   pub others : List Going
-  pub takes : Takes (has_name w name kind) w.going (Some going) others
+  pub takes : Takes (is_transaction_named w name kind) w.going (Some going) others
   pub is : going.named ≡ named
   pub left : map (λ g. g.named) others ≡ rest
 
@@ -76,7 +76,7 @@ pub takes_going : (core : Held) (kept : Kept) (listed rest : List Named) (w : Wo
     → Takes (is_wanted core.memory.tickets name kind) listed (Some named) rest → TakesGoing w name kind named rest
 takes_going core kept listed rest w name kind named stands (is, at, here, left) =
     let found = going_at w.going at named (ap (λ (l : List Named). slice_get l at) stands.going ∙ here) in
-    let wanted : has_name w name kind found.0 ≡ true =
+    let wanted : is_transaction_named w name kind found.0 ≡ true =
     ap (λ (t : Tickets). is_wanted t name kind found.0.named) (same_tickets core kept listed w stands) ∙ ap (is_wanted core.memory.tickets name kind) found.2 ∙ is in
     record {
       going = found.0;
@@ -91,7 +91,7 @@ takes_going core kept listed rest w name kind named stands (is, at, here, left) 
     }
 
 pub none_going : (core : Held) (kept : Kept) (listed rest : List Named) (w : World) (name : ℕ) (kind : Option Kind) → Stands core kept listed w
-    → Takes (is_wanted core.memory.tickets name kind) listed None rest → All (λ g. has_name w name kind g ≡ false) w.going
+    → Takes (is_wanted core.memory.tickets name kind) listed None rest → All (λ g. is_transaction_named w name kind g ≡ false) w.going
 none_going core kept listed rest w name kind stands (none, same) =
     all_going (λ (n : Named). is_wanted w.told.state.tickets name kind n ≡ false) w.going
     (subst (λ (l : List Named). All (λ n. is_wanted w.told.state.tickets name kind n ≡ false) l) (sym stands.going)
@@ -100,7 +100,7 @@ none_going core kept listed rest w name kind stands (none, same) =
 -- ---- nothing happens
 
 -- a state gone on to itself
-pub same_state : (t : Told) → gone_on t t.state ≡ t
+pub same_state : (t : CoreState) → gone_on t t.state ≡ t
 same_state t =
     let none : drop (length t.state.history.accepted) t.state.history.accepted ≡ [] = drop-length t.state.history.accepted in
     ap (λ (l : List Accepted). record { state = t.state; accepted = t.accepted ++ map plain (commands_of l) }) none ∙ ap (λ (l : List Accepted). record { state = t.state; accepted = l }) (append-nil t.accepted)

@@ -17,7 +17,7 @@ use Rattle.fjall_history.specs.declared.ticket.View.TheVariants.{At}
 use Rattle.fjall_machine.specs.Machine.{State, Step, maps_in}
 use Rattle.fjall_machine.specs.declared.call.Call.{Call}
 use Rattle.fjall_machine.specs.declared.call.Call.TheVariants.{GetAt, PageAt}
-use Rattle.fjall_transactions.specs.Transactions.{Tx, having_read, replace_refusal, replacing, with_own}
+use Rattle.fjall_core.specs.Transactions.{Tx, having_read, replace_refusal, replacing, with_own}
 use Rattle.fjall_calls.specs.declared.call.Within.{Within}
 use Rattle.fjall_calls.specs.declared.call.Within.TheVariants as within
 use Rattle.fjall_calls.specs.Worlds.{Heard}

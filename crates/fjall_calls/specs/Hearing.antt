@@ -9,8 +9,8 @@ use Rattle.fjall_history.specs.declared.reply.Reply.{Reply}
 use Rattle.fjall_history.specs.Asks.{IsMarked}
 use Rattle.fjall_history.specs.Checked.{before}
 use Rattle.fjall_history.specs.Serial.{serial_store}
-use Rattle.fjall_transactions.specs.Transactions.{Tx}
-use Rattle.fjall_transactions.specs.Standing.{accepted_of, history_of}
+use Rattle.fjall_core.specs.Transactions.{Tx}
+use Rattle.fjall_core.specs.Standing.{accepted_of, history_of}
 use Rattle.fjall_calls.specs.declared.call.Kind.TheVariants.{Single}
 use Rattle.fjall_calls.specs.declared.call.TxCall.{TxCall}
 use Rattle.fjall_calls.specs.declared.call.TxCall.TheVariants as calls

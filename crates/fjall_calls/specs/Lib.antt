@@ -1,12 +1,13 @@
+pub mod Lives
 -- The words of cores and of engines that clauses cite, so that who stands on lists of calls lists no other crate for them.
-pub use Rattle.fjall_transactions.specs.Commits
-pub use Rattle.fjall_transactions.specs.CoreStanding
-pub use Rattle.fjall_transactions.specs.Crashes
-pub use Rattle.fjall_transactions.specs.Durables
-pub use Rattle.fjall_transactions.specs.Holding
-pub use Rattle.fjall_transactions.specs.Openings
-pub use Rattle.fjall_transactions.specs.Standing
-pub use Rattle.fjall_transactions.specs.Transactions
+pub use Rattle.fjall_core.specs.Commits
+pub use Rattle.fjall_core.specs.CoreStanding
+pub use Rattle.fjall_core.specs.Crashes
+pub use Rattle.fjall_core.specs.Durables
+pub use Rattle.fjall_core.specs.Holding
+pub use Rattle.fjall_core.specs.Openings
+pub use Rattle.fjall_core.specs.Standing
+pub use Rattle.fjall_core.specs.Transactions
 pub mod Names
 pub mod Worlds
 pub mod Acting

@@ -1,7 +1,7 @@
 -- The names of transactions within a list of calls.
 use Rattle.std.specs.Prelude.{◌≡◌, ℕ, ◌+◌, ◌==◌, ◌&&◌, Bool, true, false, not, List, ◌++◌, All, Option, None, Some, drop, is_none, slice_get, take}
 use Rattle.fjall_history.specs.Tickets.{Tickets, is_open}
-use Rattle.fjall_transactions.specs.Transactions.{Tx}
+use Rattle.fjall_core.specs.Transactions.{Tx}
 use Rattle.fjall_calls.specs.declared.call.Kind.{Kind}
 use Rattle.fjall_calls.specs.declared.call.Kind.TheVariants.{Optimistic, Single}
 use Rattle.fjall_calls.specs.declared.named.Named.{Named}

@@ -6,17 +6,17 @@ use Rattle.fjall_base.specs.declared.error.Error.TheVariants.{OutOfMemory}
 use Rattle.fjall_history.specs.Queries.{Get}
 use Rattle.fjall_history.specs.declared.reply.Reply.{Reply}
 use Rattle.fjall_history.specs.declared.reply.Reply.TheVariants.{Done, Flag, Pairs, Refused, Value}
-use Rattle.fjall_transactions.specs.CoreJob.{Job}
+use Rattle.fjall_core.specs.CoreJob.{Job}
 use Rattle.fjall_machine.specs.Machine.{State, Step}
 use Rattle.fjall_machine.specs.Places.{resolved}
 use Rattle.fjall_machine.specs.Shapes.{shape_of}
 use Rattle.fjall_machine.specs.declared.call.Call.{Call}
-use Rattle.fjall_transactions.specs.Holding.{Held}
-use Rattle.fjall_transactions.specs.Jobs.{KeepsJobs, KeepsMerges, KnowsMerges}
-use Rattle.fjall_transactions.specs.CoreStanding.{OwesAll, ReadsOn, Runs, RunsSafely, Serves, ServesWhere, StandsFor}
-use Rattle.fjall_transactions.specs.Commits.{is_writing}
-use Rattle.fjall_transactions.specs.Transactions.{Kept, Tx}
-use Rattle.fjall_transactions.specs.Standing.{StandFor, Told}
+use Rattle.fjall_core.specs.Holding.{Held}
+use Rattle.fjall_core.specs.Jobs.{KeepsJobs, KeepsMerges, KnowsMerges}
+use Rattle.fjall_core.specs.CoreStanding.{OwesAll, ReadsOn, Runs, RunsSafely, Serves, ServesWhere, StandsFor}
+use Rattle.fjall_core.specs.Commits.{is_writing}
+use Rattle.fjall_core.specs.Transactions.{Kept, Tx}
+use Rattle.fjall_core.specs.Standing.{StandFor, CoreState}
 use Rattle.fjall_calls.specs.declared.call.Kind.{Kind}
 use Rattle.fjall_calls.specs.declared.call.Kind.TheVariants.{Optimistic, Single}
 use Rattle.fjall_calls.specs.declared.call.TxCall.{TxCall}
@@ -170,5 +170,5 @@ pub record RunsTx (honest : Bool) (core : Held) (kept : Kept) (calls : List TxCa
   pub safe : IsTrue honest → RunsSafely core made told left
   pub owes : OwesAll core made told left
   pub comes : AllCome [] calls replies made told
-  pub runs : IsTrue honest → (t : Told) → StandFor core kept t → ReadsOn core t.state
+  pub runs : IsTrue honest → (t : CoreState) → StandFor core kept t → ReadsOn core t.state
       → (v : World) × StandFor left after v.told × ReadsOn left v.told.state × TxRun (begins t kept.writer) [] calls replies made told v

@@ -17,8 +17,8 @@ use Rattle.fjall_machine.specs.Machine.{State, Step}
 use Rattle.fjall_machine.specs.Places.{resolved}
 use Rattle.fjall_machine.specs.declared.call.Call.{Call}
 use Rattle.fjall_machine.specs.declared.call.Call.TheVariants.{CloseSnapshot, CommitBatch, Snapshot}
-use Rattle.fjall_transactions.specs.Transactions.{Tx, begun, no_marks}
-use Rattle.fjall_transactions.specs.Standing.{CommitStep, Told}
+use Rattle.fjall_core.specs.Transactions.{Tx, transaction_begun, no_marks}
+use Rattle.fjall_core.specs.Standing.{CommitStep, CoreState}
 use Rattle.fjall_calls.specs.declared.call.Kind.{Kind}
 use Rattle.fjall_calls.specs.declared.call.Kind.TheVariants.{Optimistic, Single}
 use Rattle.fjall_calls.specs.declared.call.Within.{Within}
@@ -31,15 +31,15 @@ use Rattle.fjall_calls.specs.Acting.{Acts, heard_by}
 -- ---- names
 
 -- the name that a call gives, and of which kind that transaction is to be
-abbrev pub name_in : TxCall → Option (ℕ × Option Kind)
-name_in (calls.Within name call) = Some (name, None)
-name_in (calls.Commit kind name) = Some (name, Some kind)
-name_in (calls.Rollback name) = Some (name, None)
-name_in call = None
+abbrev pub transaction_named : TxCall → Option (ℕ × Option Kind)
+transaction_named (calls.Within name call) = Some (name, None)
+transaction_named (calls.Commit kind name) = Some (name, Some kind)
+transaction_named (calls.Rollback name) = Some (name, None)
+transaction_named call = None
 
 -- whether an open transaction of a world has this name and kind
-abbrev pub has_name : World → ℕ → Option Kind → Going → Bool
-has_name w name kind g = is_wanted w.told.state.tickets name kind g.named
+abbrev pub is_transaction_named : World → ℕ → Option Kind → Going → Bool
+is_transaction_named w name kind g = is_wanted w.told.state.tickets name kind g.named
 
 -- ---- beginning
 
@@ -71,7 +71,7 @@ may_begin w Single = not (is_written w)
 abbrev pub with_begun : World → Kind → ℕ → Ticket → World
 with_begun w kind place ticket = record w {
   writer = writer_after kind ticket w.writer;
-  going = w.going ++ record { named = record { place = place; transaction = begun (first_marks kind) ticket }; heard = [] } ∷ [];
+  going = w.going ++ record { named = record { place = place; transaction = transaction_begun (first_marks kind) ticket }; heard = [] } ∷ [];
 }
 
 -- ---- within
@@ -99,7 +99,7 @@ pub data Commits (tx : Tx) : CommitOutcome Error → List Call → List Reply �
       → Commits tx outcomes.Ok (CommitBatch items tx.mode ∷ CloseSnapshot tx.ticket ∷ []) (Done ∷ Done ∷ [])
 
 -- with one more that committed, where its command was accepted
-abbrev pub gone_with : List Gone → Going → Told → Told → List Gone
+abbrev pub gone_with : List Gone → Going → CoreState → CoreState → List Gone
 gone_with gone g old new = if nat_lt (length old.accepted) (length new.accepted) then gone ++ record { place = length old.accepted; was = g } ∷ [] else gone
 
 -- ---- steps
@@ -114,16 +114,16 @@ pub data TxStep (w : World) (replies : List Reply) : TxCall → Reply → List C
       → TxStep w replies (calls.Begin kind) (Refused error) (Snapshot ∷ []) (Refused error ∷ []) (along w s)
   IsBegun : (kind : Kind) (free : may_begin w kind ≡ true) (ticket : Ticket) (s : State) (step : Step w.told.state Snapshot (Opened ticket) s)
       → TxStep w replies (calls.Begin kind) Done (Snapshot ∷ []) (Opened ticket ∷ []) (with_begun (along w s) kind (length replies) ticket)
-  IsUnknown : (call : TxCall) (name : ℕ) (kind : Option Kind) (is : name_in call ≡ Some (name, kind)) (none : All (λ g. has_name w name kind g ≡ false) w.going)
+  IsUnknown : (call : TxCall) (name : ℕ) (kind : Option Kind) (is : transaction_named call ≡ Some (name, kind)) (none : All (λ g. is_transaction_named w name kind g ≡ false) w.going)
       → TxStep w replies call (Refused SnapshotClosed) [] [] w
-  IsWithin : (name : ℕ) (call : Within) (g : Going) (others : List Going) (takes : Takes (has_name w name None) w.going (Some g) others)
+  IsWithin : (name : ℕ) (call : Within) (g : Going) (others : List Going) (takes : Takes (is_transaction_named w name None) w.going (Some g) others)
       (reply : Reply) (made : List Call) (told : List Reply) (s : State) (after : Tx) (acts : Acts w.told.state g.named.transaction call reply made told s after)
       → TxStep w replies (calls.Within name call) reply made told (record (along w s) { going = others ++ gone_by g call reply after ∷ [] })
-  IsEnded : (kind : Kind) (name : ℕ) (g : Going) (others : List Going) (takes : Takes (has_name w name (Some kind)) w.going (Some g) others)
+  IsEnded : (kind : Kind) (name : ℕ) (g : Going) (others : List Going) (takes : Takes (is_transaction_named w name (Some kind)) w.going (Some g) others)
       (outcome : CommitOutcome Error) (made : List Call) (told : List Reply) (commits : Commits g.named.transaction outcome made told)
-      (new : Told) (step : CommitStep w.told g.named.transaction outcome new)
+      (new : CoreState) (step : CommitStep w.told g.named.transaction outcome new)
       → TxStep w replies (calls.Commit kind name) (reply_to outcome) made told (record w { told = new; going = others; gone = gone_with w.gone g w.told new })
-  IsRolledBack : (name : ℕ) (g : Going) (others : List Going) (takes : Takes (has_name w name None) w.going (Some g) others)
+  IsRolledBack : (name : ℕ) (g : Going) (others : List Going) (takes : Takes (is_transaction_named w name None) w.going (Some g) others)
       (reply : Reply) (s : State) (step : Step w.told.state (CloseSnapshot g.named.transaction.ticket) reply s)
       → TxStep w replies (calls.Rollback name) reply (CloseSnapshot g.named.transaction.ticket ∷ []) (reply ∷ []) (record (along w s) { going = others })
 

@@ -5,7 +5,7 @@ use Rattle.fjall_history.specs.declared.ticket.Ticket.{Ticket}
 use Rattle.fjall_history.specs.declared.reply.Reply.{Reply}
 use Rattle.fjall_history.specs.Queries.{Query}
 use Rattle.fjall_machine.specs.Machine.{State}
-use Rattle.fjall_transactions.specs.Standing.{Told, gone_on}
+use Rattle.fjall_core.specs.Standing.{CoreState, gone_on}
 use Rattle.fjall_calls.specs.declared.named.Named.{Named}
 
 -- An answer that a transaction got to a query of a keyspace, and its own writes of then.
@@ -28,13 +28,13 @@ pub record Gone : Type 0 where
 -- The state of the machine with what was accepted, the ticket of the single writer's transaction that was begun last, and the
 -- transactions of the list: those that are open, and those that committed.
 pub record World : Type 0 where
-  pub told : Told
+  pub told : CoreState
   pub writer : Option Ticket
   pub going : List Going
   pub gone : List Gone
 
 -- as a list begins: no transaction of it is there
-abbrev pub begins : Told → Option Ticket → World
+abbrev pub begins : CoreState → Option Ticket → World
 begins told writer = record { told = told; writer = writer; going = []; gone = [] }
 
 -- after calls of the core that commit no transaction

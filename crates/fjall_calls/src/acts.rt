@@ -11,18 +11,16 @@ ghost use Rattle.fjall_journal.specs.Ops.{bytes_in};
 ghost use Rattle.fjall_journal.specs.declared.persist_mode.PersistMode.{PersistMode};
 ghost use Rattle.fjall_tx.specs.Marks.{OfKey, OfRange};
 ghost use Rattle.fjall_tx.specs.Owns.{own_written, wanted};
-ghost use Rattle.fjall_transactions.specs.CoreStanding.{pairs_reply, value_reply};
-ghost use Rattle.fjall_transactions.specs.Transactions.{having_read, replace_refusal, replacing, with_own};
+ghost use Rattle.fjall_core.specs.CoreStanding.{pairs_reply, value_reply};
+ghost use Rattle.fjall_core.specs.Transactions.{having_read, replace_refusal, replacing, with_own};
 ghost use Rattle.fjall_calls.specs.Serving.{ActsOn, Fetches, LooksWithin};
 ghost use Rattle.fjall_calls.specs.declared.call.Within.{Within as Call};
 ghost use Rattle.fjall_calls.specs.declared.call.Within.TheVariants as calls;
 
 use crate::call::Within;
 use fjall_base::{Disk, KvPair, Result, UserKey, UserValue};
+use fjall_core::{Engine, Op, Reply, Transaction, View, pairs_reply, reply_of, value_reply};
 use fjall_reading::{KeyRange, bounds_of};
-use fjall_transactions::{
-    Engine, Op, Reply, Transaction, View, pairs_reply, reply_of, value_reply,
-};
 
 // What the transaction sees at a key, where its view has this there.
 fn seen(

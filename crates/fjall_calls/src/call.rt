@@ -1,8 +1,8 @@
 //! The calls of a list as values.
 
 use fjall_base::{UserKey, UserValue};
+use fjall_core::{Call, Op, PersistMode};
 use fjall_reading::KeyRange;
-use fjall_transactions::{Call, Op, PersistMode};
 
 /// The kinds of transactions.
 #[derive(Clone, Copy, Debug, PartialEq, Eq)]

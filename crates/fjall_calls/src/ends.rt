@@ -2,13 +2,13 @@
 
 ghost use Rattle.std.specs.Prelude.{◌≡◌, ◌+◌, ◌++◌, ◌∷◌, ◌<◌, ◌≤◌, [], Err, IfOk, IsTrue, List, OnErr, false, length, true, vec_capacity, vec_len};
 ghost use Rattle.fjall_base.specs.declared.error.Error.TheVariants.{TransactionOpen};
-ghost use Rattle.fjall_transactions.specs.Jobs.{KeepsJobs};
-ghost use Rattle.fjall_transactions.specs.CoreStanding.{Owes, Serves};
+ghost use Rattle.fjall_core.specs.Jobs.{KeepsJobs};
+ghost use Rattle.fjall_core.specs.CoreStanding.{Owes, Serves};
 ghost use Rattle.fjall_history.specs.declared.reply.Reply.{Reply as Told};
-ghost use Rattle.fjall_transactions.specs.CoreJob.{Job};
+ghost use Rattle.fjall_core.specs.CoreJob.{Job};
 ghost use Rattle.fjall_machine.specs.Shapes.{OfTickets, Open};
-ghost use Rattle.fjall_transactions.specs.Commits.{begun_reply};
-ghost use Rattle.fjall_transactions.specs.Transactions.{begun};
+ghost use Rattle.fjall_core.specs.Commits.{begun_reply};
+ghost use Rattle.fjall_core.specs.Transactions.{transaction_begun};
 ghost use Rattle.fjall_calls.specs.Steps.{first_marks, reply_to, writer_after};
 ghost use Rattle.fjall_calls.specs.Serving.{ServesTx, may_begin};
 ghost use Rattle.fjall_calls.specs.declared.call.TxCall.TheVariants as calls;
@@ -18,14 +18,14 @@ use crate::call::{Kind, Within};
 use crate::lookup::take_named;
 use crate::named::Named;
 use fjall_base::{Disk, Error, Result};
-use fjall_transactions::{CommitOutcome, Core, Reply, Transaction, reply_of};
+use fjall_core::{CommitOutcome, Core, Reply, Transaction, reply_of};
 
 // Begins a transaction of this kind.
 fn begun<D: Disk>(core: &mut Core<D>, kind: Kind) -> Result<Transaction>
     ensures due { may_begin core.old.engine core.old.transactions kind ≡ false → (result ≡ Err TransactionOpen) × (core.new.engine ≡ core.old.engine) }
     ensures serves { may_begin core.old.engine core.old.transactions kind ≡ true → IsTrue D.honest → Serves core.old.engine (OfTickets Open) (begun_reply result) core.new.engine }
     ensures owes { may_begin core.old.engine core.old.transactions kind ≡ true → Owes core.old.engine (OfTickets Open) (begun_reply result) core.new.engine }
-    ensures begun { IfOk result (λ tx. (tx ≡ begun (first_marks kind) tx.ticket)
+    ensures begun { IfOk result (λ tx. (tx ≡ transaction_begun (first_marks kind) tx.ticket)
         × (core.new.transactions ≡ record core.old.transactions { writer = writer_after kind tx.ticket core.old.transactions.writer })) }
     ensures unchanged { OnErr result (core.new.transactions ≡ core.old.transactions) }
 {

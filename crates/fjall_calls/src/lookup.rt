@@ -6,7 +6,7 @@ ghost use Rattle.fjall_calls.specs.Names.{Takes, is_of_kind, is_wanted};
 use crate::call::Kind;
 use crate::named::Named;
 use fjall_base::Disk;
-use fjall_transactions::{Core, Transaction};
+use fjall_core::{Core, Transaction};
 
 // Whether a transaction is of this kind, or any kind will do.
 fn is_of_kind(transaction: &Transaction, kind: Option<Kind>) -> bool

@@ -1,14 +1,14 @@
 //! Lists of calls, which are served in order.
 
 ghost use Rattle.std.specs.Prelude.{◌≡◌, ◌+◌, ◌++◌, ◌∷◌, ◌<◌, ◌≤◌, [], IfOk, IsOkUnless, OnErr, vec_capacity, vec_len};
-ghost use Rattle.fjall_transactions.specs.Jobs.{KeepsJobs};
+ghost use Rattle.fjall_core.specs.Jobs.{KeepsJobs};
 ghost use Rattle.fjall_calls.specs.Serving.{RunsTx, ServesListed};
 
 use crate::call::TxCall;
 use crate::ends::{begin, commit, roll_back, within};
 use crate::named::Named;
 use fjall_base::{Disk, Error, Result};
-use fjall_transactions::{Core, Job, Reply};
+use fjall_core::{Core, Job, Reply};
 use std::alloc::Global;
 
 // Serves one call of a list, where the calls before it got these replies. The transactions and the jobs that are out are kept in

@@ -10,13 +10,13 @@ use Rattle.fjall_journal.specs.declared.batch.ReadBatchItem.{ReadBatchItem}
 use Rattle.fjall_journal.specs.declared.op.Op.{Op}
 use Rattle.fjall_journal.specs.declared.op.Op.TheVariants.{Put, Remove, RemoveWeak}
 use Rattle.fjall_meta.specs.Keyspaces.{Keyspaces}
-use Rattle.fjall_contents.specs.Replays.{Indirect, Unordered, commands_of, counts, first_fault, least_after, value_of}
-use Rattle.fjall_contents.specs.Views as views
-use Rattle.fjall_contents.specs.Views.{clear_in, entries_in}
-use Rattle.fjall_contents.proofs.Faults.{first_fault-append}
-use Rattle.fjall_contents.proofs.Writes as Writes
-use Rattle.fjall_views.proofs.Tests.{all_of}
-use Rattle.fjall_writes.specs.Ingestions.{KeyOp}
+use Rattle.fjall_meta.specs.Replays.{Indirect, Unordered, commands_of, counts, first_fault, least_after, value_of}
+use Rattle.fjall_meta.specs.Views as views
+use Rattle.fjall_meta.specs.Views.{clear_in, entries_in}
+use Rattle.fjall_meta.proofs.ContentFaults.{first_fault-append}
+use Rattle.fjall_meta.proofs.Writes as Writes
+use Rattle.fjall_memtable.proofs.Tests.{all_of}
+use Rattle.fjall_reading.specs.Ingestions.{KeyOp}
 use Rattle.fjall_compaction.specs.Ingests.{batch_items, ingestion, versions_made}
 use Rattle.fjall_compaction.proofs.Silence.{itself}
 

@@ -3,12 +3,12 @@ use Rattle.std.proofs.Common.{◌≡◌, ◌⊎◌, inl, ℕ, ◌+◌, ◌<◌, 
 use Rattle.std.proofs.lemmas.List.{append-nil}
 use Rattle.fjall_base.specs.declared.error.Error.{Error}
 use Rattle.fjall_base.specs.Disk.{DiskEntry, IsFile, IsNoFolder, LeavesOnly, Meaning, state_in}
-use Rattle.fjall_contents.specs.Contents.{is_beyond}
+use Rattle.fjall_meta.specs.Contents.{is_beyond}
 use Rattle.fjall_files.specs.Calls.{AllServed}
 use Rattle.fjall_files.specs.Names.{table_name}
 use Rattle.fjall_files.proofs.Parts.{in_region}
 use Rattle.fjall_compaction.specs.declared.flush.plan.FlushPlan.{FlushPlan}
-use Rattle.fjall_compaction.specs.Flushes.{Flush, Follows, HasAt, flush_with, home_after, record_after}
+use Rattle.fjall_compaction.specs.Flushes.{Flush, Follows, HasAt, flush_with, home_after, record_after_flush}
 use Rattle.fjall_compaction.specs.FlushPlans.{ForPlannedOf, ForTablesOn, HaveFiles, IsFlushPlan, KeepsBeside}
 use Rattle.fjall_compaction.proofs.Beside.{tables_stay}
 use Rattle.fjall_compaction.proofs.FlushReading.{files_joined}
@@ -23,7 +23,7 @@ use Rattle.fjall_memtable.specs.Sorted.{flat}
 use Rattle.fjall_table.specs.Blocks as blocks
 use Rattle.fjall_table_reader.specs.Files.{bytes_in, entry_at}
 use Rattle.fjall_manifest.specs.Records.{Fields}
-use Rattle.fjall_writes.specs.Ingestions.{KeyOp}
+use Rattle.fjall_reading.specs.Ingestions.{KeyOp}
 use Rattle.fjall_compaction.specs.declared.ingestion.whole.MemoryPlan.{MemoryPlan}
 use Rattle.fjall_compaction.specs.declared.ingestion.whole.PlannedIngestion.{PlannedIngestion}
 use Rattle.fjall_compaction.specs.IngestionPlans.{ForIngestNext, ForIngestOn, IsIngestPlan}
@@ -122,8 +122,8 @@ at_flushed true id f lists h versions t at = record { home = there t.homes id (h
 at_flushed false id f lists h versions t at = at
 
 -- and its last record
-last_at : (flushes : Bool) (f : Flush) (h : Home) (last : Fields) → h.last ≡ last → (home_flushed flushes f h).last ≡ cond flushes (record_after f last) last
-last_at true f h last same = ap (record_after f) same
+last_at : (flushes : Bool) (f : Flush) (h : Home) (last : Fields) → h.last ≡ last → (home_flushed flushes f h).last ≡ cond flushes (record_after_flush f last) last
+last_at true f h last same = ap (record_after_flush f) same
 last_at false f h last same = same
 
 module _ (tree : Shape) (id watermark n : ℕ) (items : List KeyOp) (last : Fields) (p : PlannedIngestion) (is : IsIngestionPlan tree id watermark n items last p) where

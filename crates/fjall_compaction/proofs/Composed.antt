@@ -27,8 +27,8 @@ use Rattle.fjall_recovery.proofs.Composing.{not_under}
 use Rattle.fjall_table.specs.Blocks.{Entry}
 use Rattle.fjall_table.specs.Tables.{Handle}
 use Rattle.fjall_manifest.specs.Records.{Fields}
-use Rattle.fjall_contents.proofs.Ids.{living_has}
-use Rattle.fjall_contents.proofs.Slots.{get_put, same_id, same_maps}
+use Rattle.fjall_meta.proofs.Ids.{living_has}
+use Rattle.fjall_meta.proofs.Slots.{get_put, same_id, same_maps}
 use Rattle.fjall_compaction.specs.Flushes.{HasAt}
 use Rattle.fjall_compaction.proofs.FlushAfterHomes.{versions_at}
 

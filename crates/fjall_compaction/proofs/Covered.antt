@@ -5,11 +5,11 @@ use Rattle.std.proofs.lemmas.Bool.{cases_lt, le-ltb, le-leb, lt-leb}
 use Rattle.std.proofs.lemmas.List.Elements.{All-append, All-filter, All-head, All-tail, All-weaker}
 use Rattle.fjall_base.specs.Pairs.{Bytes}
 use Rattle.fjall_table.specs.Blocks.{Entry}
-use Rattle.fjall_views.specs.Jobs.{OnceEach, Same, flushed, is_hidden, is_later}
-use Rattle.fjall_views.specs.Views.{value_at}
-use Rattle.fjall_views.proofs.Hiding.{a_flush_keeps_views}
-use Rattle.fjall_views.proofs.Sameness.{all_among, among_has, is}
-use Rattle.fjall_views.proofs.Tests.{filters_same}
+use Rattle.fjall_memtable.specs.Jobs.{OnceEach, Same, flushed, is_hidden, is_later}
+use Rattle.fjall_memtable.specs.Views.{value_at}
+use Rattle.fjall_memtable.proofs.Hiding.{a_flush_keeps_views}
+use Rattle.fjall_memtable.proofs.Sameness.{all_among, among_has, is}
+use Rattle.fjall_memtable.proofs.Tests.{filters_same}
 use Rattle.fjall_compaction.proofs.Layers.{all_seen, any_agree, high_clears_are_high, high_clears_of, high_is_high, high_of, low_clears_are_low, low_clears_of, low_is_low, low_of, parted, same_over, unseen}
 
 -- ---- behind what is numbered at most a number

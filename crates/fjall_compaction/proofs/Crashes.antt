@@ -2,7 +2,7 @@
 use Rattle.std.proofs.Common.{◌≡◌, ◌⊎◌, inl, inr, ℕ, List, [], ◌∷◌, ◌++◌, refl, sym, ◌∙◌, ap, subst, codes}
 use Rattle.fjall_base.specs.Disk.{Image, LeavesOnly, Meaning, state_in}
 use Rattle.fjall_base.specs.Store.{Command, Store, apply, kept}
-use Rattle.fjall_commit.proofs.CrashedJournals.{commanded, commands_more, kept_with, store_is_kept}
+use Rattle.fjall_changes.proofs.CrashedJournals.{commanded, commands_more, kept_with, store_is_kept}
 use Rattle.fjall_files.specs.Names.{keyspace_folder}
 use Rattle.fjall_files.specs.Regions.{Within}
 use Rattle.fjall_compaction.proofs.Composed.{seen}
@@ -18,8 +18,8 @@ use Rattle.fjall_recovery.specs.Places.{Journaling, LiesInRoot, contents_with, j
 use Rattle.fjall_recovery.proofs.Holding.{made}
 use Rattle.fjall_recovery.proofs.Roots.{crashes_leave_the_root}
 use Rattle.fjall_table.specs.Blocks.{Entry}
-use Rattle.fjall_contents.proofs.Kept.{kept_along}
-use Rattle.fjall_writes.specs.Ingestions.{KeyOp}
+use Rattle.fjall_meta.proofs.Kept.{kept_along}
+use Rattle.fjall_reading.specs.Ingestions.{KeyOp}
 use Rattle.fjall_compaction.specs.Commands.{MayIngest, MayIngestSynced}
 use Rattle.fjall_compaction.specs.Ingests.{ingestion, tree_with}
 use Rattle.fjall_compaction.proofs.Storing as Storing

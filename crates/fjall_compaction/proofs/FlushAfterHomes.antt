@@ -4,7 +4,7 @@ use Rattle.std.specs.FinMap.{get}
 use Rattle.std.proofs.lemmas.Grind.{flat_map-append}
 use Rattle.std.proofs.lemmas.List.Elements.{All-append, All-weaker}
 use Rattle.fjall_base.specs.Disk.{DiskState}
-use Rattle.fjall_contents.specs.Contents.{is_beyond}
+use Rattle.fjall_meta.specs.Contents.{is_beyond}
 use Rattle.fjall_jobs.specs.declared.made_table.MadeTable.{MadeTable}
 use Rattle.fjall_jobs.specs.Sequences.{AreMadeTables}
 use Rattle.fjall_manifest.specs.Changes.{AreKeptOrNew, IsNext, IsOneOf}
@@ -16,11 +16,11 @@ use Rattle.fjall_recovery.proofs.Storing.{versions_inserted}
 use Rattle.fjall_memtable.specs.Sorted.{flat}
 use Rattle.fjall_table.specs.Blocks.{Entry}
 use Rattle.fjall_table.specs.declared.table_info.TableInfo.{TableInfo}
-use Rattle.fjall_compaction.specs.Flushes.{Flush, Follows, HasAt, home_after, infos_from, raised, texts_of, tree_after}
+use Rattle.fjall_compaction.specs.Flushes.{Flush, Follows, HasAt, home_after, flushed_infos, raised, texts_of, tree_after}
 use Rattle.fjall_compaction.proofs.FlushAfterRecords.{clears_within, now_within, still_within}
 use Rattle.fjall_compaction.proofs.Once.{both_once}
 
-pub infos_count : (next : ℕ) (tables : List MadeTable) → length (infos_from next tables) ≡ length tables
+pub infos_count : (next : ℕ) (tables : List MadeTable) → length (flushed_infos next tables) ≡ length tables
 infos_count next [] = refl
 infos_count next (t ∷ tables) = let rest = infos_count (next + 1) tables in omega (arith, rest)
 
@@ -35,7 +35,7 @@ both_right (t ∷ tables) infos [] more entries lists one two = absurd one
 both_right (t ∷ tables) infos (text ∷ texts) more [] lists one two = absurd one
 both_right (t ∷ tables) infos (text ∷ texts) more (e ∷ entries) lists one two = (one.0, both_right tables infos texts more entries lists one.1 two)
 
-pub new_right : (next : ℕ) (tables : List MadeTable) (lists : List (List Entry)) → AreMadeTables tables lists → AreRight (infos_from next tables) (texts_of tables) lists
+pub new_right : (next : ℕ) (tables : List MadeTable) (lists : List (List Entry)) → AreMadeTables tables lists → AreRight (flushed_infos next tables) (texts_of tables) lists
 new_right next [] [] made = tt
 new_right next [] (l ∷ lists) made = absurd made
 new_right next (t ∷ tables) [] made = absurd made
@@ -46,7 +46,7 @@ has_versions f lists h versions follows has =
     let P = λ (v : Entry). is_beyond (Some (raised h.last.persisted f.number)) v.number ≡ false in
     record {
       lists = has.lists ++ lists;
-      right = both_right h.last.tables (infos_from h.last.next_table_id f.tables) h.texts (texts_of f.tables) has.lists lists has.right (new_right h.last.next_table_id f.tables lists follows.made);
+      right = both_right h.last.tables (flushed_infos h.last.next_table_id f.tables) h.texts (texts_of f.tables) has.lists lists has.right (new_right h.last.next_table_id f.tables lists follows.made);
       all = ap (λ (l : List Entry). l ++ flat lists) has.all ∙ sym (flat_map-append (λ (entries : List Entry). entries) has.lists lists);
       within = (
         All-append P versions (flat lists)

@@ -6,13 +6,13 @@ use Rattle.std.proofs.lemmas.Bool.{le-ltb, ltb-false, ltb-true, true≢false}
 use Rattle.std.proofs.lemmas.List.{map-append}
 use Rattle.std.proofs.lemmas.List.Elements.{All-append, All-cons, All-head, All-nil, All-tail, All-weaker}
 use Rattle.std.proofs.lemmas.List.Kept.{AllPairs-cons}
-use Rattle.fjall_contents.specs.Contents.{is_beyond}
+use Rattle.fjall_meta.specs.Contents.{is_beyond}
 use Rattle.fjall_jobs.specs.declared.made_table.MadeTable.{MadeTable}
 use Rattle.fjall_recovery.specs.Homes.{ClearsAreWithin}
 use Rattle.fjall_table.specs.Blocks.{Entry}
 use Rattle.fjall_table.specs.declared.table_info.TableInfo.{TableInfo}
 use Rattle.fjall_manifest.specs.Records.{Fields, Fits, IsRecord}
-use Rattle.fjall_compaction.specs.Flushes.{Flush, Follows, infos_from, raised, record_after}
+use Rattle.fjall_compaction.specs.Flushes.{Flush, Follows, flushed_infos, raised, record_after_flush}
 
 -- ---- numbers
 
@@ -37,7 +37,7 @@ raised_is (Some m) number beyond = let lt = ltb-true m number beyond in omega (a
 
 -- ---- clears
 
-pub clears_within : (f : Flush) (lists : List (List Entry)) (last : Fields) → Follows f lists last → ClearsAreWithin last → ClearsAreWithin (record_after f last)
+pub clears_within : (f : Flush) (lists : List (List Entry)) (last : Fields) → Follows f lists last → ClearsAreWithin last → ClearsAreWithin (record_after_flush f last)
 clears_within f lists last follows within =
     let P = λ (n : ℕ). is_beyond (Some (raised last.persisted f.number)) n ≡ false in
     All-append P last.clears f.clears
@@ -49,23 +49,23 @@ clears_within f lists last follows within =
 abbrev ids : List TableInfo → List ℕ
 ids tables = map (λ (t : TableInfo). t.id) tables
 
-new_below : (next : ℕ) (tables : List MadeTable) → All (λ t. t.id < next + length tables) (infos_from next tables)
+new_below : (next : ℕ) (tables : List MadeTable) → All (λ t. t.id < next + length tables) (flushed_infos next tables)
 new_below next [] = All-nil (λ (t : TableInfo). t.id < next + 0)
 new_below next (t ∷ tables) =
-    All-cons (λ (i : TableInfo). i.id < next + length (t ∷ tables)) _ (infos_from (next + 1) tables) (omega arith)
-    (All-weaker (λ (i : TableInfo). i.id < next + 1 + length tables) (λ i. i.id < next + length (t ∷ tables)) (λ i lt. omega (arith, lt)) (infos_from (next + 1) tables) (new_below (next + 1) tables))
+    All-cons (λ (i : TableInfo). i.id < next + length (t ∷ tables)) _ (flushed_infos (next + 1) tables) (omega arith)
+    (All-weaker (λ (i : TableInfo). i.id < next + 1 + length tables) (λ i. i.id < next + length (t ∷ tables)) (λ i lt. omega (arith, lt)) (flushed_infos (next + 1) tables) (new_below (next + 1) tables))
 
-new_from : (next : ℕ) (tables : List MadeTable) → All (λ n. next ≤ n) (ids (infos_from next tables))
+new_from : (next : ℕ) (tables : List MadeTable) → All (λ n. next ≤ n) (ids (flushed_infos next tables))
 new_from next [] = All-nil (λ n. next ≤ n)
 new_from next (t ∷ tables) =
-    All-cons (λ n. next ≤ n) next (ids (infos_from (next + 1) tables)) (omega arith)
-    (All-weaker (λ n. next + 1 ≤ n) (λ n. next ≤ n) (λ n le. omega (arith, le)) (ids (infos_from (next + 1) tables)) (new_from (next + 1) tables))
+    All-cons (λ n. next ≤ n) next (ids (flushed_infos (next + 1) tables)) (omega arith)
+    (All-weaker (λ n. next + 1 ≤ n) (λ n. next ≤ n) (λ n le. omega (arith, le)) (ids (flushed_infos (next + 1) tables)) (new_from (next + 1) tables))
 
-new_differ : (next : ℕ) (tables : List MadeTable) → AllPairs (λ a b. a ≢ b) (ids (infos_from next tables))
+new_differ : (next : ℕ) (tables : List MadeTable) → AllPairs (λ a b. a ≢ b) (ids (flushed_infos next tables))
 new_differ next [] = λ i j d lt within. absurd (omega (arith, within))
 new_differ next (t ∷ tables) =
-    AllPairs-cons (λ a b. a ≢ b) next (ids (infos_from (next + 1) tables))
-    (All-weaker (λ n. next + 1 ≤ n) (λ n. next ≢ n) (λ n le e. omega (arith, le, e)) (ids (infos_from (next + 1) tables)) (new_from (next + 1) tables)) (new_differ (next + 1) tables)
+    AllPairs-cons (λ a b. a ≢ b) next (ids (flushed_infos (next + 1) tables))
+    (All-weaker (λ n. next + 1 ≤ n) (λ n. next ≢ n) (λ n le e. omega (arith, le, e)) (ids (flushed_infos (next + 1) tables)) (new_from (next + 1) tables)) (new_differ (next + 1) tables)
 
 -- numbers below a bound that differ, and from it on such that differ
 both_differ : (bound : ℕ) (xs ys : List ℕ) → AllPairs (λ a b. a ≢ b) xs → AllPairs (λ a b. a ≢ b) ys → All (λ n. n < bound) xs → All (λ n. bound ≤ n) ys → AllPairs (λ a b. a ≢ b) (xs ++ ys)
@@ -86,11 +86,11 @@ each_below bound (t ∷ tables) low =
 small_numbers : (bound number : ℕ) (ns : List ℕ) → number < bound → All (λ n. n ≤ number) ns → All (λ n. n < bound) ns
 small_numbers bound number ns lt low = All-weaker (λ n. n ≤ number) (λ n. n < bound) (λ n le. omega (arith, lt, le)) ns low
 
-pub record_with : (f : Flush) (last : Fields) → f.number < 2 ^ 63 → All (λ n. n ≤ f.number) f.clears → IsStrictlyIncreasing (last.clears ++ f.clears) → Fits (record_after f last) → IsRecord last
-    → IsRecord (record_after f last)
+pub record_with : (f : Flush) (last : Fields) → f.number < 2 ^ 63 → All (λ n. n ≤ f.number) f.clears → IsStrictlyIncreasing (last.clears ++ f.clears) → Fits (record_after_flush f last) → IsRecord last
+    → IsRecord (record_after_flush f last)
 record_with f last small clears ascend fits is =
     let was = is.consistent in
-    let infos = infos_from last.next_table_id f.tables in
+    let infos = flushed_infos last.next_table_id f.tables in
     record {
       fits = fits;
       consistent = record {
@@ -107,5 +107,5 @@ record_with f last small clears ascend fits is =
       };
     }
 
-pub is_record : (f : Flush) (lists : List (List Entry)) (last : Fields) → Follows f lists last → Fits (record_after f last) → IsRecord last → IsRecord (record_after f last)
+pub is_record : (f : Flush) (lists : List (List Entry)) (last : Fields) → Follows f lists last → Fits (record_after_flush f last) → IsRecord last → IsRecord (record_after_flush f last)
 is_record f lists last follows = record_with f last follows.small follows.clears follows.ascend

@@ -8,14 +8,14 @@ use Rattle.std.proofs.lemmas.List.{map-append}
 use Rattle.std.proofs.lemmas.List.Elements.{All-append, All-cons, All-drop, All-head, All-nil, All-tail, All-weaker}
 use Rattle.fjall_base.proofs.Codecs.{some_is}
 use Rattle.fjall_table_reader.specs.Readers.{Reader}
-use Rattle.fjall_catalog.specs.Catalog.{fields, first_of}
-use Rattle.fjall_contents.specs.Contents.{Stored, clears_held, is_beyond, versions_held}
+use Rattle.fjall_manifest.specs.Catalog.{fields, first_of}
+use Rattle.fjall_meta.specs.Contents.{Stored, clears_held, is_beyond, versions_held}
 use Rattle.fjall_manifest.specs.Homes.{Home}
 use Rattle.fjall_manifest.specs.Reading.{AreRight}
 use Rattle.fjall_jobs.specs.declared.made_table.MadeTable.{MadeTable}
 use Rattle.fjall_jobs.specs.Tasks.{IsFlushed, Task}
 use Rattle.fjall_journal.specs.Batches.{Shown, Written, shown}
-use Rattle.fjall_recovery.specs.Known.{GoesOnFrom, IsKnown, LastFields, last_known}
+use Rattle.fjall_replay.specs.Known.{GoesOnFrom, IsKnown, LastFields, last_known}
 use Rattle.fjall_tree.specs.Jobs.{IsFlushing, count_out, flush_end, flush_finished}
 use Rattle.fjall_tree.specs.Trees.{Flushing, Shape, first_from, floor_of}
 use Rattle.fjall_meta.specs.declared.living.LivingKeyspace.{LivingKeyspace}
@@ -25,8 +25,8 @@ use Rattle.fjall_recovery.specs.Homes.{ClearsAreWithin, stored_at, stored_in, st
 use Rattle.fjall_recovery.specs.Journals.{batches_in}
 use Rattle.fjall_recovery.specs.Places.{Journaling, journals_with}
 use Rattle.fjall_recovery.proofs.Storing.{stored_inserted}
-use Rattle.fjall_recovery.specs.Beside.{AreReplayedWith, ShowsWith}
-use Rattle.fjall_recovery.specs.Replayed.{past}
+use Rattle.fjall_replay.specs.Beside.{AreReplayedWith, ShowsWith}
+use Rattle.fjall_replay.specs.Replayed.{past}
 use Rattle.fjall_memtable.specs.Sorted.{flat}
 use Rattle.fjall_table.specs.Blocks.{Entry}
 use Rattle.fjall_manifest.specs.Records.{Fields}
@@ -36,12 +36,12 @@ use Rattle.fjall_trees.proofs.Others.{altered_here, altered_other}
 use Rattle.fjall_trees.proofs.Outstanding.{flushing_tree}
 use Rattle.fjall_trees.proofs.Places.{tree_has}
 use Rattle.fjall_trees.proofs.Reading.{entries_here}
-use Rattle.fjall_contents.proofs.Found.{found_has}
-use Rattle.fjall_contents.proofs.Slots.{get_put, same_id}
-use Rattle.fjall_views.specs.Views.{value_at}
+use Rattle.fjall_meta.proofs.Found.{found_has}
+use Rattle.fjall_meta.proofs.Slots.{get_put, same_id}
+use Rattle.fjall_memtable.specs.Views.{value_at}
 use Rattle.fjall_compaction.specs.Covering.{MayCount, ShowsBatches, TakesParts}
 use Rattle.fjall_compaction.specs.FlushFinishing.{AreTreesKnown, CanFinish, flush_out}
-use Rattle.fjall_compaction.specs.Flushes.{Flush, Follows, HasAt, home_after, infos_from, record_after, texts_of, tree_after}
+use Rattle.fjall_compaction.specs.Flushes.{Flush, Follows, HasAt, home_after, flushed_infos, record_after_flush, texts_of, tree_after}
 use Rattle.fjall_compaction.proofs.FlushAfterHomes.{both_right, new_right, versions_at}
 use Rattle.fjall_compaction.proofs.FlushAfterRecords.{raised_is}
 use Rattle.fjall_compaction.proofs.FlushSameStore.{first_all, same_memory}
@@ -260,11 +260,11 @@ module _ (j : Journaling) (t : Tree) (trees : Forest) (entries : ℕ → List (L
       all_entries = flat_map-append (λ (l : List Entry). l) (entries k.id) made.lists
 
       -- these are what its tables hold then
-      right_after : AreRight (h.last.tables ++ infos_from h.last.next_table_id tables) (h.texts ++ texts_of tables) (entries k.id ++ made.lists)
+      right_after : AreRight (h.last.tables ++ flushed_infos h.last.next_table_id tables) (h.texts ++ texts_of tables) (entries k.id ++ made.lists)
       right_after =
-          both_right h.last.tables (infos_from h.last.next_table_id tables) h.texts (texts_of tables) (entries k.id) made.lists right (new_right h.last.next_table_id tables made.lists made.made)
+          both_right h.last.tables (flushed_infos h.last.next_table_id tables) h.texts (texts_of tables) (entries k.id) made.lists right (new_right h.last.next_table_id tables made.lists made.made)
 
-      module _ (readers : List Reader) (infos : map (λ (r : Reader). r.info) readers ≡ infos_from h.last.next_table_id tables) where
+      module _ (readers : List Reader) (infos : map (λ (r : Reader). r.info) readers ≡ flushed_infos h.last.next_table_id tables) where
         abbrev after : Forest
         after = altered_at k.id (flush_finished readers out) trees
 
@@ -272,7 +272,7 @@ module _ (j : Journaling) (t : Tree) (trees : Forest) (entries : ℕ → List (L
         entries_after = entries_with k.id (entries k.id ++ made.lists) entries
 
         abbrev records_after : LastFields
-        records_after = insert records k.id (record_after f h.last)
+        records_after = insert records k.id (record_after_flush f h.last)
 
         abbrev shape_after : Shape
         shape_after = flush_finished readers out shape
@@ -329,7 +329,7 @@ module _ (j : Journaling) (t : Tree) (trees : Forest) (entries : ℕ → List (L
             by id there false differ = (there.0, other_tree id differ ∙ there.1, other_after id there.0 differ there.2)
 
         -- its tree goes on from the record after the flush
-        goes_after : GoesOnFrom (record_after f h.last) shape_after
+        goes_after : GoesOnFrom (record_after_flush f h.last) shape_after
         goes_after = record {
           tables = map-append (λ (r : Reader). r.info) shape.tables readers ∙ (λ i. goes_on.tables i ++ infos i);
           clears = λ i. goes_on.clears i ++ sym own i;
@@ -351,7 +351,7 @@ module _ (j : Journaling) (t : Tree) (trees : Forest) (entries : ℕ → List (L
                   ∙ cond-true (i.id == k.id) (Some (flat (entries k.id) ++ flat made.lists)) (get t.versions i.id) same
                   ∙ ap (λ (l : List Entry). Some l) (sym all_entries ∙ ap flat (sym (cond-true (i.id == k.id) (entries k.id ++ made.lists) (entries i.id) same)));
               last = ap (λ (o : Option Fields). unwrap_or o (fields (first_of i.number)))
-                  (get_put records k.id (record_after f h.last) i.id ∙ cond-true (i.id == k.id) (Some (record_after f h.last)) (get records i.id) same);
+                  (get_put records k.id (record_after_flush f h.last) i.id ∙ cond-true (i.id == k.id) (Some (record_after_flush f h.last)) (get records i.id) same);
               shape = shape_after;
               tree = subst (λ n. tree_at n after ≡ Some shape_after) (sym (same_id i.id k.id same)) tree_after_it;
               goes_on = goes_after;
@@ -365,7 +365,7 @@ module _ (j : Journaling) (t : Tree) (trees : Forest) (entries : ℕ → List (L
                   ∙ known.stored
                   ∙ ap (λ (l : List (List Entry)). Some (flat l)) (sym (cond-false (i.id == k.id) (entries k.id ++ made.lists) (entries i.id) differ));
               last = ap (λ (o : Option Fields). unwrap_or o (fields (first_of i.number)))
-                  (get_put records k.id (record_after f h.last) i.id ∙ cond-false (i.id == k.id) (Some (record_after f h.last)) (get records i.id) differ)
+                  (get_put records k.id (record_after_flush f h.last) i.id ∙ cond-false (i.id == k.id) (Some (record_after_flush f h.last)) (get records i.id) differ)
                   ∙ known.last;
               shape = known.shape;
               tree = other_tree i.id differ ∙ known.tree;

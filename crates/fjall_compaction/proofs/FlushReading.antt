@@ -13,7 +13,7 @@ use Rattle.fjall_table.specs.declared.level.Level.TheVariants.{L0}
 use Rattle.fjall_table.specs.declared.table_info.TableInfo.{TableInfo}
 use Rattle.fjall_table.specs.Blocks.{Entry}
 use Rattle.fjall_table_reader.specs.Files.{bytes_in, entry_at}
-use Rattle.fjall_compaction.specs.Flushes.{infos_from}
+use Rattle.fjall_compaction.specs.Flushes.{flushed_infos}
 use Rattle.fjall_compaction.specs.FlushPlans.{AreReadersOf, HaveFiles, IsNamed}
 
 -- ---- the table that was made
@@ -63,11 +63,11 @@ one_reader id next (u ∷ []) name t reader named first called info reads =
 
 -- ---- some tables, and those behind them
 
-pub infos_both : (next : ℕ) (xs ys : List MadeTable) → infos_from next (xs ++ ys) ≡ infos_from next xs ++ infos_from (next + length xs) ys
-infos_both next [] ys = ap (λ (n : ℕ). infos_from n ys) (omega arith)
+pub infos_both : (next : ℕ) (xs ys : List MadeTable) → flushed_infos next (xs ++ ys) ≡ flushed_infos next xs ++ flushed_infos (next + length xs) ys
+infos_both next [] ys = ap (λ (n : ℕ). flushed_infos n ys) (omega arith)
 infos_both next (x ∷ xs) ys =
     ap (λ (l : List TableInfo). record { id = next; level = L0; file_len = length x.bytes.items; entry_count = x.entry_count } ∷ l)
-    (infos_both (next + 1) xs ys ∙ ap (λ (n : ℕ). infos_from (next + 1) xs ++ infos_from n ys) (omega arith))
+    (infos_both (next + 1) xs ys ∙ ap (λ (n : ℕ). flushed_infos (next + 1) xs ++ flushed_infos n ys) (omega arith))
 
 pub files_both : (disk : Meaning) (id next : ℕ) (xs ys : List MadeTable) → HaveFiles disk id next (xs ++ ys) → HaveFiles disk id next xs × HaveFiles disk id (next + length xs) ys
 files_both disk id next [] ys files = (tt, subst (λ (n : ℕ). HaveFiles disk id n ys) (omega arith) files)
@@ -94,7 +94,7 @@ pub readers_both : (id next : ℕ) (xs ys : List MadeTable) (rs ss : List Reader
 readers_both id next xs ys rs ss one two = record {
   names = map-append (λ (t : Reader). t.name) rs ss ∙ (λ i. one.names i ++ two.names i)
       ∙ sym (ap (map (λ (t : TableInfo). table_name id t.id)) (infos_both next xs ys)
-      ∙ map-append (λ (t : TableInfo). table_name id t.id) (infos_from next xs) (infos_from (next + length xs) ys));
+      ∙ map-append (λ (t : TableInfo). table_name id t.id) (flushed_infos next xs) (flushed_infos (next + length xs) ys));
   infos = map-append (λ (t : Reader). t.info) rs ss ∙ (λ i. one.infos i ++ two.infos i) ∙ sym (infos_both next xs ys);
   read = λ disk lists made files.
       let parts = made_both xs ys lists made in

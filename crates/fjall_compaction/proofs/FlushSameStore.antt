@@ -6,9 +6,9 @@ use Rattle.std.proofs.lemmas.List.{append-nil, map-append}
 use Rattle.std.proofs.lemmas.List.Elements.{All-cons, All-head, All-map, All-nil, All-tail, All-weaker, filter-append}
 use Rattle.fjall_base.specs.Pairs.{Bytes}
 use Rattle.fjall_base.specs.Store.{Clear}
-use Rattle.fjall_contents.specs.Contents.{Stored, clears_held, commands_beyond, counts_beyond, is_beyond, journal_beyond, versions_held}
-use Rattle.fjall_contents.proofs.Beyond.{beyond_is_later}
-use Rattle.fjall_contents.proofs.Held.{views_alone_matter}
+use Rattle.fjall_meta.specs.Contents.{Stored, clears_held, commands_beyond, counts_beyond, is_beyond, journal_beyond, versions_held}
+use Rattle.fjall_meta.proofs.Beyond.{beyond_is_later}
+use Rattle.fjall_meta.proofs.Held.{views_alone_matter}
 use Rattle.fjall_manifest.specs.Homes.{Home}
 use Rattle.fjall_journal.specs.Batches.{Shown, Written, shown}
 use Rattle.fjall_meta.specs.Keyspaces.{Keyspaces}
@@ -21,12 +21,12 @@ use Rattle.fjall_recovery.proofs.Roots.{batches_are}
 use Rattle.fjall_recovery.proofs.Storing.{stored_inserted}
 use Rattle.fjall_memtable.specs.Sorted.{flat}
 use Rattle.fjall_table.specs.Blocks.{Entry}
-use Rattle.fjall_contents.specs.Replays.{counts, item_of, writing}
-use Rattle.fjall_contents.specs.Views.{clear_in, clears_of, entries_in, versions_of}
-use Rattle.fjall_contents.proofs.Slots.{same_id}
-use Rattle.fjall_contents.proofs.Viewing.{clears_numbered, versions_numbered}
-use Rattle.fjall_views.specs.Views.{value_at}
-use Rattle.fjall_views.proofs.Tests.{filter-filter, filters_same, filters_swap}
+use Rattle.fjall_meta.specs.Replays.{counts, item_of, writing}
+use Rattle.fjall_meta.specs.Views.{clear_in, clears_of, entries_in, versions_of}
+use Rattle.fjall_meta.proofs.Slots.{same_id}
+use Rattle.fjall_meta.proofs.Viewing.{clears_numbered, versions_numbered}
+use Rattle.fjall_memtable.specs.Views.{value_at}
+use Rattle.fjall_memtable.proofs.Tests.{filter-filter, filters_same, filters_swap}
 use Rattle.fjall_compaction.specs.Covering.{MayCount, ShowsBatches}
 use Rattle.fjall_compaction.specs.Flushes.{Flush, home_after, raised, tree_after}
 use Rattle.fjall_compaction.proofs.FlushAfterHomes.{versions_at}

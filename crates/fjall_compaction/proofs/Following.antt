@@ -16,8 +16,8 @@ use Rattle.fjall_recovery.specs.Journals.{batches_in}
 use Rattle.fjall_recovery.specs.Places.{Journaling, contents_with, journals_with}
 use Rattle.fjall_memtable.specs.Sorted.{flat}
 use Rattle.fjall_table.specs.Blocks.{Entry}
-use Rattle.fjall_contents.specs.Replays.{counts, first_fault}
-use Rattle.fjall_contents.proofs.Slots.{get_put}
+use Rattle.fjall_meta.specs.Replays.{counts, first_fault}
+use Rattle.fjall_meta.proofs.Slots.{get_put}
 use Rattle.fjall_compaction.specs.Commands.{MayIngestSynced}
 use Rattle.fjall_compaction.proofs.Silence.{itself}
 

@@ -9,11 +9,11 @@ use Rattle.std.proofs.lemmas.List.Folds.{list_any-append}
 use Rattle.std.proofs.lemmas.List.Elements.{All-head, All-tail, All-weaker, filter_passes}
 use Rattle.fjall_base.specs.Pairs.{Bytes}
 use Rattle.fjall_table.specs.Blocks.{Entry}
-use Rattle.fjall_views.specs.Views.{is_cleared, is_seen, later, newest, newest_of, value_at, value_left}
-use Rattle.fjall_views.proofs.Clears.{none_cleared}
-use Rattle.fjall_views.proofs.Hiding.{clears_order}
-use Rattle.fjall_views.proofs.Newest.{first_wins, later_assoc, later_none, newest-append, newest_has, one, second_wins, top, top-later, top_below}
-use Rattle.fjall_views.proofs.Shown.{value_shown}
+use Rattle.fjall_memtable.specs.Views.{is_cleared, is_seen, later, newest, newest_of, value_at, value_left}
+use Rattle.fjall_memtable.proofs.Clears.{none_cleared}
+use Rattle.fjall_memtable.proofs.Hiding.{clears_order}
+use Rattle.fjall_memtable.proofs.NewestSeen.{first_wins, later_assoc, later_none, newest-append, newest_has, one, second_wins, top, top-later, top_below}
+use Rattle.fjall_memtable.proofs.Shown.{value_shown}
 
 -- ---- tests that answer alike
 

@@ -2,7 +2,7 @@
 use Rattle.std.proofs.Common.{◌≡◌, ℕ, zero, suc, ◌+◌, ◌<◌, false, List, [], ◌∷◌, ◌++◌, drop, take, refl, sym, subst}
 use Rattle.std.proofs.lemmas.List.Elements.{All-filter}
 use Rattle.fjall_base.specs.Disk.{DiskState}
-use Rattle.fjall_contents.specs.Contents.{is_beyond}
+use Rattle.fjall_meta.specs.Contents.{is_beyond}
 use Rattle.fjall_compaction.specs.Flushes.{HasAt, texts_of}
 use Rattle.fjall_compaction.proofs.FlushAfterHomes.{both_right, versions_at}
 use Rattle.fjall_manifest.specs.Homes.{AreSafe, Home}
@@ -17,9 +17,9 @@ use Rattle.fjall_recovery.proofs.Storing.{versions_inserted}
 use Rattle.fjall_memtable.specs.Sorted.{flat}
 use Rattle.fjall_table.specs.Blocks.{Entry}
 use Rattle.fjall_table.specs.declared.table_info.TableInfo.{TableInfo}
-use Rattle.fjall_views.specs.Jobs.{OnceEach, merged}
-use Rattle.fjall_views.proofs.Once.{parts_once}
-use Rattle.fjall_compaction.specs.Merges.{Merge, MergesTables, entries_after, home_after, infos_from, tree_after}
+use Rattle.fjall_memtable.specs.Jobs.{OnceEach, merged}
+use Rattle.fjall_memtable.proofs.Once.{parts_once}
+use Rattle.fjall_compaction.specs.Merges.{Merge, MergesTables, entries_after, home_after, merged_infos, tree_after}
 use Rattle.fjall_compaction.proofs.Shows.{each_new, each_new_clear}
 
 -- ---- tables that are left
@@ -33,7 +33,7 @@ right_left (suc n) (t ∷ tables) [] entries right = absurd right
 right_left (suc n) (t ∷ tables) (b ∷ texts) [] right = absurd right
 right_left (suc n) (t ∷ tables) (b ∷ texts) (e ∷ entries) right = right_left n tables texts entries right.1
 
-new_right : (next : ℕ) (tables : List MadeTable) (lists : List (List Entry)) → AreMadeTables tables lists → AreRight (infos_from next tables) (texts_of tables) lists
+new_right : (next : ℕ) (tables : List MadeTable) (lists : List (List Entry)) → AreMadeTables tables lists → AreRight (merged_infos next tables) (texts_of tables) lists
 new_right next [] [] made = tt
 new_right next [] (l ∷ lists) made = absurd made
 new_right next (t ∷ tables) [] made = absurd made
@@ -44,7 +44,7 @@ new_right next (t ∷ tables) (l ∷ lists) made = (record { len = refl; table =
 module _ (m : Merge) (lists entries : List (List Entry)) (h : Home) (is : MergesTables m lists entries h.last) (right : AreRight h.last.tables h.texts entries) where
   pub right_after : AreRight (home_after m h).last.tables (home_after m h).texts (entries_after m lists entries)
   right_after =
-      both_right (infos_from h.last.next_table_id m.tables) (drop m.table_count h.last.tables) (texts_of m.tables) (drop m.table_count h.texts) lists (drop m.table_count entries)
+      both_right (merged_infos h.last.next_table_id m.tables) (drop m.table_count h.last.tables) (texts_of m.tables) (drop m.table_count h.texts) lists (drop m.table_count entries)
       (new_right h.last.next_table_id m.tables lists is.made) (right_left m.table_count h.last.tables h.texts entries right)
 
   pub once_after : OnceEach (flat entries) → OnceEach (flat (entries_after m lists entries))

@@ -7,48 +7,48 @@ use Rattle.std.proofs.lemmas.List.Elements.{All-append, All-cons, All-drop, All-
 use Rattle.std.proofs.lemmas.List.Kept.{AllPairs-cons}
 use Rattle.fjall_compaction.proofs.Taken.{rises}
 use Rattle.fjall_jobs.specs.declared.made_table.MadeTable.{MadeTable}
-use Rattle.fjall_recovery.proofs.Turns.{ascends}
+use Rattle.fjall_replay.proofs.Turns.{ascends}
 use Rattle.fjall_tree.specs.Trees.{IsShape}
 use Rattle.fjall_tree.proofs.Merged.{shape_merged}
 use Rattle.fjall_memtable.specs.Parts.{empty_from}
 use Rattle.fjall_table.specs.Blocks.{Entry}
 use Rattle.fjall_table.specs.declared.table_info.TableInfo.{TableInfo}
 use Rattle.fjall_manifest.specs.Records.{Fields, Fits, IsRecord}
-use Rattle.fjall_views.specs.Jobs.{merged_clears}
-use Rattle.fjall_compaction.specs.Merges.{Merge, MergesTables, infos_from, record_after}
+use Rattle.fjall_memtable.specs.Jobs.{merged_clears}
+use Rattle.fjall_compaction.specs.Merges.{Merge, MergesTables, merged_infos, record_after_merge}
 
 -- ---- ids of tables
 
 abbrev ids : List TableInfo → List ℕ
 ids tables = map (λ (t : TableInfo). t.id) tables
 
-pub infos_count : (next : ℕ) (tables : List MadeTable) → length (infos_from next tables) ≡ length tables
+pub infos_count : (next : ℕ) (tables : List MadeTable) → length (merged_infos next tables) ≡ length tables
 infos_count next [] = refl
 infos_count next (t ∷ tables) = let rest = infos_count (next + 1) tables in omega (arith, rest)
 
 -- the new ones lie between the next one and so many behind it
-pub new_below : (next : ℕ) (tables : List MadeTable) → All (λ t. t.id < next + length tables) (infos_from next tables)
+pub new_below : (next : ℕ) (tables : List MadeTable) → All (λ t. t.id < next + length tables) (merged_infos next tables)
 new_below next [] = All-nil (λ (t : TableInfo). t.id < next + 0)
 new_below next (t ∷ tables) =
-    All-cons (λ (i : TableInfo). i.id < next + length (t ∷ tables)) _ (infos_from (next + 1) tables) (omega arith)
-    (All-weaker (λ (i : TableInfo). i.id < next + 1 + length tables) (λ i. i.id < next + length (t ∷ tables)) (λ i lt. omega (arith, lt)) (infos_from (next + 1) tables) (new_below (next + 1) tables))
+    All-cons (λ (i : TableInfo). i.id < next + length (t ∷ tables)) _ (merged_infos (next + 1) tables) (omega arith)
+    (All-weaker (λ (i : TableInfo). i.id < next + 1 + length tables) (λ i. i.id < next + length (t ∷ tables)) (λ i lt. omega (arith, lt)) (merged_infos (next + 1) tables) (new_below (next + 1) tables))
 
-pub new_from : (next : ℕ) (tables : List MadeTable) → All (λ t. next ≤ t.id) (infos_from next tables)
+pub new_from : (next : ℕ) (tables : List MadeTable) → All (λ t. next ≤ t.id) (merged_infos next tables)
 new_from next [] = All-nil (λ (t : TableInfo). next ≤ t.id)
 new_from next (t ∷ tables) =
-    All-cons (λ (i : TableInfo). next ≤ i.id) _ (infos_from (next + 1) tables) (omega arith)
-    (All-weaker (λ (i : TableInfo). next + 1 ≤ i.id) (λ i. next ≤ i.id) (λ i le. omega (arith, le)) (infos_from (next + 1) tables) (new_from (next + 1) tables))
+    All-cons (λ (i : TableInfo). next ≤ i.id) _ (merged_infos (next + 1) tables) (omega arith)
+    (All-weaker (λ (i : TableInfo). next + 1 ≤ i.id) (λ i. next ≤ i.id) (λ i le. omega (arith, le)) (merged_infos (next + 1) tables) (new_from (next + 1) tables))
 
 each_id : (P : ℕ → Type 0) (tables : List TableInfo) → All (λ t. P t.id) tables → All P (ids tables)
 each_id P [] all = All-nil P
 each_id P (t ∷ tables) all = All-cons P t.id (ids tables) (All-head (λ (i : TableInfo). P i.id) t tables all) (each_id P tables (All-tail (λ (i : TableInfo). P i.id) t tables all))
 
-new_differ : (next : ℕ) (tables : List MadeTable) → AllPairs (λ a b. a ≢ b) (ids (infos_from next tables))
+new_differ : (next : ℕ) (tables : List MadeTable) → AllPairs (λ a b. a ≢ b) (ids (merged_infos next tables))
 new_differ next [] = λ i j d lt within. absurd (omega (arith, within))
 new_differ next (t ∷ tables) =
-    AllPairs-cons (λ a b. a ≢ b) next (ids (infos_from (next + 1) tables))
-    (All-weaker (λ n. next + 1 ≤ n) (λ n. next ≢ n) (λ n le e. omega (arith, le, e)) (ids (infos_from (next + 1) tables))
-    (each_id (λ n. next + 1 ≤ n) (infos_from (next + 1) tables) (new_from (next + 1) tables))) (new_differ (next + 1) tables)
+    AllPairs-cons (λ a b. a ≢ b) next (ids (merged_infos (next + 1) tables))
+    (All-weaker (λ n. next + 1 ≤ n) (λ n. next ≢ n) (λ n le e. omega (arith, le, e)) (ids (merged_infos (next + 1) tables))
+    (each_id (λ n. next + 1 ≤ n) (merged_infos (next + 1) tables) (new_from (next + 1) tables))) (new_differ (next + 1) tables)
 
 -- numbers from a bound on that differ, and below it such that differ
 both_differ : (bound : ℕ) (xs ys : List ℕ) → AllPairs (λ a b. a ≢ b) xs → AllPairs (λ a b. a ≢ b) ys → All (λ n. bound ≤ n) xs → All (λ n. n < bound) ys → AllPairs (λ a b. a ≢ b) (xs ++ ys)
@@ -73,13 +73,13 @@ clears_left w k clears small rise = shape_merged w k clears (record { sealed = [
 -- ---- the record
 
 module _ (m : Merge) (lists entries : List (List Entry)) (last : Fields) (is : MergesTables m lists entries last) where
-  told : (record_after m last).clears ≡ merged_clears is.watermark (take m.clear_count last.clears) ++ drop m.clear_count last.clears
+  told : (record_after_merge m last).clears ≡ merged_clears is.watermark (take m.clear_count last.clears) ++ drop m.clear_count last.clears
   told = ap (λ (l : List ℕ). l ++ drop m.clear_count last.clears) is.clears
 
-  pub is_record : Fits (record_after m last) → IsRecord last → IsRecord (record_after m last)
+  pub is_record : Fits (record_after_merge m last) → IsRecord last → IsRecord (record_after_merge m last)
   is_record fits was =
       let consistent = was.consistent in
-      let infos = infos_from last.next_table_id m.tables in
+      let infos = merged_infos last.next_table_id m.tables in
       let left = drop m.table_count last.tables in
       let clears = clears_left is.watermark m.clear_count last.clears consistent.numbers consistent.ascending in
       let below = All-drop (λ (t : TableInfo). t.id < last.next_table_id) m.table_count last.tables consistent.given in

@@ -8,8 +8,8 @@ use Rattle.std.proofs.lemmas.List.{map-append}
 use Rattle.std.proofs.lemmas.List.Elements.{All-weaker, filter_passes}
 use Rattle.fjall_base.proofs.Codecs.{some_is}
 use Rattle.fjall_table_reader.specs.Readers.{Reader}
-use Rattle.fjall_catalog.specs.Catalog.{fields, first_of}
-use Rattle.fjall_contents.specs.Contents.{Stored, clears_held, is_beyond, versions_held}
+use Rattle.fjall_manifest.specs.Catalog.{fields, first_of}
+use Rattle.fjall_meta.specs.Contents.{Stored, clears_held, is_beyond, versions_held}
 use Rattle.fjall_compaction.specs.FlushFinishing.{AreTreesKnown}
 use Rattle.fjall_compaction.specs.Flushes.{HasAt}
 use Rattle.fjall_compaction.proofs.FlushAfterHomes.{versions_at}
@@ -20,7 +20,7 @@ use Rattle.fjall_jobs.specs.declared.made_table.MadeTable.{MadeTable}
 use Rattle.fjall_jobs.specs.Merges.{IsMerged}
 use Rattle.fjall_jobs.specs.Tasks.{Task}
 use Rattle.fjall_journal.specs.Batches.{Shown, shown}
-use Rattle.fjall_recovery.specs.Known.{GoesOnFrom, IsKnown, LastFields, last_known}
+use Rattle.fjall_replay.specs.Known.{GoesOnFrom, IsKnown, LastFields, last_known}
 use Rattle.fjall_tree.specs.Jobs.{flush_dropped, merge_finished}
 use Rattle.fjall_tree.specs.Trees.{Merging, Shape, first_from, floor_of}
 use Rattle.fjall_tree.proofs.Flushed.{from_floor}
@@ -32,8 +32,8 @@ use Rattle.fjall_recovery.specs.Homes.{HasVersions, stored_at, stored_in, stored
 use Rattle.fjall_recovery.specs.Journals.{batches_in}
 use Rattle.fjall_recovery.specs.Places.{Journaling, journals_with}
 use Rattle.fjall_recovery.proofs.Storing.{stored_inserted}
-use Rattle.fjall_recovery.specs.Beside.{AreReplayedWith, ShowsWith}
-use Rattle.fjall_recovery.specs.Replayed.{past}
+use Rattle.fjall_replay.specs.Beside.{AreReplayedWith, ShowsWith}
+use Rattle.fjall_replay.specs.Replayed.{past}
 use Rattle.fjall_memtable.specs.Sorted.{flat}
 use Rattle.fjall_table.specs.Blocks.{Entry}
 use Rattle.fjall_manifest.specs.Records.{Fields}
@@ -43,13 +43,13 @@ use Rattle.fjall_trees.proofs.Others.{altered_here, altered_other}
 use Rattle.fjall_trees.proofs.Outstanding.{merging_tree}
 use Rattle.fjall_trees.proofs.Places.{tree_has}
 use Rattle.fjall_trees.proofs.Reading.{entries_here}
-use Rattle.fjall_contents.specs.Views.{clears_of, versions_of}
-use Rattle.fjall_contents.proofs.Found.{found_has}
-use Rattle.fjall_contents.proofs.Slots.{get_put, same_id}
-use Rattle.fjall_views.specs.Jobs.{AreBelow, merged, merged_clears}
-use Rattle.fjall_views.specs.Views.{value_at}
+use Rattle.fjall_meta.specs.Views.{clears_of, versions_of}
+use Rattle.fjall_meta.proofs.Found.{found_has}
+use Rattle.fjall_meta.proofs.Slots.{get_put, same_id}
+use Rattle.fjall_memtable.specs.Jobs.{AreBelow, merged, merged_clears}
+use Rattle.fjall_memtable.specs.Views.{value_at}
 use Rattle.fjall_compaction.specs.MergeFinishing.{CanMerge, merge_out}
-use Rattle.fjall_compaction.specs.Merges.{Merge, MergesTables, entries_after, home_after, infos_from, record_after, tree_after}
+use Rattle.fjall_compaction.specs.Merges.{Merge, MergesTables, entries_after, home_after, merged_infos, record_after_merge, tree_after}
 use Rattle.fjall_compaction.proofs.MergeAfterHomes.{right_after}
 use Rattle.fjall_compaction.proofs.Shows.{each_new, shows_alike}
 
@@ -163,7 +163,7 @@ module _ (j : Journaling) (t : Tree) (trees : Forest) (entries : ℕ → List (L
       abbrev next : Tree
       next = tree_after k.id m made.lists h (entries k.id) t
 
-      module _ (readers : List Reader) (infos : map (λ r. r.info) readers ≡ infos_from h.last.next_table_id tables) where
+      module _ (readers : List Reader) (infos : map (λ r. r.info) readers ≡ merged_infos h.last.next_table_id tables) where
         abbrev after : Forest
         after = altered_at k.id (merge_finished readers out) trees
 
@@ -171,7 +171,7 @@ module _ (j : Journaling) (t : Tree) (trees : Forest) (entries : ℕ → List (L
         entries_then = entries_with k.id lists entries
 
         abbrev records_then : LastFields
-        records_then = insert records k.id (record_after m h.last)
+        records_then = insert records k.id (record_after_merge m h.last)
 
         abbrev shape_then : Shape
         shape_then = merge_finished readers out shape
@@ -184,7 +184,7 @@ module _ (j : Journaling) (t : Tree) (trees : Forest) (entries : ℕ → List (L
         tree_then = altered_here k.id (merge_finished readers out) trees ∙ ap (option_map (merge_finished readers out)) has
 
         -- the clears of its record are those of the tree
-        own_clears : shape_then.clears ≡ (record_after m h.last).clears
+        own_clears : shape_then.clears ≡ (record_after_merge m h.last).clears
         unfolding counts
         own_clears =
             (λ i. merged_clears (sym can.merging.watermark i) (take out.clears (goes_on.clears i)) ++ drop out.clears (goes_on.clears i))
@@ -241,7 +241,7 @@ module _ (j : Journaling) (t : Tree) (trees : Forest) (entries : ℕ → List (L
             by id there false differ = (there.0, other_tree id differ ∙ there.1, other_then id there.0 differ there.2)
 
         -- its tree goes on from the record after the merge
-        goes_then : GoesOnFrom (record_after m h.last) shape_then
+        goes_then : GoesOnFrom (record_after_merge m h.last) shape_then
         goes_then = record {
           tables = map-append (λ (r : Reader). r.info) readers (drop out.tables shape.tables)
               ∙ (λ i. infos i ++ (dropped_infos out.tables shape.tables ∙ ap (drop out.tables) goes_on.tables) i);
@@ -264,7 +264,7 @@ module _ (j : Journaling) (t : Tree) (trees : Forest) (entries : ℕ → List (L
               right = subst (AreRight (home_after m h).last.tables (home_after m h).texts) (sym (cond-true (i.id == k.id) lists (entries i.id) same))
                   (right_after m made.lists (entries k.id) h counts right);
               last = ap (λ (o : Option Fields). unwrap_or o (fields (first_of i.number)))
-                  (get_put records k.id (record_after m h.last) i.id ∙ cond-true (i.id == k.id) (Some (record_after m h.last)) (get records i.id) same);
+                  (get_put records k.id (record_after_merge m h.last) i.id ∙ cond-true (i.id == k.id) (Some (record_after_merge m h.last)) (get records i.id) same);
               shape = shape_then;
               tree = subst (λ n. tree_at n after ≡ Some shape_then) (sym (same_id i.id k.id same)) tree_then;
               goes_on = goes_then;
@@ -276,7 +276,7 @@ module _ (j : Journaling) (t : Tree) (trees : Forest) (entries : ℕ → List (L
                   ∙ ap (λ (l : List (List Entry)). Some (flat l)) (sym (cond-false (i.id == k.id) lists (entries i.id) differ));
               right = subst (AreRight known.h.last.tables known.h.texts) (sym (cond-false (i.id == k.id) lists (entries i.id) differ)) known.right;
               last = ap (λ (o : Option Fields). unwrap_or o (fields (first_of i.number)))
-                  (get_put records k.id (record_after m h.last) i.id ∙ cond-false (i.id == k.id) (Some (record_after m h.last)) (get records i.id) differ)
+                  (get_put records k.id (record_after_merge m h.last) i.id ∙ cond-false (i.id == k.id) (Some (record_after_merge m h.last)) (get records i.id) differ)
                   ∙ known.last;
               shape = known.shape;
               tree = other_tree i.id differ ∙ known.tree;

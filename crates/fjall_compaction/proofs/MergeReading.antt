@@ -10,7 +10,7 @@ use Rattle.fjall_jobs.specs.Sequences.{AreMadeTables, IsMadeTable}
 use Rattle.fjall_table.specs.declared.table_info.TableInfo.{TableInfo}
 use Rattle.fjall_table.specs.Blocks.{Entry}
 use Rattle.fjall_table_reader.specs.Files.{bytes_in, entry_at}
-use Rattle.fjall_compaction.specs.Merges.{infos_from}
+use Rattle.fjall_compaction.specs.Merges.{merged_infos}
 use Rattle.fjall_compaction.specs.MergePlans.{AreMergeReaders}
 use Rattle.fjall_compaction.proofs.Naming.{IsNamedAs, info_of}
 
@@ -70,13 +70,13 @@ each_reads id next (t ∷ tables) (r ∷ readers) each disk (l ∷ lists) made f
     (each.0.reads disk l made.0 files.0 files.1, each_reads id (next + 1) tables readers each.1 disk lists made.1 files.2)
 
 each_names : (id next : ℕ) (tables : List MadeTable) (readers : List Reader) → AreEach id next tables readers
-    → map (λ (r : Reader). r.name) readers ≡ map (λ (t : TableInfo). table_name id t.id) (infos_from next tables)
+    → map (λ (r : Reader). r.name) readers ≡ map (λ (t : TableInfo). table_name id t.id) (merged_infos next tables)
 each_names id next [] [] each = refl
 each_names id next [] (r ∷ readers) each = absurd each
 each_names id next (t ∷ tables) [] each = absurd each
 each_names id next (t ∷ tables) (r ∷ readers) each = λ k. each.0.name k ∷ each_names id (next + 1) tables readers each.1 k
 
-each_infos : (id next : ℕ) (tables : List MadeTable) (readers : List Reader) → AreEach id next tables readers → map (λ (r : Reader). r.info) readers ≡ infos_from next tables
+each_infos : (id next : ℕ) (tables : List MadeTable) (readers : List Reader) → AreEach id next tables readers → map (λ (r : Reader). r.info) readers ≡ merged_infos next tables
 each_infos id next [] [] each = refl
 each_infos id next [] (r ∷ readers) each = absurd each
 each_infos id next (t ∷ tables) [] each = absurd each

@@ -6,9 +6,9 @@ use Rattle.std.proofs.lemmas.List.Elements.{filter_passes}
 use Rattle.fjall_base.specs.Pairs.{Bytes}
 use Rattle.fjall_base.specs.Disk.{Image, LeavesOnly, Meaning, state_in}
 use Rattle.fjall_base.specs.Store.{Clear, Store, kept}
-use Rattle.fjall_commit.proofs.CrashedJournals.{commanded, commands_more, kept_with}
-use Rattle.fjall_contents.specs.Contents.{Stored, clears_held, commands_beyond, counts_beyond, is_beyond, journal_beyond, store_held, versions_held}
-use Rattle.fjall_contents.proofs.Held.{views_alone_matter}
+use Rattle.fjall_changes.proofs.CrashedJournals.{commanded, commands_more, kept_with}
+use Rattle.fjall_meta.specs.Contents.{Stored, clears_held, commands_beyond, counts_beyond, is_beyond, journal_beyond, store_held, versions_held}
+use Rattle.fjall_meta.proofs.Held.{views_alone_matter}
 use Rattle.fjall_files.specs.Names.{keyspace_folder}
 use Rattle.fjall_files.specs.Regions.{Within}
 use Rattle.fjall_compaction.specs.Flushes.{HasAt}
@@ -31,11 +31,11 @@ use Rattle.fjall_recovery.proofs.Roots.{crashes_leave_the_root}
 use Rattle.fjall_recovery.proofs.Storing.{stored_inserted}
 use Rattle.fjall_memtable.specs.Sorted.{flat}
 use Rattle.fjall_table.specs.Blocks.{Entry}
-use Rattle.fjall_contents.specs.Replays.{counts, item_of, writing}
-use Rattle.fjall_contents.specs.Views.{clears_of, versions_of}
-use Rattle.fjall_contents.proofs.Slots.{get_put, same_id}
-use Rattle.fjall_views.specs.Views.{value_at}
-use Rattle.fjall_views.proofs.Tests.{filters_same}
+use Rattle.fjall_meta.specs.Replays.{counts, item_of, writing}
+use Rattle.fjall_meta.specs.Views.{clears_of, versions_of}
+use Rattle.fjall_meta.proofs.Slots.{get_put, same_id}
+use Rattle.fjall_memtable.specs.Views.{value_at}
+use Rattle.fjall_memtable.proofs.Tests.{filters_same}
 use Rattle.fjall_compaction.specs.Merges.{Merge, MergesTables, entries_after, home_after, tree_after}
 use Rattle.fjall_compaction.proofs.Shows.{shows_same}
 

@@ -8,7 +8,7 @@ use Rattle.fjall_table.specs.declared.table_info.TableInfo.{TableInfo}
 use Rattle.fjall_base.specs.Disk.{Meaning, Name}
 use Rattle.fjall_manifest.specs.Records.{Fields}
 use Rattle.fjall_compaction.specs.declared.merge.plan.MergePlan.{MergePlan}
-use Rattle.fjall_compaction.specs.Merges.{Merge, infos_from}
+use Rattle.fjall_compaction.specs.Merges.{Merge, merged_infos}
 use Rattle.fjall_compaction.specs.MergePlans.{AreNamed, HasNoTableFolder, IsMergePlan}
 use Rattle.fjall_compaction.specs.Putting.{AreNewFiles, HaveNoFolders}
 
@@ -60,18 +60,18 @@ info_of n t = record { id = n; level = L1; file_len = length t.bytes.items; entr
 
 -- and of one more
 infos_suc : (next : ℕ) (tables : List MadeTable) (i : ℕ) (d : MadeTable) → i < length tables
-    → infos_from next (take (suc i) tables) ≡ infos_from next (take i tables) ++ info_of (next + i) (get_or tables i d) ∷ []
+    → merged_infos next (take (suc i) tables) ≡ merged_infos next (take i tables) ++ info_of (next + i) (get_or tables i d) ∷ []
 infos_suc next [] i d lt = absurd (omega (arith, lt))
 infos_suc next (t ∷ tables) zero d lt = let here : next ≡ next + 0 = omega arith in ap (λ (n : ℕ). info_of n t ∷ []) here
 infos_suc next (t ∷ tables) (suc i) d lt =
     let later : next + 1 + i ≡ next + suc i = omega arith in
-    ap (λ (l : List TableInfo). info_of next t ∷ l) (infos_suc (next + 1) tables i d (omega (arith, lt)) ∙ ap (λ (n : ℕ). infos_from (next + 1) (take i tables) ++ info_of n (get_or tables i d) ∷ []) later)
+    ap (λ (l : List TableInfo). info_of next t ∷ l) (infos_suc (next + 1) tables i d (omega (arith, lt)) ∙ ap (λ (n : ℕ). merged_infos (next + 1) (take i tables) ++ info_of n (get_or tables i d) ∷ []) later)
 
 pub infos_more : (next : ℕ) (tables : List MadeTable) (i : ℕ) (t : MadeTable) → t ≡ get_or tables i t → i < length tables
-    → infos_from next (take (i + 1) tables) ≡ infos_from next (take i tables) ++ info_of (next + i) t ∷ []
+    → merged_infos next (take (i + 1) tables) ≡ merged_infos next (take i tables) ++ info_of (next + i) t ∷ []
 infos_more next tables i t at lt =
     let on : i + 1 ≡ suc i = omega arith in
-    ap (λ (n : ℕ). infos_from next (take n tables)) on ∙ infos_suc next tables i t lt ∙ ap (λ (x : MadeTable). infos_from next (take i tables) ++ info_of (next + i) x ∷ []) (sym at)
+    ap (λ (n : ℕ). merged_infos next (take n tables)) on ∙ infos_suc next tables i t lt ∙ ap (λ (x : MadeTable). merged_infos next (take i tables) ++ info_of (next + i) x ∷ []) (sym at)
 
 -- the name at a place
 pub found : (id next : ℕ) (tables : List MadeTable) (names : List (String Global)) → AreNamed id next tables names → (i : ℕ) → i < length names → (file : String Global) → file ≡ get_or names i file

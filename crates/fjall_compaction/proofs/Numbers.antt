@@ -2,7 +2,7 @@
 use Rattle.std.proofs.Common.{◌≡◌, ℕ, ◌+◌, ◌≤◌, ◌==◌, max, Bool, true, false, cond, List, [], ◌∷◌, ◌++◌, Option, Some, None, refl, sym, ◌∙◌, ap, subst, arith}
 use Rattle.std.specs.FinMap.{get}
 use Rattle.std.proofs.lemmas.Bool.{lt-ltb}
-use Rattle.fjall_contents.specs.Contents.{is_beyond}
+use Rattle.fjall_meta.specs.Contents.{is_beyond}
 use Rattle.fjall_compaction.specs.Flushes.{raised}
 use Rattle.fjall_compaction.proofs.SameNumber.{each_counts, past_after}
 use Rattle.fjall_manifest.specs.Homes.{Home}
@@ -14,9 +14,9 @@ use Rattle.fjall_recovery.specs.Halves.{Tree}
 use Rattle.fjall_recovery.specs.Homes.{last_in, lasts}
 use Rattle.fjall_recovery.specs.Places.{Journaling, contents_with}
 use Rattle.fjall_table.specs.Blocks.{Entry}
-use Rattle.fjall_contents.proofs.Ids.{living_has}
-use Rattle.fjall_contents.proofs.Slots.{get_put, same_id}
-use Rattle.fjall_writes.specs.Ingestions.{KeyOp}
+use Rattle.fjall_meta.proofs.Ids.{living_has}
+use Rattle.fjall_meta.proofs.Slots.{get_put, same_id}
+use Rattle.fjall_reading.specs.Ingestions.{KeyOp}
 use Rattle.fjall_compaction.specs.Commands.{MayCome}
 use Rattle.fjall_compaction.specs.Ingests.{as_flush, home_with, tree_with}
 use Rattle.fjall_compaction.proofs.Silence.{itself}

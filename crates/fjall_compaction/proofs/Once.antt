@@ -2,13 +2,13 @@
 use Rattle.std.proofs.Common.{◌≡◌, ℕ, ◌<◌, ◌≤◌, true, false, List, ◌++◌, All, Option, None, Some, refl, arith}
 use Rattle.std.proofs.lemmas.Bool.{lt-ltb, ltb-false, ltb-true, true≢false}
 use Rattle.std.proofs.lemmas.List.Elements.{All-weaker}
-use Rattle.fjall_contents.specs.Contents.{is_beyond}
+use Rattle.fjall_meta.specs.Contents.{is_beyond}
 use Rattle.fjall_memtable.proofs.Onces.{chain_once}
 use Rattle.fjall_recovery.specs.Folders.{past}
 use Rattle.fjall_memtable.proofs.Sorting.{chain_of}
 use Rattle.fjall_table.specs.Blocks.{Entry, IsOrdered}
-use Rattle.fjall_views.specs.Jobs.{OnceEach}
-use Rattle.fjall_views.proofs.Once.{parts_once}
+use Rattle.fjall_memtable.specs.Jobs.{OnceEach}
+use Rattle.fjall_memtable.proofs.Once.{parts_once}
 
 -- in a table's order each version stands once
 pub ordered_once : (versions : List Entry) → IsOrdered versions → OnceEach versions

@@ -6,7 +6,7 @@ use Rattle.fjall_base.specs.declared.error.Error.{Error}
 use Rattle.fjall_base.specs.declared.error.Error.TheVariants.{NumbersUsedUp, OutOfMemory, TooManyItems}
 use Rattle.fjall_table_reader.specs.Readers.{Reader}
 use Rattle.fjall_compaction.specs.declared.flush.plan.FlushPlan.{FlushPlan}
-use Rattle.fjall_compaction.specs.Flushes.{Flush, flush_with, infos_from, record_after}
+use Rattle.fjall_compaction.specs.Flushes.{Flush, flush_with, flushed_infos, record_after_flush}
 use Rattle.fjall_compaction.specs.FlushPlans.{AreReadersOf, IsFlushPlan, IsNamed}
 use Rattle.fjall_compaction.specs.Ingests.{as_flush}
 use Rattle.fjall_compaction.specs.Room.{HasPlace, IsPlaceRefusal, IsRecordRefusal, body_len}
@@ -23,9 +23,9 @@ use Rattle.fjall_memtable.specs.Parts.{HeldPart, Memory, clears_in, holds_nothin
 use Rattle.fjall_memtable.specs.Sorted.{flat}
 use Rattle.fjall_table.specs.Blocks.{Entry}
 use Rattle.fjall_manifest.specs.Records.{Fields, Fits, body, view}
-use Rattle.fjall_views.specs.Jobs.{Same}
-use Rattle.fjall_views.specs.Jobs as jobs
-use Rattle.fjall_writes.specs.Ingestions.{KeyOp}
+use Rattle.fjall_memtable.specs.Jobs.{Same}
+use Rattle.fjall_memtable.specs.Jobs as jobs
+use Rattle.fjall_reading.specs.Ingestions.{KeyOp}
 use Rattle.fjall_compaction.specs.declared.ingestion.plan.IngestPlan.{IngestPlan}
 use Rattle.fjall_compaction.specs.IngestionPlans.{IsIngestPlan, IsIngestRefusal, OnceIngested}
 use Rattle.fjall_compaction.specs.Planned.{IsIngestionRefusal, IsMemoryPlan}
@@ -95,16 +95,16 @@ pub next_flushed : (tree : Shape) (flushes : List MadeTable) (last : Fields) →
     → (last_flushed tree flushes last).next_table_id ≡ last.next_table_id + length flushes
 next_flushed tree flushes last none = by (has_memory tree.memory) refl
   where
-    by : (b : Bool) → has_memory tree.memory ≡ b → (cond b (record_after (memory_flush tree flushes) last) last).next_table_id ≡ last.next_table_id + length flushes
+    by : (b : Bool) → has_memory tree.memory ≡ b → (cond b (record_after_flush (memory_flush tree flushes) last) last).next_table_id ≡ last.next_table_id + length flushes
     by true e = refl
     by false e = let nothing : length flushes ≡ 0 = ap (λ (l : List MadeTable). length l) (none e) in omega (arith, nothing)
 
 -- what is planned of the flush, or that it is none
-pub record_here : (flushes : Bool) (id : ℕ) (last : Fields) (f : Flush) (plan : FlushPlan) → IsMemoryPlan flushes id last f (Some plan) → view plan.record ≡ cond flushes (record_after f last) last
+pub record_here : (flushes : Bool) (id : ℕ) (last : Fields) (f : Flush) (plan : FlushPlan) → IsMemoryPlan flushes id last f (Some plan) → view plan.record ≡ cond flushes (record_after_flush f last) last
 record_here true id last f plan is = is.record_is
 record_here false id last f plan is = absurd is
 
-pub record_none : (flushes : Bool) (id : ℕ) (last : Fields) (f : Flush) → IsMemoryPlan flushes id last f None → last ≡ cond flushes (record_after f last) last
+pub record_none : (flushes : Bool) (id : ℕ) (last : Fields) (f : Flush) → IsMemoryPlan flushes id last f None → last ≡ cond flushes (record_after_flush f last) last
 record_none true id last f is = absurd is
 record_none false id last f is = refl
 
@@ -142,11 +142,11 @@ module _ (tree : Shape) (n : ℕ) (flushes made : List MadeTable) (last : Fields
   pub whole_len : length (body (last_ingested n tree flushes made last)) ≡ body_len (length last.tables + (length flushes + length made)) (length last.clears + length (clears_in (parts_of tree.memory)))
   whole_len =
       let f = memory_flush tree flushes in
-      let all = flush_len (as_flush n made) (record_after f last) in
-      let tables = length-append last.tables (infos_from last.next_table_id flushes) in
+      let all = flush_len (as_flush n made) (record_after_flush f last) in
+      let tables = length-append last.tables (flushed_infos last.next_table_id flushes) in
       let new = infos_count last.next_table_id flushes in
       let clears = length-append last.clears (clears_in (parts_of tree.memory)) in
-      subst (λ (b : Bool). length (body (record_after (as_flush n made) (cond b (record_after f last) last)))
+      subst (λ (b : Bool). length (body (record_after_flush (as_flush n made) (cond b (record_after_flush f last) last)))
       ≡ body_len (length last.tables + (length flushes + length made)) (length last.clears + length (clears_in (parts_of tree.memory)))) (sym some)
       (omega (arith, all, tables, new, clears))
 
@@ -174,7 +174,7 @@ module _ (tree : Shape) (id watermark n : ℕ) (items : List KeyOp) (last : Fiel
   pub own_refused : (has_memory tree.memory ≡ false → flushes ≡ []) → (error : Error) → IsIngestRefusal n items (last_flushed tree flushes last) error
       → IsIngestionRefusal tree id watermark n items last error
   own_refused none OutOfMemory is =
-      λ nothing. subst (λ (b : Bool). OnceIngested n items (cond b (record_after (memory_flush tree flushes) last) last) HasPlace) nothing is
+      λ nothing. subst (λ (b : Bool). OnceIngested n items (cond b (record_after_flush (memory_flush tree flushes) last) last) HasPlace) nothing is
   own_refused none NumbersUsedUp is = record { flushes = flushes; flushed = flushed; holds = is }
   own_refused none TooManyItems is = record { flushes = flushes; flushed = flushed; holds = is }
   own_refused none error is = absurd is
@@ -183,8 +183,8 @@ module _ (tree : Shape) (id watermark n : ℕ) (items : List KeyOp) (last : Fiel
 pub placed_whole : (tree : Shape) (id watermark n : ℕ) (items : List KeyOp) (last : Fields) (flushes : List MadeTable) (own : IngestPlan) (mid : Fields) → mid ≡ last_flushed tree flushes last
     → IsIngestPlan id n items mid own → IsIngestionRefusal tree id watermark n items last OutOfMemory
 placed_whole tree id watermark n items last flushes own mid says is = λ nothing tables counted.
-    let same : mid ≡ last = subst (λ (b : Bool). mid ≡ cond b (record_after (memory_flush tree flushes) last) last) nothing says in
-    let here : Fits (record_after (as_flush n own.tables.items) last) = subst (λ (l : Fields). Fits (record_after (as_flush n own.tables.items) l)) same is.planned.fits in
+    let same : mid ≡ last = subst (λ (b : Bool). mid ≡ cond b (record_after_flush (memory_flush tree flushes) last) last) nothing says in
+    let here : Fits (record_after_flush (as_flush n own.tables.items) last) = subst (λ (l : Fields). Fits (record_after_flush (as_flush n own.tables.items) l)) same is.planned.fits in
     let room = here.len in
     let left = here.room.next_table_id in
     let many = as_counted n items own.tables.items is.tables in

@@ -27,11 +27,11 @@ module _ (state : DiskState) (id : ℕ) where
   safe_both (t ∷ tables) more (b ∷ texts) others one two = (one.0, safe_both tables more texts others one.1 two)
 
   -- the new ones, at whichever level they stand
-  flushed : (next : ℕ) (tables : List MadeTable) → AreSafeFrom state id next tables → AreSafe state id (flushes.infos_from next tables) (texts_of tables)
+  flushed : (next : ℕ) (tables : List MadeTable) → AreSafeFrom state id next tables → AreSafe state id (flushes.flushed_infos next tables) (texts_of tables)
   flushed next [] safe = tt
   flushed next (t ∷ tables) safe = (safe.0, flushed (next + 1) tables safe.1)
 
-  merged : (next : ℕ) (tables : List MadeTable) → AreSafeFrom state id next tables → AreSafe state id (merges.infos_from next tables) (texts_of tables)
+  merged : (next : ℕ) (tables : List MadeTable) → AreSafeFrom state id next tables → AreSafe state id (merges.merged_infos next tables) (texts_of tables)
   merged next [] safe = tt
   merged next (t ∷ tables) safe = (safe.0, merged (next + 1) tables safe.1)
 
@@ -39,12 +39,12 @@ module _ (state : DiskState) (id : ℕ) where
   pub flush_put : (records : List Fields) (f : Flush) (h : Home) → ArePut state id records h f.tables → IsPut state id records h (flushes.home_after f h)
   flush_put records f h put = record {
     rests = put.rests;
-    tables = safe_both h.last.tables (flushes.infos_from h.last.next_table_id f.tables) h.texts (texts_of f.tables) put.rests.tables (flushed h.last.next_table_id f.tables put.safe);
+    tables = safe_both h.last.tables (flushes.flushed_infos h.last.next_table_id f.tables) h.texts (texts_of f.tables) put.rests.tables (flushed h.last.next_table_id f.tables put.safe);
   }
 
   pub merge_put : (records : List Fields) (m : Merge) (h : Home) (tables : List MadeTable) → m.tables ≡ tables → ArePut state id records h tables → IsPut state id records h (merges.home_after m h)
   merge_put records m h tables made put = record {
     rests = put.rests;
-    tables = safe_both (merges.infos_from h.last.next_table_id m.tables) (drop m.table_count h.last.tables) (texts_of m.tables) (drop m.table_count h.texts)
+    tables = safe_both (merges.merged_infos h.last.next_table_id m.tables) (drop m.table_count h.last.tables) (texts_of m.tables) (drop m.table_count h.texts)
         (merged h.last.next_table_id m.tables (subst (AreSafeFrom state id h.last.next_table_id) (sym made) put.safe)) (safe_left m.table_count h.last.tables h.texts put.rests.tables);
   }

@@ -5,8 +5,8 @@ use Rattle.std.specs.List.Sorted.{IsStrictlyIncreasing}
 use Rattle.std.proofs.lemmas.List.{append-nil}
 use Rattle.std.proofs.lemmas.List.Elements.{All-append, All-map, All-nil, All-weaker}
 use Rattle.fjall_base.specs.Disk.{DiskState, Meaning, state_in}
-use Rattle.fjall_contents.specs.Contents.{is_beyond}
-use Rattle.fjall_compaction.specs.Flushes.{Follows, HasAt, raised, record_after}
+use Rattle.fjall_meta.specs.Contents.{is_beyond}
+use Rattle.fjall_compaction.specs.Flushes.{Follows, HasAt, raised, record_after_flush}
 use Rattle.fjall_compaction.specs.FlushPlans.{ForTablesOn}
 use Rattle.fjall_compaction.proofs.FlushAfterHomes as AfterHomes
 use Rattle.fjall_compaction.proofs.FlushAfterRecords as AfterRecords
@@ -23,9 +23,9 @@ use Rattle.fjall_memtable.specs.Sorted.{flat}
 use Rattle.fjall_table.specs.Blocks.{Entry}
 use Rattle.fjall_table.specs.Tables.{entries_of}
 use Rattle.fjall_manifest.specs.Records.{Fields, Fits, IsRecord}
-use Rattle.fjall_views.specs.Jobs.{OnceEach}
-use Rattle.fjall_views.proofs.Tests.{all_of}
-use Rattle.fjall_writes.specs.Ingestions.{KeyOp}
+use Rattle.fjall_memtable.specs.Jobs.{OnceEach}
+use Rattle.fjall_memtable.proofs.Tests.{all_of}
+use Rattle.fjall_reading.specs.Ingestions.{KeyOp}
 use Rattle.fjall_compaction.specs.declared.ingestion.plan.IngestPlan.{IngestPlan}
 use Rattle.fjall_compaction.specs.Ingests.{as_flush, home_with, tree_with, version_of, versions_made}
 use Rattle.fjall_compaction.specs.IngestionPlans.{AreIngestionTables, ForIngestOn}
@@ -60,11 +60,11 @@ follows number items tables last small beyond are is = record {
   ascend = ascend last is;
 }
 
-pub is_record : (number : ℕ) (items : List KeyOp) (tables : List MadeTable) (last : Fields) → number < 2 ^ 63 → AreIngestionTables number items tables → Fits (record_after (as_flush number tables) last)
-    → IsRecord last → IsRecord (record_after (as_flush number tables) last)
+pub is_record : (number : ℕ) (items : List KeyOp) (tables : List MadeTable) (last : Fields) → number < 2 ^ 63 → AreIngestionTables number items tables → Fits (record_after_flush (as_flush number tables) last)
+    → IsRecord last → IsRecord (record_after_flush (as_flush number tables) last)
 is_record number items tables last small are fits is = AfterRecords.record_with (as_flush number tables) last small (All-nil (λ n. n ≤ number)) (ascend last is) fits is
 
-pub clears_within : (number : ℕ) (tables : List MadeTable) (last : Fields) → ClearsAreWithin last → ClearsAreWithin (record_after (as_flush number tables) last)
+pub clears_within : (number : ℕ) (tables : List MadeTable) (last : Fields) → ClearsAreWithin last → ClearsAreWithin (record_after_flush (as_flush number tables) last)
 clears_within number tables last within =
     let P = λ (n : ℕ). is_beyond (Some (raised last.persisted number)) n ≡ false in
     All-append P last.clears [] (All-weaker (λ n. is_beyond last.persisted n ≡ false) P (λ n is. AfterRecords.still_within last.persisted number n is) last.clears within) (All-nil P)

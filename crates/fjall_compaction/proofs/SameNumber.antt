@@ -20,11 +20,11 @@ use Rattle.fjall_recovery.specs.Places.{Journaling, LiesInRoot, contents_with, j
 use Rattle.fjall_recovery.proofs.Holding.{made}
 use Rattle.fjall_recovery.proofs.Roots.{crashes_leave_the_root}
 use Rattle.fjall_table.specs.Blocks.{Entry}
-use Rattle.fjall_contents.proofs.Ids.{living_has}
-use Rattle.fjall_contents.proofs.Slots.{get_put, same_id}
-use Rattle.fjall_commit.proofs.CrashedJournals.{commanded, commands_more, kept_with}
+use Rattle.fjall_meta.proofs.Ids.{living_has}
+use Rattle.fjall_meta.proofs.Slots.{get_put, same_id}
+use Rattle.fjall_changes.proofs.CrashedJournals.{commanded, commands_more, kept_with}
 use Rattle.fjall_compaction.specs.Covering.{MayCount}
-use Rattle.fjall_compaction.specs.Flushes.{Flush, home_after, raised, record_after, tree_after}
+use Rattle.fjall_compaction.specs.Flushes.{Flush, home_after, raised, record_after_flush, tree_after}
 use Rattle.fjall_compaction.proofs.Composed.{seen}
 use Rattle.fjall_compaction.proofs.FlushSameStore.{same_store}
 
@@ -34,7 +34,7 @@ past_raised : (other : Option ℕ) (number : ℕ) → past (Some (raised other n
 past_raised None number = omega arith
 past_raised (Some n) number = omega arith
 
-pub past_after : (f : Flush) (h : Home) → past_record (record_after f h.last) ≡ max (past_record h.last) (f.number + 1)
+pub past_after : (f : Flush) (h : Home) → past_record (record_after_flush f h.last) ≡ max (past_record h.last) (f.number + 1)
 past_after f h =
     let one = past_raised h.last.persisted f.number in
     let two = past_raised h.last.highest f.number in
@@ -92,7 +92,7 @@ module _ (j : Journaling) (t : Tree) (id : ℕ) (f : Flush) (lists : List (List 
   told : (o : Option LivingKeyspace) → keyspace_at id t.keyspaces.living ≡ o → is_some o ≡ true → f.number + 1 ≤ past_records (lasts t.keyspaces.living next.homes)
   told None found some = absurd cc
   told (Some k) found some =
-      let own : last_in (get next.homes id) ≡ record_after f h.last =
+      let own : last_in (get next.homes id) ≡ record_after_flush f h.last =
       ap last_in (get_put t.homes id (home_after f h) id ∙ cond-true (id == id) (Some (home_after f h)) (get t.homes id) (eq-eqb id id refl)) in
       let counted = living_has (λ i. past_record (last_in (get next.homes i)) ≤ past_records (lasts t.keyspaces.living next.homes)) t.keyspaces.living id k found
       (each_counts next.homes t.keyspaces.living) in

@@ -5,7 +5,7 @@ use Rattle.std.proofs.lemmas.Bool.{cases_lt, lt-ltb, ltb-true, true≢false}
 use Rattle.std.proofs.lemmas.List.{take-append-drop}
 use Rattle.std.proofs.lemmas.List.Elements.{All-append, All-filter, All-head, All-weaker}
 use Rattle.fjall_base.specs.Pairs.{Bytes}
-use Rattle.fjall_contents.specs.Contents.{is_beyond}
+use Rattle.fjall_meta.specs.Contents.{is_beyond}
 use Rattle.fjall_compaction.proofs.Layers.{all_seen, same_over, unseen}
 use Rattle.fjall_tree.proofs.Flushed.{behind_of, front_of}
 use Rattle.fjall_tree.proofs.Merged.{once_of}
@@ -13,10 +13,10 @@ use Rattle.fjall_tree.proofs.Several.{all_same, flat_both, flat_parted}
 use Rattle.fjall_memtable.specs.Sorted.{flat}
 use Rattle.fjall_table.specs.Blocks.{Entry}
 use Rattle.fjall_manifest.specs.Records.{Fields}
-use Rattle.fjall_views.specs.Jobs.{OnceEach, Same, merged, merged_clears}
-use Rattle.fjall_views.specs.Views.{value_at}
-use Rattle.fjall_views.proofs.Merging.{a_merge_keeps_views}
-use Rattle.fjall_compaction.specs.Merges.{Merge, MergesTables, entries_after, record_after}
+use Rattle.fjall_memtable.specs.Jobs.{OnceEach, Same, merged, merged_clears}
+use Rattle.fjall_memtable.specs.Views.{value_at}
+use Rattle.fjall_memtable.proofs.Merging.{a_merge_keeps_views}
+use Rattle.fjall_compaction.specs.Merges.{Merge, MergesTables, entries_after, record_after_merge}
 
 -- ---- lists of nothing
 
@@ -75,7 +75,7 @@ module _ (m : Merge) (lists entries : List (List Entry)) (last : Fields) (is : M
   new = flat (entries_after m lists entries)
 
   abbrev pub new_clears : List ℕ
-  new_clears = (record_after m last).clears
+  new_clears = (record_after_merge m last).clears
 
   -- what a property of what it took and of what came since makes of what there is then
   pub each_new : (P : Entry → Type 0) → All P old → All P new

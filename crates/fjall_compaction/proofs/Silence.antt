@@ -5,14 +5,14 @@ use Rattle.std.proofs.lemmas.Bool.{le-ltb, ltb-false, ltb-true, true≢false}
 use Rattle.std.proofs.lemmas.Bool.Decides.{nat_tests}
 use Rattle.std.proofs.lemmas.List.Elements.{All-append, All-cons, All-head, All-map, All-nil, All-tail, All-weaker}
 use Rattle.fjall_base.specs.Store.{Clear}
-use Rattle.fjall_contents.specs.Contents.{Stored, commands_beyond, counts_beyond, is_beyond, journal_beyond}
+use Rattle.fjall_meta.specs.Contents.{Stored, commands_beyond, counts_beyond, is_beyond, journal_beyond}
 use Rattle.fjall_journal.specs.Batches.{Shown}
 use Rattle.fjall_journal.specs.declared.batch.ReadBatchItem.{ReadBatchItem}
 use Rattle.fjall_meta.specs.Keyspaces.{Keyspaces}
 use Rattle.fjall_table.specs.Blocks.{Entry}
-use Rattle.fjall_contents.specs.Replays.{counts, item_of, writing}
-use Rattle.fjall_contents.specs.Views.{clear_in, clears_of, entries_in, entry_of, versions_of}
-use Rattle.fjall_views.proofs.Tests.{all_of, filters_agree}
+use Rattle.fjall_meta.specs.Replays.{counts, item_of, writing}
+use Rattle.fjall_meta.specs.Views.{clear_in, clears_of, entries_in, entry_of, versions_of}
+use Rattle.fjall_memtable.proofs.Tests.{all_of, filters_agree}
 use Rattle.fjall_compaction.proofs.FlushSameStore.{none_passes}
 use Rattle.fjall_compaction.specs.Commands.{ArePersisted, HasNothingOf}
 

@@ -8,10 +8,10 @@ use Rattle.std.proofs.lemmas.List.{append-nil, map-append}
 use Rattle.std.proofs.lemmas.List.Elements.{All-append, All-filter, All-head, All-map, All-nil, All-tail, All-weaker, filter-append}
 use Rattle.fjall_base.specs.Pairs.{Bytes}
 use Rattle.fjall_base.specs.Store.{apply, fold}
-use Rattle.fjall_contents.specs.Contents.{Stored, clears_held, is_beyond, journal_beyond, store_held, versions_held}
-use Rattle.fjall_contents.proofs.Beyond.{beyond_is_later}
-use Rattle.fjall_contents.proofs.Following.{before_least, beyond_all, one_more_batch}
-use Rattle.fjall_contents.proofs.Held.{views_alone_matter}
+use Rattle.fjall_meta.specs.Contents.{Stored, clears_held, is_beyond, journal_beyond, store_held, versions_held}
+use Rattle.fjall_meta.proofs.Beyond.{beyond_is_later}
+use Rattle.fjall_meta.proofs.Following.{before_least, beyond_all, one_more_batch}
+use Rattle.fjall_meta.proofs.Held.{views_alone_matter}
 use Rattle.fjall_compaction.specs.Covering.{ShowsBatches}
 use Rattle.fjall_compaction.specs.Flushes.{raised}
 use Rattle.fjall_compaction.proofs.FlushAfterHomes.{versions_at}
@@ -31,15 +31,15 @@ use Rattle.fjall_recovery.specs.Places.{Journaling, contents_with, journals_with
 use Rattle.fjall_recovery.proofs.Roots.{batches_are, fewer_sound}
 use Rattle.fjall_recovery.proofs.Storing.{are_within, beyond_lasts, stored_inserted}
 use Rattle.fjall_table.specs.Blocks.{Entry}
-use Rattle.fjall_contents.specs.Replays.{counts, first_fault, least_after}
-use Rattle.fjall_contents.specs.Views.{clear_in, clears_of, entries_in, versions_of}
-use Rattle.fjall_contents.proofs.Faults.{first_fault-append, least_after-append}
-use Rattle.fjall_contents.proofs.Ids.{living_has}
-use Rattle.fjall_contents.proofs.Slots.{same_id}
-use Rattle.fjall_contents.proofs.Viewing.{clears_numbered, no_fault, versions_numbered}
-use Rattle.fjall_views.specs.Views.{value_at}
-use Rattle.fjall_views.proofs.Tests.{all_of}
-use Rattle.fjall_writes.specs.Ingestions.{KeyOp}
+use Rattle.fjall_meta.specs.Replays.{counts, first_fault, least_after}
+use Rattle.fjall_meta.specs.Views.{clear_in, clears_of, entries_in, versions_of}
+use Rattle.fjall_meta.proofs.ContentFaults.{first_fault-append, least_after-append}
+use Rattle.fjall_meta.proofs.Ids.{living_has}
+use Rattle.fjall_meta.proofs.Slots.{same_id}
+use Rattle.fjall_meta.proofs.Viewing.{clears_numbered, no_fault, versions_numbered}
+use Rattle.fjall_memtable.specs.Views.{value_at}
+use Rattle.fjall_memtable.proofs.Tests.{all_of}
+use Rattle.fjall_reading.specs.Ingestions.{KeyOp}
 use Rattle.fjall_compaction.specs.Commands.{ArePersisted, HasNothingOf, MayCome, MayIngest, MayIngestSynced}
 use Rattle.fjall_compaction.specs.Ingests.{home_with, ingestion, tree_with, version_of, versions_made}
 use Rattle.fjall_compaction.proofs.Batch.{batch_of, commanded, no_clear, other_entries, own_entries, still_sound}

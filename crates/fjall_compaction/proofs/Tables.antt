@@ -15,7 +15,7 @@ use Rattle.fjall_memtable.specs.Sorted.{flat}
 use Rattle.fjall_table.specs.Blocks.{Entry, IsBlock, StandsBefore, refusal, value_bytes}
 use Rattle.fjall_table.specs.Tables.{IsTable, entries_of}
 use Rattle.fjall_table.specs.Writing.{FollowsEntries}
-use Rattle.fjall_writes.specs.Ingestions.{AreWritable, KeyOp, KeysAscend}
+use Rattle.fjall_reading.specs.Ingestions.{AreWritable, KeyOp, KeysAscend}
 use Rattle.fjall_compaction.specs.Ingests.{version_of, versions_made}
 use Rattle.fjall_compaction.specs.IngestionPlans.{AreIngestionTables}
 

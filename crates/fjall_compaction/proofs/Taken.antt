@@ -7,8 +7,8 @@ use Rattle.std.proofs.lemmas.Grind.{flat_map-append}
 use Rattle.std.proofs.lemmas.List.{append-nil}
 use Rattle.std.proofs.lemmas.List.Elements.{All-append, All-cons, All-head, All-nil, All-tail, All-weaker}
 use Rattle.std.proofs.lemmas.List.Kept.{AllPairs-from_increasing}
-use Rattle.fjall_contents.specs.Contents.{Stored, is_beyond}
-use Rattle.fjall_contents.proofs.Beyond.{beyond_is_later}
+use Rattle.fjall_meta.specs.Contents.{Stored, is_beyond}
+use Rattle.fjall_meta.proofs.Beyond.{beyond_is_later}
 use Rattle.fjall_manifest.specs.Homes.{Home}
 use Rattle.fjall_jobs.specs.declared.made_table.MadeTable.{MadeTable}
 use Rattle.fjall_jobs.specs.Tasks.{IsFlushed, Task}
@@ -27,8 +27,8 @@ use Rattle.fjall_recovery.specs.Places.{Journaling, journals_with}
 use Rattle.fjall_memtable.specs.Sorted.{flat}
 use Rattle.fjall_table.specs.Blocks.{Entry}
 use Rattle.fjall_manifest.specs.Records.{Fields, IsRecord}
-use Rattle.fjall_views.specs.Jobs.{OnceEach, Same, flushed}
-use Rattle.fjall_views.specs.Views.{value_at}
+use Rattle.fjall_memtable.specs.Jobs.{OnceEach, Same, flushed}
+use Rattle.fjall_memtable.specs.Views.{value_at}
 use Rattle.fjall_compaction.specs.Covering.{FlushCovers, IsSyncedTo, MayCount, ShowsBatches, TakesParts}
 use Rattle.fjall_compaction.specs.Flushes.{Flush, Follows, HasAt}
 use Rattle.fjall_compaction.proofs.Covered.{made_of}

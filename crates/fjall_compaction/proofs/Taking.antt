@@ -24,7 +24,7 @@ use Rattle.fjall_recovery.proofs.Composing.{not_under}
 use Rattle.fjall_table.specs.Blocks.{Entry}
 use Rattle.fjall_table.specs.declared.table_info.TableInfo.{TableInfo}
 use Rattle.fjall_manifest.specs.Records.{Fields, IsRecord}
-use Rattle.fjall_compaction.specs.Merges.{Merge, home_after, infos_from}
+use Rattle.fjall_compaction.specs.Merges.{Merge, home_after, merged_infos}
 use Rattle.fjall_compaction.specs.MergePlans.{HasNoTableFolder}
 use Rattle.fjall_compaction.proofs.MergeAfterRecords.{new_from}
 
@@ -78,7 +78,7 @@ module _ (m : Merge) (last : Fields) (is : IsRecord last) where
   pub unnamed : (h : Home) → h.last ≡ last → AreUnnamed (home_after m h) (ids taken)
   unnamed h at =
       let next = last.next_table_id in
-      let infos = infos_from next m.tables in
+      let infos = merged_infos next m.tables in
       let left = drop m.table_count last.tables in
       let none = λ (t : TableInfo) (lt : t.id < next). All-weaker (λ (u : TableInfo). next ≤ u.id) (λ u. u.id ≢ t.id) (λ u le e. omega (arith, le, e, lt)) infos (new_from next m.tables) in
       let both : All (λ t. All (λ u. u.id ≢ t.id) (infos ++ left)) taken =

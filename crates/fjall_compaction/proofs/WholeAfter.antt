@@ -6,18 +6,18 @@ use Rattle.std.proofs.lemmas.Bool.{cond-false, cond-true, eq-eqb, true≢false}
 use Rattle.std.proofs.lemmas.List.{append-nil}
 use Rattle.std.proofs.lemmas.List.Elements.{All-append, All-map, All-nil, All-weaker}
 use Rattle.fjall_table_reader.specs.Readers.{Reader}
-use Rattle.fjall_catalog.specs.Catalog.{fields, first_of}
-use Rattle.fjall_contents.specs.Contents.{Stored, clears_held, is_beyond, versions_held}
-use Rattle.fjall_contents.proofs.Beyond.{beyond_is_later}
+use Rattle.fjall_manifest.specs.Catalog.{fields, first_of}
+use Rattle.fjall_meta.specs.Contents.{Stored, clears_held, is_beyond, versions_held}
+use Rattle.fjall_meta.proofs.Beyond.{beyond_is_later}
 use Rattle.fjall_compaction.specs.FlushFinishing.{AreTreesKnown}
-use Rattle.fjall_compaction.specs.Flushes.{infos_from, record_after, texts_of}
+use Rattle.fjall_compaction.specs.Flushes.{flushed_infos, record_after_flush, texts_of}
 use Rattle.fjall_compaction.proofs.FlushAfterHomes.{both_right, new_right, versions_at}
 use Rattle.fjall_compaction.proofs.FlushAfterRecords.{raised_is}
 use Rattle.fjall_manifest.specs.Homes.{Home}
 use Rattle.fjall_manifest.specs.Reading.{AreRight}
 use Rattle.fjall_jobs.specs.declared.made_table.MadeTable.{MadeTable}
 use Rattle.fjall_journal.specs.Batches.{Shown, shown}
-use Rattle.fjall_recovery.specs.Known.{GoesOnFrom, IsKnown, LastFields}
+use Rattle.fjall_replay.specs.Known.{GoesOnFrom, IsKnown, LastFields}
 use Rattle.fjall_tree.specs.Ingestions.{ingested}
 use Rattle.fjall_tree.specs.Trees.{Shape, clears_of}
 use Rattle.fjall_tree.proofs.Several.{flat_both}
@@ -29,7 +29,7 @@ use Rattle.fjall_recovery.specs.Homes.{stored_at, stored_in, stored_of}
 use Rattle.fjall_recovery.specs.Journals.{batches_in}
 use Rattle.fjall_recovery.specs.Places.{Journaling, journals_with}
 use Rattle.fjall_recovery.proofs.Storing.{stored_inserted}
-use Rattle.fjall_recovery.specs.Beside.{AreReplayedWith, ShowsWith}
+use Rattle.fjall_replay.specs.Beside.{AreReplayedWith, ShowsWith}
 use Rattle.fjall_memtable.specs.Sorted.{flat}
 use Rattle.fjall_table.specs.Blocks.{Entry}
 use Rattle.fjall_manifest.specs.Records.{Fields}
@@ -37,10 +37,10 @@ use Rattle.fjall_trees.specs.Forests.{Forest, altered_at, tree_at}
 use Rattle.fjall_trees.specs.Tables.{entries_with}
 use Rattle.fjall_trees.proofs.Others.{altered_here, altered_other}
 use Rattle.fjall_trees.proofs.Reading.{entries_here}
-use Rattle.fjall_contents.proofs.Slots.{get_put, same_id}
-use Rattle.fjall_views.specs.Views.{value_at}
-use Rattle.fjall_views.proofs.Tests.{all_of}
-use Rattle.fjall_writes.specs.Ingestions.{KeyOp}
+use Rattle.fjall_meta.proofs.Slots.{get_put, same_id}
+use Rattle.fjall_memtable.specs.Views.{value_at}
+use Rattle.fjall_memtable.proofs.Tests.{all_of}
+use Rattle.fjall_reading.specs.Ingestions.{KeyOp}
 use Rattle.fjall_compaction.specs.Ingests.{as_flush, home_with, tree_with, version_of, versions_made}
 use Rattle.fjall_compaction.specs.IngestionPlans.{AreIngestionTables}
 use Rattle.fjall_compaction.proofs.Numbers.{is_later}
@@ -51,7 +51,7 @@ module _ (j : Journaling) (t : Tree) (trees : Forest) (entries : ℕ → List (L
     (has : tree_at id trees ≡ Some shape) (last : Fields) (lists : List (List Entry)) (m : Tree) (h : Home) (versions : List Entry)
     (between : IsBetween j t id n last (clears_of shape) (flat (entries id) ++ flat lists) m h versions) (items : List KeyOp) (made : List MadeTable) (tables : AreIngestionTables n items made)
     (readers : List Reader) (right : AreRight h.last.tables h.texts (entries id ++ lists))
-    (infos : map (λ (r : Reader). r.info) (shape.tables ++ readers) ≡ h.last.tables ++ infos_from h.last.next_table_id made) where
+    (infos : map (λ (r : Reader). r.info) (shape.tables ++ readers) ≡ h.last.tables ++ flushed_infos h.last.next_table_id made) where
   abbrev batches : List Shown
   batches = map shown (batches_in (journals_with j j.later))
 
@@ -74,7 +74,7 @@ module _ (j : Journaling) (t : Tree) (trees : Forest) (entries : ℕ → List (L
   entries_after = entries_with id more entries
 
   abbrev records_after : LastFields
-  records_after = insert records id (record_after (as_flush n made) last)
+  records_after = insert records id (record_after_flush (as_flush n made) last)
 
   abbrev shape_after : Shape
   shape_after = ingested n readers shape
@@ -132,12 +132,12 @@ module _ (j : Journaling) (t : Tree) (trees : Forest) (entries : ℕ → List (L
   -- these are what its tables hold
   right_after : AreRight home.last.tables home.texts more
   right_after =
-      let own = infos_from h.last.next_table_id made in
+      let own = flushed_infos h.last.next_table_id made in
       subst (λ (l : List (List Entry)). AreRight (h.last.tables ++ own) (h.texts ++ texts_of made) l) (append_assoc (entries id) lists tables.0)
       (both_right h.last.tables own h.texts (texts_of made) (entries id ++ lists) tables.0 right (new_right h.last.next_table_id made tables.0 tables.1))
 
   -- its tree goes on from the record behind the ingestion
-  goes_after : GoesOnFrom (record_after (as_flush n made) h.last) shape_after
+  goes_after : GoesOnFrom (record_after_flush (as_flush n made) h.last) shape_after
   goes_after = record {
     tables = infos;
     clears = all_clears;
@@ -182,8 +182,8 @@ module _ (j : Journaling) (t : Tree) (trees : Forest) (entries : ℕ → List (L
       All-weaker (IsKnown records trees entries t.homes t.versions) (IsKnown records_after after entries_after next.homes next.versions) (λ i known. by i known (i.id == id) refl)
       m.keyspaces.living known_before
     where
-      record_here : record_after (as_flush n made) last ≡ home.last
-      record_here = ap (record_after (as_flush n made)) between.last_is
+      record_here : record_after_flush (as_flush n made) last ≡ home.last
+      record_here = ap (record_after_flush (as_flush n made)) between.last_is
 
       by : (i : LivingKeyspace) → IsKnown records trees entries t.homes t.versions i → (b : Bool) → (i.id == id) ≡ b → IsKnown records_after after entries_after next.homes next.versions i
       by i known true same = record {
@@ -194,7 +194,7 @@ module _ (j : Journaling) (t : Tree) (trees : Forest) (entries : ℕ → List (L
             ∙ cond-true (i.id == id) (Some stored) (get m.versions i.id) same
             ∙ ap (λ (l : List Entry). Some l) (sym all_entries ∙ ap flat (sym (cond-true (i.id == id) more (entries i.id) same)));
         last = ap (λ (o : Option Fields). unwrap_or o (fields (first_of i.number)))
-            (get_put records id (record_after (as_flush n made) last) i.id ∙ cond-true (i.id == id) (Some (record_after (as_flush n made) last)) (get records i.id) same)
+            (get_put records id (record_after_flush (as_flush n made) last) i.id ∙ cond-true (i.id == id) (Some (record_after_flush (as_flush n made) last)) (get records i.id) same)
             ∙ record_here;
         shape = shape_after;
         tree = subst (λ q. tree_at q after ≡ Some shape_after) (sym (same_id i.id id same)) tree_after_it;
@@ -210,7 +210,7 @@ module _ (j : Journaling) (t : Tree) (trees : Forest) (entries : ℕ → List (L
             ∙ known.stored
             ∙ ap (λ (l : List (List Entry)). Some (flat l)) (sym (cond-false (i.id == id) more (entries i.id) differ));
         last = ap (λ (o : Option Fields). unwrap_or o (fields (first_of i.number)))
-            (get_put records id (record_after (as_flush n made) last) i.id ∙ cond-false (i.id == id) (Some (record_after (as_flush n made) last)) (get records i.id) differ)
+            (get_put records id (record_after_flush (as_flush n made) last) i.id ∙ cond-false (i.id == id) (Some (record_after_flush (as_flush n made) last)) (get records i.id) differ)
             ∙ known.last;
         shape = known.shape;
         tree = other_tree i.id differ ∙ known.tree;

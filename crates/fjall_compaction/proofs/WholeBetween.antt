@@ -8,9 +8,9 @@ use Rattle.std.proofs.lemmas.List.{append-nil, map-append}
 use Rattle.std.proofs.lemmas.List.Elements.{All-nil, All-weaker}
 use Rattle.fjall_base.proofs.Codecs.{some_is}
 use Rattle.fjall_table_reader.specs.Readers.{Reader}
-use Rattle.fjall_contents.specs.Contents.{clears_held, is_beyond, versions_held}
+use Rattle.fjall_meta.specs.Contents.{clears_held, is_beyond, versions_held}
 use Rattle.fjall_compaction.specs.Covering.{IsSyncedTo, MayCount, ShowsBatches, TakesParts}
-use Rattle.fjall_compaction.specs.Flushes.{Flush, Follows, HasAt, home_after, infos_from, raised, record_after, texts_of, tree_after}
+use Rattle.fjall_compaction.specs.Flushes.{Flush, Follows, HasAt, home_after, flushed_infos, raised, record_after_flush, texts_of, tree_after}
 use Rattle.fjall_compaction.proofs.FlushAfterHomes.{both_right, new_right, versions_at}
 use Rattle.fjall_compaction.proofs.FlushAfterRecords.{raised_is}
 use Rattle.fjall_compaction.proofs.FlushFinishing.{begin_behind, past_is_beyond}
@@ -23,7 +23,7 @@ use Rattle.fjall_jobs.specs.declared.made_table.MadeTable.{MadeTable}
 use Rattle.fjall_jobs.specs.Tasks.{IsFlushed, Task}
 use Rattle.fjall_jobs.proofs.Flushing.{flat_runs}
 use Rattle.fjall_journal.specs.Batches.{Shown, Written, shown}
-use Rattle.fjall_recovery.specs.Known.{GoesOnFrom, IsKnown, LastFields, last_known}
+use Rattle.fjall_replay.specs.Known.{GoesOnFrom, IsKnown, LastFields, last_known}
 use Rattle.fjall_tree.specs.Ingestions.{has_memory, memory_task}
 use Rattle.fjall_tree.specs.Puts.{bare_tree}
 use Rattle.fjall_tree.specs.Trees.{Shape, clears_of, floor_of}
@@ -34,7 +34,7 @@ use Rattle.fjall_recovery.specs.Halves.{Tree}
 use Rattle.fjall_recovery.specs.Homes.{ClearsAreWithin, stored_at, stored_in, stored_of}
 use Rattle.fjall_recovery.specs.Journals.{batches_in}
 use Rattle.fjall_recovery.specs.Places.{Journaling, contents_with, journals_with}
-use Rattle.fjall_recovery.specs.Beside.{ShowsWith}
+use Rattle.fjall_replay.specs.Beside.{ShowsWith}
 use Rattle.fjall_memtable.specs.Sorted.{flat}
 use Rattle.fjall_table.specs.declared.table_info.TableInfo.{TableInfo}
 use Rattle.fjall_table.specs.Blocks.{Entry}
@@ -42,10 +42,10 @@ use Rattle.fjall_manifest.specs.Records.{Fields}
 use Rattle.fjall_trees.specs.Forests.{Forest, IsTree, tree_at}
 use Rattle.fjall_trees.specs.Tables.{shape_in}
 use Rattle.fjall_trees.proofs.Places.{tree_has}
-use Rattle.fjall_contents.specs.Replays as Replays
-use Rattle.fjall_contents.proofs.Found.{found_has}
-use Rattle.fjall_contents.proofs.Slots.{get_put}
-use Rattle.fjall_views.specs.Views.{value_at}
+use Rattle.fjall_meta.specs.Replays as Replays
+use Rattle.fjall_meta.proofs.Found.{found_has}
+use Rattle.fjall_meta.proofs.Slots.{get_put}
+use Rattle.fjall_memtable.specs.Views.{value_at}
 use Rattle.fjall_compaction.specs.Commands.{MayCome, MayIngestSynced}
 use Rattle.fjall_compaction.specs.Whole.{CanIngest, home_flushed, last_flushed, memory_flush, tree_flushed, versions_flushed}
 use Rattle.fjall_compaction.proofs.Following.{may_follow}
@@ -184,7 +184,7 @@ module _ (j : Journaling) (t : Tree) (trees : Forest) (entries : ℕ → List (L
             (λ p le. past_is_beyond h.last.persisted p.from (let ends = goes_on.beyond in omega (arith, ends, le))) parts
             (begin_behind memory.sealed memory.active tree.held tree.apart))
 
-        flushed : IsBetween j t k.id n (record_after f h.last) (clears_of shape) (stored ++ flat made.lists) (tree_after k.id f made.lists h stored t) (home_after f h) (stored ++ flat made.lists)
+        flushed : IsBetween j t k.id n (record_after_flush f h.last) (clears_of shape) (stored ++ flat made.lists) (tree_after k.id f made.lists h stored t) (home_after f h) (stored ++ flat made.lists)
         flushed = record {
           may = may_follow j t k.id f made.lists h stored counted.0 n follows_last counted.1 counted.2 can.synced can.sound lives can.small low can.above;
           keyspaces = refl;
@@ -238,7 +238,7 @@ module _ (j : Journaling) (t : Tree) (trees : Forest) (entries : ℕ → List (L
 
     between_where : (watermark : ℕ) (tables : List MadeTable) (made : IsFlushed (memory_task k.id watermark memory) tables (clears_in parts)) (b : Bool) → has_memory memory ≡ b
         → let f = memory_flush shape tables in
-        IsBetween j t k.id n (if b then record_after f h.last else h.last) (clears_of shape) (stored ++ flat made.lists) (tree_flushed b k.id f made.lists h stored t) (home_flushed b f h) (versions_flushed
+        IsBetween j t k.id n (if b then record_after_flush f h.last else h.last) (clears_of shape) (stored ++ flat made.lists) (tree_flushed b k.id f made.lists h stored t) (home_flushed b f h) (versions_flushed
         b made.lists stored)
     between_where watermark tables made true some = flushed some watermark tables made
     between_where watermark tables made false none = as_is none watermark tables made
@@ -257,7 +257,7 @@ module _ (j : Journaling) (t : Tree) (trees : Forest) (entries : ℕ → List (L
         → let after = home_flushed b (memory_flush shape tables) h in
         AreRight after.last.tables after.texts (entries k.id ++ made.lists)
     right_where watermark tables made true some =
-        both_right h.last.tables (infos_from h.last.next_table_id tables) h.texts (texts_of tables) (entries k.id) made.lists right (new_right h.last.next_table_id tables made.lists made.made)
+        both_right h.last.tables (flushed_infos h.last.next_table_id tables) h.texts (texts_of tables) (entries k.id) made.lists right (new_right h.last.next_table_id tables made.lists made.made)
     right_where watermark tables made false none =
         let same = ap (λ (l : List (List Entry)). entries k.id ++ l) (no_lists none watermark tables made) ∙ append-nil (entries k.id) in
         subst (λ (l : List (List Entry)). AreRight h.last.tables h.texts l) (sym same) right
@@ -269,28 +269,28 @@ module _ (j : Journaling) (t : Tree) (trees : Forest) (entries : ℕ → List (L
 
     -- where the readers of all tables that are made know of them what the record says, the tree has the record's tables with them
     infos_where : (watermark : ℕ) (tables own : List MadeTable) (made : IsFlushed (memory_task k.id watermark memory) tables (clears_in parts)) (readers : List Reader)
-        → map (λ (r : Reader). r.info) readers ≡ infos_from h.last.next_table_id (tables ++ own) → (b : Bool) → has_memory memory ≡ b
+        → map (λ (r : Reader). r.info) readers ≡ flushed_infos h.last.next_table_id (tables ++ own) → (b : Bool) → has_memory memory ≡ b
         → let last = (home_flushed b (memory_flush shape tables) h).last in
-        map (λ (r : Reader). r.info) (shape.tables ++ readers) ≡ last.tables ++ infos_from last.next_table_id own
+        map (λ (r : Reader). r.info) (shape.tables ++ readers) ≡ last.tables ++ flushed_infos last.next_table_id own
     infos_where watermark tables own made readers infos true some =
         let next = h.last.next_table_id in
         map-append (λ (r : Reader). r.info) shape.tables readers
         ∙ (λ i. goes_on.tables i ++ infos i)
         ∙ ap (λ (l : List TableInfo). h.last.tables ++ l) (infos_both next tables own)
-        ∙ sym (append_assoc h.last.tables (infos_from next tables) (infos_from (next + length tables) own))
+        ∙ sym (append_assoc h.last.tables (flushed_infos next tables) (flushed_infos (next + length tables) own))
     infos_where watermark tables own made readers infos false none =
         map-append (λ (r : Reader). r.info) shape.tables readers
         ∙ (λ i. goes_on.tables i ++ infos i)
-        ∙ ap (λ (l : List MadeTable). h.last.tables ++ infos_from h.last.next_table_id (l ++ own)) (no_tables none watermark tables made)
+        ∙ ap (λ (l : List MadeTable). h.last.tables ++ flushed_infos h.last.next_table_id (l ++ own)) (no_tables none watermark tables made)
 
     pub infos_between : (watermark : ℕ) (tables own : List MadeTable) (made : IsFlushed (memory_task k.id watermark memory) tables (clears_in parts)) (readers : List Reader)
-        → map (λ (r : Reader). r.info) readers ≡ infos_from h.last.next_table_id (tables ++ own)
+        → map (λ (r : Reader). r.info) readers ≡ flushed_infos h.last.next_table_id (tables ++ own)
         → let last = (home_flushed (has_memory memory) (memory_flush shape tables) h).last in
-        map (λ (r : Reader). r.info) (shape.tables ++ readers) ≡ last.tables ++ infos_from last.next_table_id own
+        map (λ (r : Reader). r.info) (shape.tables ++ readers) ≡ last.tables ++ flushed_infos last.next_table_id own
     infos_between watermark tables own made readers infos = infos_where watermark tables own made readers infos (has_memory memory) refl
 
     -- what is persisted once memory is flushed is below the ingestion's number
-    persisted_where : (tables : List MadeTable) (b : Bool) → has_memory memory ≡ b → is_beyond (if b then record_after (memory_flush shape tables) h.last else h.last).persisted n ≡ true
+    persisted_where : (tables : List MadeTable) (b : Bool) → has_memory memory ≡ b → is_beyond (if b then record_after_flush (memory_flush shape tables) h.last else h.last).persisted n ≡ true
     persisted_where tables true some =
         lt-ltb (raised h.last.persisted (memory.active.until - 1)) n (let e = raised_is h.last.persisted (memory.active.until - 1) (beyond some) in let lt = low some in omega (arith, e, lt))
     persisted_where tables false none = is_later j t k.id n h stored come

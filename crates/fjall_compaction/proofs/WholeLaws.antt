@@ -5,11 +5,11 @@ use Rattle.std.proofs.lemmas.List.{append-nil}
 use Rattle.fjall_base.specs.Disk.{Image, LeavesOnly, Meaning, state_in}
 use Rattle.fjall_base.specs.Store.{Store, apply, kept}
 use Rattle.fjall_table_reader.specs.Readers.{Reader}
-use Rattle.fjall_contents.specs.Contents.{is_beyond}
+use Rattle.fjall_meta.specs.Contents.{is_beyond}
 use Rattle.fjall_files.specs.Names.{keyspace_folder}
 use Rattle.fjall_files.specs.Regions.{Within}
 use Rattle.fjall_compaction.specs.FlushFinishing.{AreTreesKnown}
-use Rattle.fjall_compaction.specs.Flushes.{Follows, infos_from}
+use Rattle.fjall_compaction.specs.Flushes.{Follows, flushed_infos}
 use Rattle.fjall_compaction.proofs.Composed.{seen}
 use Rattle.fjall_compaction.proofs.SameNumber.{apart}
 use Rattle.fjall_manifest.specs.Homes.{Home}
@@ -17,7 +17,7 @@ use Rattle.fjall_manifest.proofs.Outside.{within_keyspaces}
 use Rattle.fjall_jobs.specs.declared.made_table.MadeTable.{MadeTable}
 use Rattle.fjall_jobs.specs.Tasks.{IsFlushed}
 use Rattle.fjall_journal.specs.Batches.{Written}
-use Rattle.fjall_recovery.specs.Known.{LastFields, last_known}
+use Rattle.fjall_replay.specs.Known.{LastFields, last_known}
 use Rattle.fjall_tree.specs.Ingestions.{has_memory, ingested, memory_task}
 use Rattle.fjall_tree.specs.Trees.{Shape, clears_of}
 use Rattle.fjall_meta.specs.declared.living.LivingKeyspace.{LivingKeyspace}
@@ -33,7 +33,7 @@ use Rattle.fjall_table.specs.Blocks.{Entry}
 use Rattle.fjall_manifest.specs.Records.{Fields}
 use Rattle.fjall_trees.specs.Forests.{Forest, altered_at}
 use Rattle.fjall_trees.specs.Tables.{entries_with, shape_in}
-use Rattle.fjall_writes.specs.Ingestions.{KeyOp}
+use Rattle.fjall_reading.specs.Ingestions.{KeyOp}
 use Rattle.fjall_compaction.specs.Ingests.{ingestion, tree_with}
 use Rattle.fjall_compaction.specs.IngestionPlans.{AreIngestionTables}
 use Rattle.fjall_compaction.specs.Whole.{CanIngest, home_flushed, last_flushed, last_ingested, memory_flush, tree_behind, tree_between, versions_flushed}
@@ -130,7 +130,7 @@ module _ (j : Journaling) (t : Tree) (trees : Forest) (entries : ℕ → List (L
   number : number_of_contents (contents_with j behind j.later) ≡ n + 1
   number = own_number j mid k.id n items tables mid_home mid_versions is_between.may.come j.later [] (append-nil j.later)
 
-  known : (readers : List Reader) → map (λ (r : Reader). r.info) readers ≡ infos_from h.last.next_table_id (flushes ++ tables)
+  known : (readers : List Reader) → map (λ (r : Reader). r.info) readers ≡ flushed_infos h.last.next_table_id (flushes ++ tables)
       → AreTreesKnown j behind (altered_at k.id (ingested n readers) trees) (entries_with k.id (entries k.id ++ (flushed.lists ++ are.0)) entries)
       (insert records k.id (last_ingested n tree flushes tables h.last))
   known readers infos =
@@ -171,7 +171,7 @@ whole_number j t trees entries records k n can watermark items flushes made flus
 pub whole_known : (j : Journaling) (t : Tree) (trees : Forest) (entries : ℕ → List (List Entry)) (records : LastFields) (k : LivingKeyspace) (n : ℕ) → CanIngest j t trees entries records k n
     → (watermark : ℕ) (items : List KeyOp) (flushes made : List MadeTable)
     (flushed : IsFlushed (memory_task k.id watermark (shape_in k.id trees).memory) flushes (clears_in (parts_of (shape_in k.id trees).memory))) → (are : AreIngestionTables n items made) → (h : Home)
-    → get t.homes k.id ≡ Some h → (readers : List Reader) → map (λ (r : Reader). r.info) readers ≡ infos_from h.last.next_table_id (flushes ++ made)
+    → get t.homes k.id ≡ Some h → (readers : List Reader) → map (λ (r : Reader). r.info) readers ≡ flushed_infos h.last.next_table_id (flushes ++ made)
     → let tree = shape_in k.id trees in
     AreTreesKnown j (tree_behind k.id n items tree flushes made flushed.lists h (flat (entries k.id)) t) (altered_at k.id (ingested n readers) trees)
     (entries_with k.id (entries k.id ++ (flushed.lists ++ are.0)) entries) (insert records k.id (last_ingested n tree flushes made h.last))

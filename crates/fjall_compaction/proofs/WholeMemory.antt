@@ -14,7 +14,7 @@ use Rattle.fjall_tree.specs.Trees.{first_from}
 use Rattle.fjall_memtable.specs.Parts.{AreApart, HeldPart, IsHeld, Memory, clears_in, holds_nothing, parts_of, versions_in}
 use Rattle.fjall_memtable.specs.Sorted.{flat}
 use Rattle.fjall_table.specs.Blocks.{Entry}
-use Rattle.fjall_views.specs.Jobs.{Same, flushed}
+use Rattle.fjall_memtable.specs.Jobs.{Same, flushed}
 
 -- ---- where memory begins and ends
 

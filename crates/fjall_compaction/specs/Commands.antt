@@ -1,6 +1,6 @@
 -- When an ingestion is one command: all that journals have of its keyspace is persisted, and its number is above all others.
 use Rattle.std.specs.Prelude.{◌≡◌, ◌≢◌, ℕ, ◌<◌, ◌≤◌, ◌^◌, true, List, [], All, map, Option, None}
-use Rattle.fjall_contents.specs.Contents.{is_beyond}
+use Rattle.fjall_meta.specs.Contents.{is_beyond}
 use Rattle.fjall_compaction.specs.Covering.{ShowsBatches}
 use Rattle.fjall_compaction.specs.Flushes.{HasAt}
 use Rattle.fjall_manifest.specs.Homes.{Home}
@@ -11,7 +11,7 @@ use Rattle.fjall_recovery.specs.Homes.{HaveVersions, stored_of}
 use Rattle.fjall_recovery.specs.Journals.{batches_in}
 use Rattle.fjall_recovery.specs.Places.{Journaling, contents_with, journals_with}
 use Rattle.fjall_table.specs.Blocks.{Entry}
-use Rattle.fjall_contents.specs.Replays.{counts, first_fault}
+use Rattle.fjall_meta.specs.Replays.{counts, first_fault}
 
 -- the batch has no item and no clear of the keyspace of this id
 abbrev pub HasNothingOf : ℕ → Shown → Type 0

@@ -1,7 +1,7 @@
 -- What a flush covers: what it takes out of memory, and which batches of the journals that is.
 use Rattle.std.specs.Prelude.{◌≡◌, ℕ, ◌+◌, ◌<◌, ◌≤◌, ◌^◌, List, ◌++◌, All, map, true}
 use Rattle.fjall_base.specs.Pairs.{Bytes}
-use Rattle.fjall_contents.specs.Contents.{Stored, clears_held, is_beyond, versions_held}
+use Rattle.fjall_meta.specs.Contents.{Stored, clears_held, is_beyond, versions_held}
 use Rattle.fjall_journal.specs.Batches.{Shown, shown}
 use Rattle.fjall_jobs.specs.Tasks.{Task}
 use Rattle.fjall_meta.specs.Keyspaces.{Keyspaces}
@@ -13,8 +13,8 @@ use Rattle.fjall_recovery.specs.Places.{Journaling, journals_with}
 use Rattle.fjall_manifest.specs.Homes.{Home}
 use Rattle.fjall_memtable.specs.Sorted.{flat}
 use Rattle.fjall_table.specs.Blocks.{Entry}
-use Rattle.fjall_views.specs.Jobs.{OnceEach, Same, flushed}
-use Rattle.fjall_views.specs.Views.{value_at}
+use Rattle.fjall_memtable.specs.Jobs.{OnceEach, Same, flushed}
+use Rattle.fjall_memtable.specs.Views.{value_at}
 use Rattle.fjall_compaction.specs.Flushes.{Flush, HasAt}
 
 -- What memory holds of a keyspace: to each view, what is stored of it shows with these clears and versions just what it shows with

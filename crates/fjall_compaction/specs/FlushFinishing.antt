@@ -3,7 +3,7 @@ use Rattle.std.specs.Prelude.{◌≡◌, ◌≢◌, ℕ, ◌-◌, ◌≤◌, ◌
 use Rattle.fjall_journal.specs.Batches.{shown}
 use Rattle.fjall_jobs.specs.declared.made_table.MadeTable.{MadeTable}
 use Rattle.fjall_jobs.specs.Tasks.{Task}
-use Rattle.fjall_recovery.specs.Known.{IsKnown, LastFields}
+use Rattle.fjall_replay.specs.Known.{IsKnown, LastFields}
 use Rattle.fjall_tree.specs.Jobs.{IsFlushing, flush_end}
 use Rattle.fjall_meta.specs.declared.living.LivingKeyspace.{LivingKeyspace}
 use Rattle.fjall_meta.specs.Keyspaces.{keyspace_at}
@@ -11,7 +11,7 @@ use Rattle.fjall_recovery.specs.Halves.{Tree}
 use Rattle.fjall_recovery.specs.Homes.{HaveVersions, stored_in}
 use Rattle.fjall_recovery.specs.Journals.{batches_in}
 use Rattle.fjall_recovery.specs.Places.{Journaling, journals_with}
-use Rattle.fjall_recovery.specs.Beside.{AreReplayedWith}
+use Rattle.fjall_replay.specs.Beside.{AreReplayedWith}
 use Rattle.fjall_table.specs.Blocks.{Entry}
 use Rattle.fjall_trees.specs.Forests.{Forest, IsForest}
 use Rattle.fjall_trees.specs.Tables.{shape_in}

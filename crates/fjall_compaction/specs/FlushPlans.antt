@@ -16,7 +16,7 @@ use Rattle.fjall_manifest.specs.Homes.{AreSafe, Home, Rests}
 use Rattle.fjall_recovery.specs.Halves.{Tree}
 use Rattle.fjall_recovery.specs.Places.{LiesInTree}
 use Rattle.fjall_compaction.specs.declared.flush.plan.FlushPlan.{FlushPlan}
-use Rattle.fjall_compaction.specs.Flushes.{Flush, Follows, HasAt, flush_of, flush_with, infos_from, record_after, tree_after}
+use Rattle.fjall_compaction.specs.Flushes.{Flush, Follows, HasAt, flush_of, flush_with, flushed_infos, record_after_flush, tree_after}
 use Rattle.fjall_compaction.specs.Room.{IsRecordRefusal}
 
 -- where a table was made, its file has the name of this id's, which isn't the greatest; where none was made, there is no name
@@ -28,16 +28,16 @@ IsNamed id next tables name = ⊥
 -- What is planned of a flush of the keyspace of this id with that last record: the record after it with its text, and the names of
 -- the keyspace's folder, of the file of its records, and of the new table's file.
 pub record IsFlushPlan (id : ℕ) (last : Fields) (f : Flush) (plan : FlushPlan) : Type 0 where
-  pub record_is : view plan.record ≡ record_after f last
+  pub record_is : view plan.record ≡ record_after_flush f last
   pub folder : IsNameOf keyspace_folder (string_bytes plan.folder) id
   pub current : IsNameOf current_name (string_bytes plan.current) id
   pub table : IsNamed id last.next_table_id f.tables plan.table
-  pub text : plan.record_text.items ≡ record_text (record_after f last)
-  pub fits : Fits (record_after f last)
+  pub text : plan.record_text.items ≡ record_text (record_after_flush f last)
+  pub fits : Fits (record_after_flush f last)
 
 -- Why a flush can't be planned: the record after it is refused, as for its room, for ids, and for memory, in this order.
 abbrev pub IsFlushPlanRefusal : Fields → Flush → Error → Type 0
-IsFlushPlanRefusal last f error = IsRecordRefusal (record_after f last) error
+IsFlushPlanRefusal last f error = IsRecordRefusal (record_after_flush f last) error
 
 -- The home rests as before, and beside it the tables of the next one are safe.
 pub record IsPut (state : DiskState) (id : ℕ) (records : List Fields) (h next : Home) : Type 0 where
@@ -55,8 +55,8 @@ HaveFiles disk id next (t ∷ tables) =
 -- Readers of tables that were made of the keyspace of this id: of the files that are to have them, under ids that follow one another
 -- from this one on. On a disk that has these files they read what the tables hold.
 pub record AreReadersOf (id next : ℕ) (tables : List MadeTable) (readers : List Reader) : Type 0 where
-  pub names : map (λ t. t.name) readers ≡ map (λ t. table_name id t.id) (infos_from next tables)
-  pub infos : map (λ t. t.info) readers ≡ infos_from next tables
+  pub names : map (λ t. t.name) readers ≡ map (λ t. table_name id t.id) (flushed_infos next tables)
+  pub infos : map (λ t. t.info) readers ≡ flushed_infos next tables
   pub read : (disk : Meaning) (lists : List (List Entry)) → AreMadeTables tables lists → HaveFiles disk id next tables → AreRead disk readers lists
 
 -- Nothing in sight changed, but of the keyspace of this id the file of records and the file of the table of this number.

@@ -5,9 +5,9 @@ use Rattle.std.specs.FinMap.{get}
 use Rattle.fjall_table.specs.declared.level.Level.TheVariants.{L0}
 use Rattle.fjall_table.specs.declared.table_info.TableInfo.{TableInfo}
 use Rattle.fjall_table.specs.Blocks.{Entry}
-use Rattle.fjall_contents.specs.Contents.{is_beyond}
+use Rattle.fjall_meta.specs.Contents.{is_beyond}
 use Rattle.fjall_memtable.specs.Sorted.{flat}
-use Rattle.fjall_views.specs.Jobs.{OnceEach}
+use Rattle.fjall_memtable.specs.Jobs.{OnceEach}
 use Rattle.fjall_jobs.specs.declared.flush_made.FlushMade.{FlushMade}
 use Rattle.fjall_jobs.specs.declared.made_table.MadeTable.{MadeTable}
 use Rattle.fjall_jobs.specs.Made.{flush_clears, flush_tables}
@@ -38,18 +38,18 @@ raised None number = number
 raised (Some other) number = max other number
 
 -- what a record says of tables that were made: their ids follow one another from this one on, and they stand at level 0
-abbrev pub infos_from : ℕ → List MadeTable → List TableInfo
-infos_from next [] = []
-infos_from next (t ∷ tables) = record { id = next; level = L0; file_len = length t.bytes.items; entry_count = t.entry_count } ∷ infos_from (next + 1) tables
+abbrev pub flushed_infos : ℕ → List MadeTable → List TableInfo
+flushed_infos next [] = []
+flushed_infos next (t ∷ tables) = record { id = next; level = L0; file_len = length t.bytes.items; entry_count = t.entry_count } ∷ flushed_infos (next + 1) tables
 
 -- The record after a flush: its tables and its clears stand behind those that were there, and both numbers reach the flush's.
-abbrev pub record_after : Flush → Fields → Fields
-record_after f last = record {
+abbrev pub record_after_flush : Flush → Fields → Fields
+record_after_flush f last = record {
   persisted = Some (raised last.persisted f.number);
   highest = Some (raised last.highest f.number);
   next_table_id = last.next_table_id + length f.tables;
   next_keyspace_id = last.next_keyspace_id;
-  tables = last.tables ++ infos_from last.next_table_id f.tables;
+  tables = last.tables ++ flushed_infos last.next_table_id f.tables;
   clears = last.clears ++ f.clears;
 }
 
@@ -72,7 +72,7 @@ texts_of tables = map (λ t. t.bytes.items) tables
 
 -- the home after a flush
 abbrev pub home_after : Flush → Home → Home
-home_after f h = record { last = record_after f h.last; texts = h.texts ++ texts_of f.tables }
+home_after f h = record { last = record_after_flush f h.last; texts = h.texts ++ texts_of f.tables }
 
 -- The keyspace of this id has that home in the tree, with these versions in its tables.
 pub record HasAt (t : Tree) (id : ℕ) (h : Home) (versions : List Entry) : Type 0 where

@@ -3,8 +3,8 @@ use Rattle.std.specs.Prelude.{◌≡◌, ℕ, ◌<◌, ◌^◌, true, List, None
 use Rattle.fjall_base.specs.declared.error.Error.{Error}
 use Rattle.fjall_base.specs.declared.error.Error.TheVariants.{NumbersUsedUp, OutOfMemory, TooManyItems}
 use Rattle.fjall_base.specs.Disk.{Meaning, state_in}
-use Rattle.fjall_contents.specs.Contents.{is_beyond}
-use Rattle.fjall_compaction.specs.Flushes.{HasAt, record_after}
+use Rattle.fjall_meta.specs.Contents.{is_beyond}
+use Rattle.fjall_compaction.specs.Flushes.{HasAt, record_after_flush}
 use Rattle.fjall_compaction.specs.FlushPlans.{IsFlushPlan}
 use Rattle.fjall_manifest.specs.Homes.{Home}
 use Rattle.fjall_jobs.specs.declared.made_table.MadeTable.{MadeTable}
@@ -13,7 +13,7 @@ use Rattle.fjall_recovery.specs.Halves.{Tree}
 use Rattle.fjall_recovery.specs.Places.{LiesInTree}
 use Rattle.fjall_table.specs.Blocks.{Entry}
 use Rattle.fjall_manifest.specs.Records.{Fields}
-use Rattle.fjall_writes.specs.Ingestions.{KeyOp}
+use Rattle.fjall_reading.specs.Ingestions.{KeyOp}
 use Rattle.fjall_compaction.specs.declared.ingestion.plan.IngestPlan.{IngestPlan}
 use Rattle.fjall_compaction.specs.Ingests.{as_flush, tree_with, versions_made}
 use Rattle.fjall_compaction.specs.Room.{HasPlace, IsTooLong, LacksNextId}
@@ -30,7 +30,7 @@ pub record IsIngestPlan (id number : ℕ) (items : List KeyOp) (last : Fields) (
 
 -- what is so of the record after an ingestion of these items, whichever its table is; it has none where it has no item
 abbrev pub OnceIngested : ℕ → List KeyOp → Fields → (Fields → Type 0) → Type 0
-OnceIngested number items last Holds = (tables : List MadeTable) → length tables ≡ min (length items) 1 → Holds (record_after (as_flush number tables) last)
+OnceIngested number items last Holds = (tables : List MadeTable) → length tables ≡ min (length items) 1 → Holds (record_after_flush (as_flush number tables) last)
 
 -- Why an ingestion can't be planned: the record after it is refused, as for its room, for ids, and for memory, in this order.
 abbrev pub IsIngestRefusal : ℕ → List KeyOp → Fields → Error → Type 0

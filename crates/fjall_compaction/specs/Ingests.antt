@@ -8,7 +8,7 @@ use Rattle.fjall_jobs.specs.declared.made_table.MadeTable.{MadeTable}
 use Rattle.fjall_journal.specs.Ops.{BatchItem, value_in, write_of}
 use Rattle.fjall_recovery.specs.Halves.{Tree, with_home_at}
 use Rattle.fjall_table.specs.Blocks.{Entry}
-use Rattle.fjall_writes.specs.Ingestions.{KeyOp}
+use Rattle.fjall_reading.specs.Ingestions.{KeyOp}
 
 -- the version that an item makes of its key, under the ingestion's number
 abbrev pub version_of : ℕ → KeyOp → Entry

@@ -3,7 +3,7 @@ use Rattle.std.specs.Prelude.{◌≡◌, ℕ, List, Some}
 use Rattle.fjall_compaction.specs.FlushFinishing.{AreTreesKnown}
 use Rattle.fjall_jobs.specs.declared.made_table.MadeTable.{MadeTable}
 use Rattle.fjall_jobs.specs.Tasks.{Task}
-use Rattle.fjall_recovery.specs.Known.{LastFields}
+use Rattle.fjall_replay.specs.Known.{LastFields}
 use Rattle.fjall_tree.specs.Jobs.{IsMerging}
 use Rattle.fjall_tree.specs.Trees.{Merging}
 use Rattle.fjall_meta.specs.declared.living.LivingKeyspace.{LivingKeyspace}

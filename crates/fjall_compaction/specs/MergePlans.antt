@@ -17,7 +17,7 @@ use Rattle.fjall_memtable.specs.Sorted.{flat}
 use Rattle.fjall_table.specs.Blocks.{Entry}
 use Rattle.fjall_manifest.specs.Records.{Fields, Fits, IsRecord, record_text, view}
 use Rattle.fjall_compaction.specs.declared.merge.plan.MergePlan.{MergePlan}
-use Rattle.fjall_compaction.specs.Merges.{Merge, MergesTables, home_after, infos_from, record_after, tree_after}
+use Rattle.fjall_compaction.specs.Merges.{Merge, MergesTables, home_after, merged_infos, record_after_merge, tree_after}
 use Rattle.fjall_compaction.specs.Room.{IsRecordRefusal}
 
 -- the files of tables that were made have these names, of ids that follow one another from this one on, of which none is the greatest
@@ -29,23 +29,23 @@ AreNamed id next tables names = ⊥
 -- What is planned of a merge of the keyspace of this id with that last record: the record after it with its text, and the names of the
 -- keyspace's folder, of the file of its records, of the new tables' files, and of the files of the tables that it takes.
 pub record IsMergePlan (id : ℕ) (last : Fields) (m : Merge) (plan : MergePlan) : Type 0 where
-  pub record_is : view plan.record ≡ record_after m last
+  pub record_is : view plan.record ≡ record_after_merge m last
   pub folder : IsNameOf keyspace_folder (string_bytes plan.folder) id
   pub current : IsNameOf current_name (string_bytes plan.current) id
   pub files : AreNamed id last.next_table_id m.tables plan.files.items
   pub taken : map string_bytes plan.taken.items ≡ map (λ t. table_name id t.id) (take m.table_count last.tables)
-  pub text : plan.record_text.items ≡ record_text (record_after m last)
-  pub fits : Fits (record_after m last)
+  pub text : plan.record_text.items ≡ record_text (record_after_merge m last)
+  pub fits : Fits (record_after_merge m last)
 
 -- Why a merge can't be planned: the record after it is refused, as for its room, for ids, and for memory, in this order.
 abbrev pub IsMergePlanRefusal : Fields → Merge → Error → Type 0
-IsMergePlanRefusal last m error = IsRecordRefusal (record_after m last) error
+IsMergePlanRefusal last m error = IsRecordRefusal (record_after_merge m last) error
 
 -- Readers of tables that a merge made of the keyspace of this id: of the files that are to have them, under ids that follow one another
 -- from this one on. On a disk that has these files they read what the tables hold.
 pub record AreMergeReaders (id next : ℕ) (tables : List MadeTable) (readers : List Reader) : Type 0 where
-  pub names : map (λ t. t.name) readers ≡ map (λ t. table_name id t.id) (infos_from next tables)
-  pub infos : map (λ t. t.info) readers ≡ infos_from next tables
+  pub names : map (λ t. t.name) readers ≡ map (λ t. table_name id t.id) (merged_infos next tables)
+  pub infos : map (λ t. t.info) readers ≡ merged_infos next tables
   pub read : (disk : Meaning) (lists : List (List Entry)) → AreMadeTables tables lists → HaveFiles disk id next tables → AreRead disk readers lists
 
 -- ---- what stands in sight

@@ -12,7 +12,7 @@ use Rattle.fjall_table.specs.declared.level.Level.TheVariants.{L1}
 use Rattle.fjall_table.specs.declared.table_info.TableInfo.{TableInfo}
 use Rattle.fjall_table.specs.Blocks.{Entry, IsOrdered}
 use Rattle.fjall_manifest.specs.Records.{Fields}
-use Rattle.fjall_views.specs.Jobs.{AreBelow, AreFrom, Same, merged, merged_clears}
+use Rattle.fjall_memtable.specs.Jobs.{AreBelow, AreFrom, Same, merged, merged_clears}
 
 -- A merge of a keyspace: how many of its tables it takes, and how many of the clears of its record, the oldest ones; the tables that it
 -- made of them, and the clears that stay of those.
@@ -29,19 +29,19 @@ merge_of input made = record { table_count = input.0; clear_count = input.1; tab
 -- ---- the record
 
 -- what a record says of tables that a merge made: their ids follow one another from this one on, and they stand at level 1
-abbrev pub infos_from : ℕ → List MadeTable → List TableInfo
-infos_from next [] = []
-infos_from next (t ∷ tables) = record { id = next; level = L1; file_len = length t.bytes.items; entry_count = t.entry_count } ∷ infos_from (next + 1) tables
+abbrev pub merged_infos : ℕ → List MadeTable → List TableInfo
+merged_infos next [] = []
+merged_infos next (t ∷ tables) = record { id = next; level = L1; file_len = length t.bytes.items; entry_count = t.entry_count } ∷ merged_infos (next + 1) tables
 
 -- The record after a merge: its tables stand in the place of those that it takes, and the clears that stay in the place of those that
 -- it takes. The numbers are as they were.
-abbrev pub record_after : Merge → Fields → Fields
-record_after m last = record {
+abbrev pub record_after_merge : Merge → Fields → Fields
+record_after_merge m last = record {
   persisted = last.persisted;
   highest = last.highest;
   next_table_id = last.next_table_id + length m.tables;
   next_keyspace_id = last.next_keyspace_id;
-  tables = infos_from last.next_table_id m.tables ++ drop m.table_count last.tables;
+  tables = merged_infos last.next_table_id m.tables ++ drop m.table_count last.tables;
   clears = m.clears ++ drop m.clear_count last.clears;
 }
 
@@ -64,7 +64,7 @@ pub record MergesTables (m : Merge) (lists entries : List (List Entry)) (last : 
 
 -- the home after a merge
 abbrev pub home_after : Merge → Home → Home
-home_after m h = record { last = record_after m h.last; texts = texts_of m.tables ++ drop m.table_count h.texts }
+home_after m h = record { last = record_after_merge m h.last; texts = texts_of m.tables ++ drop m.table_count h.texts }
 
 -- what the tables of the keyspace have after a merge that made these lists
 abbrev pub entries_after : Merge → (lists entries : List (List Entry)) → List (List Entry)

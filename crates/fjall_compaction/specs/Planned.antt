@@ -3,7 +3,7 @@ use Rattle.std.specs.Prelude.{◌≡◌, ℕ, ◌+◌, ◌<◌, ◌≤◌, ◌^�
 use Rattle.fjall_base.specs.Disk.{Meaning, state_in}
 use Rattle.fjall_base.specs.declared.error.Error.{Error}
 use Rattle.fjall_base.specs.declared.error.Error.TheVariants.{NumbersUsedUp, OutOfMemory, TooManyItems}
-use Rattle.fjall_contents.specs.Contents.{is_beyond}
+use Rattle.fjall_meta.specs.Contents.{is_beyond}
 use Rattle.fjall_files.specs.Names.{table_name}
 use Rattle.fjall_compaction.specs.declared.flush.plan.FlushPlan.{FlushPlan}
 use Rattle.fjall_compaction.specs.Flushes.{Flush, Follows, HasAt, flush_with}
@@ -15,7 +15,7 @@ use Rattle.fjall_recovery.specs.Halves.{Tree}
 use Rattle.fjall_recovery.specs.Places.{LiesInTree}
 use Rattle.fjall_table.specs.Blocks.{Entry}
 use Rattle.fjall_manifest.specs.Records.{Fields}
-use Rattle.fjall_writes.specs.Ingestions.{KeyOp}
+use Rattle.fjall_reading.specs.Ingestions.{KeyOp}
 use Rattle.fjall_compaction.specs.declared.ingestion.whole.MemoryPlan.{MemoryPlan}
 use Rattle.fjall_compaction.specs.declared.ingestion.whole.PlannedIngestion.{PlannedIngestion}
 use Rattle.fjall_compaction.specs.IngestionPlans.{IsIngestPlan, OnceIngested}

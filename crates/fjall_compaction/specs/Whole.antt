@@ -2,12 +2,12 @@
 use Rattle.std.specs.Prelude.{◌≡◌, ℕ, ◌-◌, ◌<◌, ◌≤◌, ◌^◌, Bool, true, false, List, [], ◌++◌, None, Some, map, if◌then◌else◌}
 use Rattle.fjall_table_reader.specs.Readers.{Reader}
 use Rattle.fjall_compaction.specs.FlushFinishing.{AreTreesKnown}
-use Rattle.fjall_compaction.specs.Flushes.{Flush, home_after, infos_from, record_after, tree_after}
+use Rattle.fjall_compaction.specs.Flushes.{Flush, home_after, flushed_infos, record_after_flush, tree_after}
 use Rattle.fjall_manifest.specs.Homes.{Home}
 use Rattle.fjall_jobs.specs.declared.made_table.MadeTable.{MadeTable}
 use Rattle.fjall_jobs.specs.Tasks.{IsFlushed}
 use Rattle.fjall_journal.specs.Batches.{shown}
-use Rattle.fjall_recovery.specs.Known.{LastFields}
+use Rattle.fjall_replay.specs.Known.{LastFields}
 use Rattle.fjall_tree.specs.Ingestions.{has_memory, memory_task}
 use Rattle.fjall_tree.specs.Trees.{Shape}
 use Rattle.fjall_meta.specs.declared.living.LivingKeyspace.{LivingKeyspace}
@@ -22,8 +22,8 @@ use Rattle.fjall_memtable.specs.Sorted.{flat}
 use Rattle.fjall_table.specs.Blocks.{Entry}
 use Rattle.fjall_manifest.specs.Records.{Fields}
 use Rattle.fjall_trees.specs.Forests.{AreBefore, Forest, IsForest}
-use Rattle.fjall_contents.specs.Replays.{first_fault}
-use Rattle.fjall_writes.specs.Ingestions.{KeyOp}
+use Rattle.fjall_meta.specs.Replays.{first_fault}
+use Rattle.fjall_reading.specs.Ingestions.{KeyOp}
 use Rattle.fjall_compaction.specs.Ingests.{as_flush, tree_with}
 use Rattle.fjall_compaction.specs.IngestionPlans.{AreIngestionTables, OnceIngested}
 use Rattle.fjall_compaction.specs.Room.{IsTooLong, LacksNextId}
@@ -36,11 +36,11 @@ memory_flush tree tables = record { number = tree.memory.active.until - 1; table
 
 -- the record once memory is flushed, which it is where it holds something
 abbrev pub last_flushed : Shape → List MadeTable → Fields → Fields
-last_flushed tree flushes last = if has_memory tree.memory then record_after (memory_flush tree flushes) last else last
+last_flushed tree flushes last = if has_memory tree.memory then record_after_flush (memory_flush tree flushes) last else last
 
 -- and the record behind the ingestion of this number
 abbrev pub last_ingested : ℕ → Shape → (flushes made : List MadeTable) → Fields → Fields
-last_ingested n tree flushes made last = record_after (as_flush n made) (last_flushed tree flushes last)
+last_ingested n tree flushes made last = record_after_flush (as_flush n made) (last_flushed tree flushes last)
 
 -- What was made for an ingestion of these items under this number, of a keyspace with this tree and this last record: of its memory one
 -- table, of exactly the versions that the watermark doesn't hide, and none where no version is left; and one of exactly the items.
@@ -48,7 +48,7 @@ last_ingested n tree flushes made last = record_after (as_flush n made) (last_fl
 pub record MakesIngestion (tree : Shape) (id watermark n : ℕ) (items : List KeyOp) (last : Fields) (flushes made : List MadeTable) (readers : List Reader) : Type 0 where
   pub flushed : IsFlushed (memory_task id watermark tree.memory) flushes (clears_in (parts_of tree.memory))
   pub are : AreIngestionTables n items made
-  pub infos : map (λ t. t.info) readers ≡ infos_from last.next_table_id (flushes ++ made)
+  pub infos : map (λ t. t.info) readers ≡ flushed_infos last.next_table_id (flushes ++ made)
 
 -- ---- why none is made
 

@@ -13,8 +13,8 @@ use Rattle.fjall_journal.specs.declared.op.Op.{Op}
 use Rattle.fjall_journal.specs.declared.persist_mode.PersistMode.{PersistMode}
 use Rattle.fjall_journal.specs.declared.persist_mode.PersistMode.TheVariants.{Buffer, SyncAll, SyncData}
 use Rattle.fjall_compaction.specs.Ingests.{batch_items}
-use Rattle.fjall_contents.specs.Replays.{option_pairs}
-use Rattle.fjall_writes.specs.Ingestions.{KeyOp}
+use Rattle.fjall_meta.specs.Replays.{option_pairs}
+use Rattle.fjall_reading.specs.Ingestions.{KeyOp}
 use Rattle.fjall_tx.specs.declared.outcome.CommitOutcome.{CommitOutcome}
 use Rattle.fjall_tx.specs.Owns.{Own, item_of, items_of, key_order}
 use Rattle.fjall_tx.proofs.Keys.{no_entries}
@@ -42,7 +42,7 @@ use Rattle.fjall_calls.specs.declared.call.TxCall.TheVariants.{Begin, Commit, Co
 use Rattle.fjall_calls.specs.declared.call.Within.{Within as Inner}
 use Rattle.fjall_calls.specs.Hearing.{tx_of}
 use Rattle.fjall_calls.specs.Names.{Takes}
-use Rattle.fjall_calls.specs.Steps.{Aborts, Commits, Conflicts, Idles, IsBegun, IsEnded, IsHeldBack, IsNotBegun, IsRolledBack, IsUnknown, IsWithin, NoCall, OfCore, OneCall, Succeeds, TxRun, TxStep, has_name, reply_to}
+use Rattle.fjall_calls.specs.Steps.{Aborts, Commits, Conflicts, Idles, IsBegun, IsEnded, IsHeldBack, IsNotBegun, IsRolledBack, IsUnknown, IsWithin, NoCall, OfCore, OneCall, Succeeds, TxRun, TxStep, is_transaction_named, reply_to}
 use Rattle.fjall_calls.specs.Worlds.{Going, World}
 use Rattle.fjall_calls.proofs.Lists.{of_taken}
 use Rattle.fjall_consistency.specs.Alike.{AreAlike}
@@ -148,7 +148,7 @@ deleted_alike id false true same = absurd cc
 deleted_alike id false false same = tt
 
 -- a batch
-batch_alike : (s : State) (how : Persistence) (items : List BatchItem) → AllAlike (core.asked s (OfChange (Items items) how)) (one_write (map item_in items))
+batch_alike : (s : State) (how : Persistence) (items : List BatchItem) → AllAlike (core.commands_asked s (OfChange (Items items) how)) (one_write (map item_in items))
 batch_alike s how [] = tt
 batch_alike s how (item ∷ items) = (does_alike (write_of (item ∷ items)), tt)
 
@@ -158,13 +158,13 @@ ingested_items id [] = refl
 ingested_items id (item ∷ items) = ap (λ (l : List Item). record { id = id; key = item.0; value = value_in item.1 } ∷ l) (ingested_items id items)
 
 -- an ingestion
-ingestion_alike : (s : State) (id : ℕ) (items : List KeyOp) → AllAlike (core.asked s (OfIngestion id items)) (one_write (map (λ item. record { id = id; key = item.0; value = value_in item.1 }) items))
+ingestion_alike : (s : State) (id : ℕ) (items : List KeyOp) → AllAlike (core.commands_asked s (OfIngestion id items)) (one_write (map (λ item. record { id = id; key = item.0; value = value_in item.1 }) items))
 ingestion_alike s id [] = tt
 ingestion_alike s id (item ∷ items) =
     (subst (λ (l : List Item). DoAlike (write_of (batch_items id (item ∷ items))) (Write l)) (ingested_items id (item ∷ items)) (does_alike (write_of (batch_items id (item ∷ items)))), tt)
 
 -- of stores that are alike a call asks for commands that are
-asks_alike : (s : State) (k : Known) (before : List Reply) (c : Call) → AreAlike (present s) k.present → AllAlike (core.asked s (shape_of (resolved before c))) (asked k (Core c))
+asks_alike : (s : State) (k : Known) (before : List Reply) (c : Call) → AreAlike (present s) k.present → AllAlike (core.commands_asked s (shape_of (resolved before c))) (asked k (Core c))
 asks_alike s k before (calls.Keyspace name options) alike = made_alike name (option_pairs options) [] _ _ (ap (λ names. stores.has_name (record k.present { names = names }) name) alike.names)
 asks_alike s k before (calls.DeleteKeyspace id) alike = deleted_alike id _ _ (ap (λ names. is_living (record k.present { names = names }) id) alike.names)
 asks_alike s k before (calls.Retain id) alike = tt
@@ -215,7 +215,7 @@ asks_alike s k before calls.KeyspacesToFlush alike = tt
 -- the commands that a call is told to have taken effect
 abbrev done : State → CallShape → Reply → List Command
 done s shape (Refused error) = []
-done s shape reply = core.asked s shape
+done s shape reply = core.commands_asked s shape
 
 -- the store is that of the history
 stays : (s t : State) → times t ≡ times s → present t ≡ present s
@@ -239,16 +239,16 @@ single_present : (s t : State) (d e : Durable) (c : Call) (r : Reply) (tried : L
 single_present s t d e c r tried (mid, on, rest, step, passes, is, (none, end, same)) = ap present end ∙ step_present s mid (shape_of c) r step
 
 -- one that asks for nothing tries nothing, and leaves the store
-none_tried : (s : State) (shape : CallShape) (r : Reply) → core.asked s shape ≡ [] → attempt s shape r ≡ []
+none_tried : (s : State) (shape : CallShape) (r : Reply) → core.commands_asked s shape ≡ [] → attempt s shape r ≡ []
 none_tried s shape (Refused error) none = by (is_io error)
   where
-    by : (b : Bool) → (if b then core.asked s shape else []) ≡ []
+    by : (b : Bool) → (if b then core.commands_asked s shape else []) ≡ []
     by true = none
     by false = refl
 none_tried s shape r none = none
 
 -- nothing of it takes effect
-none_done : (s : State) (shape : CallShape) (r : Reply) → core.asked s shape ≡ [] → fold (present s) (done s shape r) ≡ present s
+none_done : (s : State) (shape : CallShape) (r : Reply) → core.commands_asked s shape ≡ [] → fold (present s) (done s shape r) ≡ present s
 none_done s shape (Refused error) none = refl
 none_done s shape r none = ap (fold (present s)) none
 
@@ -274,19 +274,19 @@ goes_by_none k call reply s t d e tried alike none nothing (is, end, same) = idl
 
 -- one that comes to a call of the core that asks for nothing
 goes_by_one : (k : Known) (call : TxCall) (reply : Reply) (s t : State) (d e : Durable) (c : Call) (r : Reply) (tried : List Command) → AreAlike (present s) k.present
-    → attempted k call reply ≡ [] → accepted k call reply ≡ [] → core.asked s (shape_of c) ≡ [] → SingleRun s d c r tried t e → Goes k call reply t tried
+    → attempted k call reply ≡ [] → accepted k call reply ≡ [] → core.commands_asked s (shape_of c) ≡ [] → SingleRun s d c r tried t e → Goes k call reply t tried
 goes_by_one k call reply s t d e c r tried alike none nothing quiet ran =
     idle k call reply s t tried alike none nothing (single_tried s t d e c r tried ran ∙ none_tried s (shape_of c) r quiet)
     (single_present s t d e c r tried ran ∙ none_done s (shape_of c) r quiet)
 
 -- what a call of the core tried is alike what the list attempted, where what it asks for is
-core_tries : (s : State) (k : Known) (shape : CallShape) (c : Call) (r : Reply) → AllAlike (core.asked s shape) (asked k (Core c)) → AllAlike (attempt s shape r) (attempted k (Core c) r)
+core_tries : (s : State) (k : Known) (shape : CallShape) (c : Call) (r : Reply) → AllAlike (core.commands_asked s shape) (asked k (Core c)) → AllAlike (attempt s shape r) (attempted k (Core c) r)
 core_tries s k shape c (Refused (Io kind)) asks = asks
 core_tries s k shape c (Refused error) asks = tt
 core_tries s k shape c r asks = asks
 
 -- and so is what took effect
-core_does : (s : State) (k : Known) (shape : CallShape) (c : Call) (r : Reply) → AllAlike (core.asked s shape) (asked k (Core c)) → AllAlike (done s shape r) (accepted k (Core c) r)
+core_does : (s : State) (k : Known) (shape : CallShape) (c : Call) (r : Reply) → AllAlike (core.commands_asked s shape) (asked k (Core c)) → AllAlike (done s shape r) (accepted k (Core c) r)
 core_does s k shape c (Refused error) asks = tt
 core_does s k shape c r asks = asks
 
@@ -327,7 +327,7 @@ within_nothing k name c (Refused error) = refl
 within_nothing k name c r = refl
 
 -- what a transaction's query of the core asks for
-query_quiet : (s : State) (tx : Tx) (id : ℕ) (query : Query) → core.asked s (shape_of (call_for tx id query)) ≡ []
+query_quiet : (s : State) (tx : Tx) (id : ℕ) (query : Query) → core.commands_asked s (shape_of (call_for tx id query)) ≡ []
 query_quiet s tx id (Get key) = refl
 query_quiet s tx id (Page range back max) = refl
 
@@ -352,10 +352,10 @@ named_place : (place name : ℕ) (more : Bool) → ((place == name) && more) ≡
 named_place place name more is = grind (arith, nat_tests)
 
 -- one that is taken out by its name is
-named_so : (w : World) (before : List Reply) (k : Known) (name : ℕ) (kind : Kind) (g : Going) (others : List Going) → IsKnown w before k → Takes (has_name w name (Some kind)) w.going (Some g) others
+named_so : (w : World) (before : List Reply) (k : Known) (name : ℕ) (kind : Kind) (g : Going) (others : List Going) → IsKnown w before k → Takes (is_transaction_named w name (Some kind)) w.going (Some g) others
     → IsNamed k name (tx_of g)
 named_so w before k name kind g others known takes =
-    let going = of_taken (IsGoing w before k) (has_name w name (Some kind)) w.going others g takes known.going in
+    let going = of_taken (IsGoing w before k) (is_transaction_named w name (Some kind)) w.going others g takes known.going in
     let place = named_place g.named.place name _ takes.0 in
     record {
       known = going.tx;
@@ -369,10 +369,10 @@ no_items_in_none : items_of empty ≡ []
 no_items_in_none = ap (map item_of) (no_entries (entries (empty {X = Op} {R = key_order})) (sym (len-entries (empty {X = Op} {R = key_order})) ∙ len-empty key_order Op))
 
 -- own writes are one command, where there are some, alike that of the items
-own_asks : (s : State) (how : Persistence) (own : Own) (items : List Item) → IsOwn own items → AllAlike (core.asked s (OfChange (Items (items_of own)) how)) (one_write items)
+own_asks : (s : State) (how : Persistence) (own : Own) (items : List Item) → IsOwn own items → AllAlike (core.commands_asked s (OfChange (Items (items_of own)) how)) (one_write items)
 own_asks s how own items is = by (items_of own) items refl refl
   where
-    by : (xs : List BatchItem) (ys : List Item) → items_of own ≡ xs → items ≡ ys → AllAlike (core.asked s (OfChange (Items xs) how)) (one_write ys)
+    by : (xs : List BatchItem) (ys : List Item) → items_of own ≡ xs → items ≡ ys → AllAlike (core.commands_asked s (OfChange (Items xs) how)) (one_write ys)
     by [] [] e f = tt
     by [] (y ∷ ys) e f = absurd (some_items own (λ none. let no = is.none none in absurd cc) e)
     by (x ∷ xs) [] e f = let no : items_of own ≡ [] = ap items_of (is.no_items f) ∙ no_items_in_none in absurd cc
@@ -385,13 +385,13 @@ commit_asks k kind name tx is = ap (λ (o : Option Transaction). one_write (flat
 
 -- and its batch for one that is alike
 batch_asks : (k : Known) (kind : Kind) (name : ℕ) (tx : Tx) (s : State) (items : List BatchItem) → IsNamed k name tx → items ≡ items_of tx.own
-    → AllAlike (core.asked s (OfChange (Items items) (ByMode tx.mode))) (asked k (Commit kind name))
+    → AllAlike (core.commands_asked s (OfChange (Items items) (ByMode tx.mode))) (asked k (Commit kind name))
 batch_asks k kind name tx s items is are =
-    subst (AllAlike (core.asked s (OfChange (Items items) (ByMode tx.mode)))) (sym (commit_asks k kind name is.known is.is))
-    (subst (λ (l : List BatchItem). AllAlike (core.asked s (OfChange (Items l) (ByMode tx.mode))) (one_write is.known.own)) (sym are) (own_asks s (ByMode tx.mode) tx.own is.known.own is.own))
+    subst (AllAlike (core.commands_asked s (OfChange (Items items) (ByMode tx.mode)))) (sym (commit_asks k kind name is.known is.is))
+    (subst (λ (l : List BatchItem). AllAlike (core.commands_asked s (OfChange (Items l) (ByMode tx.mode))) (one_write is.known.own)) (sym are) (own_asks s (ByMode tx.mode) tx.own is.known.own is.own))
 
 -- one that is refused attempted it all the same, where a fault refused it
-refused_commit : (k : Known) (kind : Kind) (name : ℕ) (s : State) (shape : CallShape) (error : Error) → AllAlike (core.asked s shape) (asked k (Commit kind name))
+refused_commit : (k : Known) (kind : Kind) (name : ℕ) (s : State) (shape : CallShape) (error : Error) → AllAlike (core.commands_asked s shape) (asked k (Commit kind name))
     → AllAlike (attempt s shape (Refused error)) (attempted k (Commit kind name) (Refused error))
 refused_commit k kind name s shape (Io fault) asks = asks
 refused_commit k kind name s shape error asks = tt
@@ -431,7 +431,7 @@ ended_goes k kind name tx outcome made told s t d e tried alike is (Succeeds ite
     record {
       tries = subst (λ (l : List Command). AllAlike l (asked k (Commit kind name))) (sym (closing_tried s t d e c Done tx.ticket tried ran)) asks;
       alike = subst (λ (x : Store). AreAlike x (fold k.present (asked k (Commit kind name)))) (sym (closing_present s t d e c Done tx.ticket tried ran))
-          (fold_alike (core.asked s (shape_of c)) (asked k (Commit kind name)) (present s) k.present asks alike);
+          (fold_alike (core.commands_asked s (shape_of c)) (asked k (Commit kind name)) (present s) k.present asks alike);
     }
 
 -- ---- each call

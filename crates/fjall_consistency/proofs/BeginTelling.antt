@@ -33,13 +33,13 @@ use Rattle.fjall_calls.specs.declared.call.TxCall.{TxCall}
 use Rattle.fjall_calls.specs.declared.call.TxCall.TheVariants.{Begin, Commit, Core, Rollback, Within}
 use Rattle.fjall_calls.specs.Hearing.{tx_of}
 use Rattle.fjall_calls.specs.Names.{is_of_kind}
-use Rattle.fjall_calls.specs.Steps.{IsBegun, OfCore, first_marks, has_name, is_one_open, is_written, may_begin, name_in, with_begun}
+use Rattle.fjall_calls.specs.Steps.{IsBegun, OfCore, first_marks, is_transaction_named, is_one_open, is_written, may_begin, transaction_named, with_begun}
 use Rattle.fjall_calls.specs.Worlds.{Going, World, along}
 use Rattle.fjall_calls.proofs.Following.{told_number, told_view}
 use Rattle.fjall_calls.proofs.KeptWorlds.{IsKept, IsKnown as IsKnownTo, kept_step, open_at, same_ticket}
 use Rattle.fjall_calls.proofs.Lists.{stands_last}
-use Rattle.fjall_calls.specs.Standing.{Told, history_of}
-use Rattle.fjall_calls.specs.Transactions.{Tx, begun, no_marks}
+use Rattle.fjall_calls.specs.Standing.{CoreState, history_of}
+use Rattle.fjall_calls.specs.Transactions.{Tx, transaction_begun, no_marks}
 use Rattle.fjall_consistency.specs.Alike.{AreAlike}
 use Rattle.fjall_consistency.specs.Consistency.{HasCause, IsWriting, Known, NamesNone, Transaction, after as known_after, attempted, is_fault, named}
 use Rattle.fjall_consistency.proofs.Going.{IsOfKind, IsSame, new_transaction, same_begun}
@@ -57,7 +57,7 @@ failed_on false fault (inl is) = absurd (true≢false (sym is))
 failed_on false fault (inr is) = is
 
 -- where nothing is told anew, all are as they were
-same_here : (t : Told) → SameOn t t []
+same_here : (t : CoreState) → SameOn t t []
 same_here t instant own marks mode tx is = subst (λ (since : List (ℕ × Bytes)). IsSame (history_of t) instant own marks mode (record tx { since = since })) (sym (append-nil tx.since)) is
 
 module _ (w v : World) (before : List Reply) (k after : Known) (reply : Reply) (more : Option Transaction) (known : IsKnown w before k) (turns : Turns w.told v.told None) (same : SameOn w.told v.told [])
@@ -127,7 +127,7 @@ unchanged k fault = record {
 }
 
 -- it stands beside the world after it
-unchanged_known : (w : World) (new : Told) (before : List Reply) (k : Known) (reply : Reply) (fault : Bool) → IsKnown w before k → Turns w.told new None → SameOn w.told new [] → id_opened (Some reply) ≡ no_id
+unchanged_known : (w : World) (new : CoreState) (before : List Reply) (k : Known) (reply : Reply) (fault : Bool) → IsKnown w before k → Turns w.told new None → SameOn w.told new [] → id_opened (Some reply) ≡ no_id
     → IsKept (record w { told = new }) → present new.state ≡ present w.told.state → new.state.damaged ≡ w.told.state.damaged → (new.state.poisoned ≡ true → (w.told.state.poisoned ≡ true) ⊎ (fault ≡ true))
     → (w.told.state.poisoned ≡ true → new.state.poisoned ≡ true) → IsKnown (record w { told = new }) (before ++ reply ∷ []) (unchanged k fault)
 unchanged_known w new before k reply fault known turns same none kept still undamaged well poisoned_still =
@@ -262,7 +262,7 @@ had_or_last (y ∷ xs) x (suc place) = had_or_last xs x place
 module _ (w : World) (before : List Reply) (k : Known) (kind : Kind) (ticket : Ticket) (s : State) (known : IsKnown w before k) (free : may_begin w kind ≡ true) (step : Step w.told.state Snapshot (Opened ticket) s) where
   -- the one that begins, the world afterwards, and what is known then
   abbrev new : Going
-  new = record { named = record { place = length before; transaction = begun (first_marks kind) ticket }; heard = [] }
+  new = record { named = record { place = length before; transaction = transaction_begun (first_marks kind) ticket }; heard = [] }
 
   abbrev v : World
   v = with_begun (along w s) kind (length before) ticket
@@ -415,7 +415,7 @@ found_so Single tx is = by tx.marks is
     by (Some marks) is = absurd is
 
 -- one that is known by this name is open, and has the name where it is of the kind
-never_named : (w : World) (before : List Reply) (k : Known) (name : ℕ) (kind : Option Kind) (tx : Transaction) → IsKnown w before k → All (λ g. has_name w name kind g ≡ false) w.going
+never_named : (w : World) (before : List Reply) (k : Known) (name : ℕ) (kind : Option Kind) (tx : Transaction) → IsKnown w before k → All (λ g. is_transaction_named w name kind g ≡ false) w.going
     → ((g : Tx) → IsOfKind tx.kind g.marks → is_of_kind kind g ≡ true) → named k name ≡ Some tx → ⊥
 never_named w before k name kind tx known none of_kind at =
     let found = known.found name tx at in
@@ -423,14 +423,14 @@ never_named w before k name kind tx known none of_kind at =
     let is = All-contains (IsGoing w before k) w.going g known.going found.1 in
     let same_tx : is.tx ≡ tx = same_Some is.tx tx (ap (λ (o : Option (Option Transaction)). unwrap_or o None) (sym is.at) ∙ ap (named k) found.2 ∙ at) in
     let here : (g.named.place == name) ≡ true = eq-eqb g.named.place name found.2 in
-    let has : has_name w name kind g ≡ true =
+    let has : is_transaction_named w name kind g ≡ true =
     and_from (g.named.place == name) (is_of_kind kind (tx_of g) && is_open w.told.state.tickets (tx_of g).ticket.id) here
     (and_from (is_of_kind kind (tx_of g)) (is_open w.told.state.tickets (tx_of g).ticket.id)
     (of_kind (tx_of g) (subst (λ (t : Transaction). IsOfKind t.kind (tx_of g).marks) same_tx is.same.kind)) (ap is_some is.there)) in
-    true≢false (sym has ∙ All-contains (λ h. has_name w name kind h ≡ false) w.going g none found.1)
+    true≢false (sym has ∙ All-contains (λ h. is_transaction_named w name kind h ≡ false) w.going g none found.1)
 
 -- so none is named
-no_name : (w : World) (before : List Reply) (k : Known) (name : ℕ) → IsKnown w before k → All (λ g. has_name w name None g ≡ false) w.going → named k name ≡ None
+no_name : (w : World) (before : List Reply) (k : Known) (name : ℕ) → IsKnown w before k → All (λ g. is_transaction_named w name None g ≡ false) w.going → named k name ≡ None
 no_name w before k name known none = by (named k name) refl
   where
     by : (o : Option Transaction) → named k name ≡ o → named k name ≡ None
@@ -438,34 +438,34 @@ no_name w before k name known none = by (named k name) refl
     by (Some tx) e = absurd (never_named w before k name None tx known none (λ g is. refl) e)
 
 -- nor one of the kind
-no_kind : (w : World) (before : List Reply) (k : Known) (name : ℕ) (kind : Kind) → IsKnown w before k → All (λ g. has_name w name (Some kind) g ≡ false) w.going
+no_kind : (w : World) (before : List Reply) (k : Known) (name : ℕ) (kind : Kind) → IsKnown w before k → All (λ g. is_transaction_named w name (Some kind) g ≡ false) w.going
     → (tx : Transaction) → named k name ≡ Some tx → tx.kind ≢ kind
 no_kind w before k name kind known none tx at same =
     never_named w before k name (Some kind) tx known none (λ g is. found_so kind g (subst (λ (x : Kind). IsOfKind x g.marks) same is)) at
 
 -- a call that names a transaction names none that is open
-names_none : (w : World) (before : List Reply) (k : Known) (call : TxCall) (name : ℕ) (kind : Option Kind) → IsKnown w before k → name_in call ≡ Some (name, kind) → All (λ g. has_name w name kind g ≡ false) w.going
+names_none : (w : World) (before : List Reply) (k : Known) (call : TxCall) (name : ℕ) (kind : Option Kind) → IsKnown w before k → transaction_named call ≡ Some (name, kind) → All (λ g. is_transaction_named w name kind g ≡ false) w.going
     → NamesNone k call
 names_none w before k (Within n c) name kind known is none =
     let same = some_pair_parts n name None kind is in
-    no_name w before k n known (λ i d lt. (λ j. has_name w (same.0 j) (same.1 j) (get_or w.going i d)) ∙ none i d lt)
+    no_name w before k n known (λ i d lt. (λ j. is_transaction_named w (same.0 j) (same.1 j) (get_or w.going i d)) ∙ none i d lt)
 names_none w before k (Commit x n) name kind known is none =
     let same = some_pair_parts n name (Some x) kind is in
-    no_kind w before k n x known (λ i d lt. (λ j. has_name w (same.0 j) (same.1 j) (get_or w.going i d)) ∙ none i d lt)
+    no_kind w before k n x known (λ i d lt. (λ j. is_transaction_named w (same.0 j) (same.1 j) (get_or w.going i d)) ∙ none i d lt)
 names_none w before k (Rollback n) name kind known is none =
     let same = some_pair_parts n name None kind is in
-    no_name w before k n known (λ i d lt. (λ j. has_name w (same.0 j) (same.1 j) (get_or w.going i d)) ∙ none i d lt)
+    no_name w before k n known (λ i d lt. (λ j. is_transaction_named w (same.0 j) (same.1 j) (get_or w.going i d)) ∙ none i d lt)
 names_none w before k call name kind known is none = absurd (none-some (name, kind) is)
 
 -- and leaves what is known
-unknown_after : (k : Known) (call : TxCall) (name : ℕ) (kind : Option Kind) → name_in call ≡ Some (name, kind) → unchanged k false ≡ known_after k call (Refused SnapshotClosed)
+unknown_after : (k : Known) (call : TxCall) (name : ℕ) (kind : Option Kind) → transaction_named call ≡ Some (name, kind) → unchanged k false ≡ known_after k call (Refused SnapshotClosed)
 unknown_after k (Within n c) name kind is = refl
 unknown_after k (Commit Optimistic n) name kind is = refl
 unknown_after k (Commit Single n) name kind is = refl
 unknown_after k (Rollback n) name kind is = refl
 unknown_after k call name kind is = absurd (none-some (name, kind) is)
 
-pub unknown_tells : (w : World) (before : List Reply) (k : Known) (call : TxCall) (name : ℕ) (kind : Option Kind) → IsKnown w before k → name_in call ≡ Some (name, kind) → All (λ g. has_name w name kind g ≡ false) w.going
+pub unknown_tells : (w : World) (before : List Reply) (k : Known) (call : TxCall) (name : ℕ) (kind : Option Kind) → IsKnown w before k → transaction_named call ≡ Some (name, kind) → All (λ g. is_transaction_named w name kind g ≡ false) w.going
     → Tells w before k call (Refused SnapshotClosed)
 unknown_tells w before k call name kind known is none = record {
   answer = (names_none w before k call name kind known is none, λ broken. refl);

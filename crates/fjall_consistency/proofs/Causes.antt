@@ -4,6 +4,7 @@ use Rattle.std.proofs.lemmas.Bool.{true≢false, and_cases, and_from, and_parts,
 use Rattle.std.proofs.lemmas.List.{get_or-map, length-map}
 use Rattle.std.proofs.lemmas.List.Elements.{All-cons, All-map, All-nil}
 use Rattle.std.proofs.lemmas.List.Folds.{Any-from_list_any}
+use Rattle.std.proofs.lemmas.List.Kept.{AllPairs-cons}
 use Rattle.std.proofs.lemmas.Option.{none-some}
 use Rattle.std.specs.Prelude.{IsSomeAnd}
 use Rattle.std.specs.FinMap.{contains_key}
@@ -18,7 +19,7 @@ use Rattle.fjall_journal.specs.Changes.{Change, Items}
 use Rattle.fjall_journal.specs.declared.op.Op.{Op}
 use Rattle.fjall_journal.specs.Ops.{BatchItem, bytes_in, item_in, value_in}
 use Rattle.fjall_journal.specs.declared.op.Op.TheVariants.{Put, Remove, RemoveWeak}
-use Rattle.fjall_writes.specs.Ingestions.{KeyOp}
+use Rattle.fjall_reading.specs.Ingestions.{KeyOp}
 use Rattle.fjall_meta.specs.Keyspaces.{is_name}
 use Rattle.fjall_history.specs.Queries.{Query}
 use Rattle.fjall_history.specs.Tickets.{Tickets, ids_used_up, is_open, opening_refusal}
@@ -32,11 +33,12 @@ use Rattle.fjall_machine.specs.Places.{id_opened, resolved, view_at}
 use Rattle.fjall_machine.specs.Shapes.{AsKeyspace, ByMode, CallShape, OfChange, OfFlushFinish, OfIngestion, OfMergeBegin, OfMergeFinish, OfRead, OneLess, OneMore, Persistence, shape_of}
 use Rattle.fjall_machine.specs.Machine.{FinishesLate, MayFail, ReadsDamaged, Refuses, State, Step, StepOf, TooLong, clear_refusals, creation_refusals, deletion_refusals, do_ascend, due, facts, first_due, handle_refusals, ingestion_refusals, is_among, is_deleted, is_unknown, items_refusals, journal_refusals, present, read_refusals, rotation_refusals, view_refusals}
 use Rattle.fjall_machine.specs.Machine as machine
+use Rattle.fjall_machine.proofs.Ascending.{may_ingest}
 use Rattle.fjall_machine.proofs.Dues.{is_so, none_due}
 use Rattle.fjall_calls.specs.declared.call.TxCall.{TxCall}
 use Rattle.fjall_calls.specs.declared.call.TxCall.TheVariants.{Core}
 use Rattle.fjall_consistency.specs.Alike.{AreAlike}
-use Rattle.fjall_consistency.specs.Consistency.{AreLawful, ChangesKeyspaces, HasCause, IsMade, Known, MayBegin, NamesNone, ids_in, is_living, items_in, shown}
+use Rattle.fjall_consistency.specs.Consistency.{AreLawful, ChangesKeyspaces, HasCause, IsMade, Known, IsAllowed, NamesNone, ids_in, is_living, items_in, shown}
 
 -- What is known of the state where a call is refused.
 pub record Knows (s : State) (before : List Reply) (k : Known) : Type 0 where
@@ -66,7 +68,7 @@ refused P s t shape error None caused may fails = may refl fails
 
 -- what may go wrong is a fault of the disk where the call may begin, no damage, or a setting that is too long, or the engine was poisoned, or something runs out
 failing : (s t : State) (k : Known) (call : TxCall) (shape : CallShape) (error : Error)
-    → MayBegin k call → (ReadsDamaged s shape → ⊥) → (TooLong (present s) shape → ChangesKeyspaces call) → (FinishesLate s shape → k.failed ≡ true) → MayFail shape error s t → HasCause k call error
+    → IsAllowed k call → (ReadsDamaged s shape → ⊥) → (TooLong (present s) shape → ChangesKeyspaces call) → (FinishesLate s shape → k.failed ≡ true) → MayFail shape error s t → HasCause k call error
 failing s t k call shape (Io kind) begins whole long late fails = begins
 failing s t k call shape OutOfMemory begins whole long late fails = tt
 failing s t k call shape (Storage told) begins whole long late (is, damaged, same) = absurd (whole damaged)
@@ -286,7 +288,7 @@ change_due s k call (first ∷ rest) how error alike well within named is =
     is
 
 -- and where none is due, memory or the disk may fail
-change_fails : (s t : State) (k : Known) (call : TxCall) (change : Change) (how : Persistence) (error : Error) → MayBegin k call → MayFail (OfChange change how) error s t → HasCause k call error
+change_fails : (s t : State) (k : Known) (call : TxCall) (change : Change) (how : Persistence) (error : Error) → IsAllowed k call → MayFail (OfChange change how) error s t → HasCause k call error
 change_fails s t k call change how error begins fails = failing s t k call (OfChange change how) error begins (λ none. none) (λ none. absurd none) (λ none. absurd none) fails
 
 -- a change of these items by some call is refused for a cause: each of them is among those of the call
@@ -294,7 +296,7 @@ pub items_cause : (s t : State) (k : Known) (call : TxCall) (items : List BatchI
     → AreAlike (present s) k.present → (s.poisoned ≡ true → k.failed ≡ true)
     → ((item : BatchItem) → Contains items item → Contains (items_in k call) (item_in item))
     → ((item : BatchItem) → Contains items item → Contains (ids_in k call) item.0)
-    → (AreLawful k.present (map item_in items) → MayBegin k call)
+    → (AreLawful k.present (map item_in items) → IsAllowed k call)
     → StepOf s (OfChange (Items items) how) (Refused error) t → HasCause k call error
 items_cause s t k call items how error alike well within named begins refuses =
     refused (HasCause k call) s t (OfChange (Items items) how) error (due s (OfChange (Items items) how))
@@ -370,7 +372,7 @@ never_shut s (At ticket) stands shut = true≢false (sym stands ∙ shut)
 
 -- a read of a keyspace by some call, within an open view, is refused for a cause
 pub read_cause : (s t : State) (k : Known) (call : TxCall) (view : View) (id : ℕ) (query : Query) (error : Error)
-    → AreAlike (present s) k.present → s.damaged ≡ [] → IsOpenView s view → Contains (ids_in k call) id → MayBegin k call
+    → AreAlike (present s) k.present → s.damaged ≡ [] → IsOpenView s view → Contains (ids_in k call) id → IsAllowed k call
     → StepOf s (OfRead view id query) (Refused error) t → HasCause k call error
 read_cause s t k call view id query error alike undamaged stands named begins refuses =
     refused (HasCause k call) s t (OfRead view id query) error (due s (OfRead view id query))
@@ -460,21 +462,37 @@ core_due s before k (core.CloseSnapshot ticket) error knows is =
 core_due s before k (core.Persist mode) error knows is = first_caused (HasCause k (Core (core.Persist mode))) ((s.poisoned, Poisoned) ∷ []) error (knows.well, tt) is
 core_due s before k c error knows is = absurd (none-some _ is)
 
--- where nothing is due for a call of the core, it may begin
-pub may_begin : (s : State) (before : List Reply) (k : Known) (c : Call) → AreAlike (present s) k.present → due s (shape_of (resolved before c)) ≡ None → MayBegin k (Core c)
-may_begin s before k (core.Keyspace name options) alike none = is_named name (none_due (creation_refusals (facts s) name) none).0
-may_begin s before k (core.Insert id key value) alike none = change_lawful s k.present ((id, key, Put value) ∷ []) (AsKeyspace id) alike none
-may_begin s before k (core.Remove id key) alike none = change_lawful s k.present ((id, key, Remove) ∷ []) (AsKeyspace id) alike none
-may_begin s before k (core.RemoveWeak id key) alike none = change_lawful s k.present ((id, key, RemoveWeak) ∷ []) (AsKeyspace id) alike none
-may_begin s before k (core.CommitBatch items mode) alike none = change_lawful s k.present items.items (ByMode mode) alike none
-may_begin s before k (core.Ingest id items) alike none = ingestion_lawful s k.present id items.items alike none
-may_begin s before k c alike none = All-nil (IsLawful k.present)
+-- ---- what is allowed
+
+-- what holds of each two elements in order holds of what comes of them
+pairs_map : {X Y : Type 0} (f : X → Y) (R : Y → Y → Type 0) (xs : List X) → AllPairs (λ a b. R (f a) (f b)) xs → AllPairs R (map f xs)
+pairs_map f R [] all = λ i j d below within. absurd (omega (arith, within))
+pairs_map f R (x ∷ xs) all =
+    AllPairs-cons R (f x) (map f xs) (All-map (R (f x)) f xs (λ i d within. all 0 (suc i) d (omega arith) (omega (arith, within))))
+    (pairs_map f R xs (λ i j d below within. all (suc i) (suc j) d (omega (arith, below)) (omega (arith, within))))
+
+-- so it is of the items of an ingestion that nothing refuses
+ingestion_ascends : (s : State) (id : ℕ) (items : List KeyOp) → due s (OfIngestion id items) ≡ None → AllPairs (λ a b. byte_order a.key b.key ≡ Less) (map (ingested_in id) items)
+ingestion_ascends s id [] none = λ i j d below within. absurd (omega (arith, within))
+ingestion_ascends s id (item ∷ items) none =
+    pairs_map (ingested_in id) (λ a b. byte_order a.key b.key ≡ Less) (item ∷ items) (may_ingest (facts s) id (item ∷ items) none).ascend
+
+-- where nothing is due for a call of the core, it is allowed
+pub allowed : (s : State) (before : List Reply) (k : Known) (c : Call) → AreAlike (present s) k.present → due s (shape_of (resolved before c)) ≡ None → IsAllowed k (Core c)
+allowed s before k (core.Keyspace name options) alike none = is_named name (none_due (creation_refusals (facts s) name) none).0
+allowed s before k (core.Insert id key value) alike none = change_lawful s k.present ((id, key, Put value) ∷ []) (AsKeyspace id) alike none
+allowed s before k (core.Remove id key) alike none = change_lawful s k.present ((id, key, Remove) ∷ []) (AsKeyspace id) alike none
+allowed s before k (core.RemoveWeak id key) alike none = change_lawful s k.present ((id, key, RemoveWeak) ∷ []) (AsKeyspace id) alike none
+allowed s before k (core.CommitBatch items mode) alike none = change_lawful s k.present items.items (ByMode mode) alike none
+allowed s before k (core.Clear id) alike none = lives_there (present s) k.present id alike (none_due (clear_refusals (facts s) id) none).1.0
+allowed s before k (core.Ingest id items) alike none = (ingestion_lawful s k.present id items.items alike none, ingestion_ascends s id items.items none)
+allowed s before k c alike none = All-nil (IsLawful k.present)
 
 -- a call of the core is refused for a cause
 pub core_cause : (s t : State) (before : List Reply) (k : Known) (c : Call) (error : Error) → Knows s before k → Step s (resolved before c) (Refused error) t → HasCause k (Core c) error
 core_cause s t before k c error knows refuses =
     let shape : CallShape = shape_of (resolved before c) in
     refused (HasCause k (Core c)) s t shape error (due s shape) (λ e is. core_due s before k c e knows is)
-    (λ none. failing s t k (Core c) shape error (may_begin s before k c knows.alike none) (reads_whole s shape knows.undamaged) (changes_keyspaces (present s) before c)
+    (λ none. failing s t k (Core c) shape error (allowed s before k c knows.alike none) (reads_whole s shape knows.undamaged) (changes_keyspaces (present s) before c)
     (λ late. knows.well (finishes_late s shape late)))
     refuses

@@ -1,5 +1,5 @@
 -- What a call of the core is told in a list, and what is known after it.
-use Rattle.std.proofs.Common.{◌≡◌, ◌≢◌, ◌⊎◌, inl, inr, ⊎_elim, ℕ, zero, suc, ◌+◌, ◌<◌, ◌≤◌, ◌==◌, nat_le, ◌||◌, All, AllPairs, Bool, true, false, cond, if◌then◌else◌, List, [], ◌∷◌, ◌++◌, length, map, Less, Option, None, Some, unwrap_or, is_some, refl, sym, ap, subst, ◌∙◌, arith, length-append, length-set}
+use Rattle.std.proofs.Common.{◌≡◌, ◌≢◌, ◌⊎◌, inl, inr, ⊎_elim, ℕ, zero, suc, ◌+◌, ◌<◌, ◌≤◌, ◌==◌, nat_le, ◌||◌, All, Bool, true, false, cond, if◌then◌else◌, List, [], ◌∷◌, ◌++◌, length, map, Option, None, Some, unwrap_or, is_some, refl, sym, ap, subst, ◌∙◌, arith, length-append, length-set}
 use Rattle.std.specs.Prelude.{nat_lt, slice_get, slice_set, option_map}
 use Rattle.std.specs.FinMap.{FinMap, contains_key, get, insert, values}
 use Rattle.std.specs.List.{list_any}
@@ -9,18 +9,17 @@ use Rattle.std.proofs.lemmas.Bool.{true≢false, ltb-true, or_cases}
 use Rattle.std.proofs.lemmas.Bool.Decides.{nat_tests}
 use Rattle.std.proofs.lemmas.List.{length-map}
 use Rattle.std.proofs.lemmas.List.Elements.{All-cons, All-map, All-nil, All-weaker}
-use Rattle.std.proofs.lemmas.List.Kept.{AllPairs-cons}
 use Rattle.std.proofs.lemmas.Option.{none-some}
-use Rattle.fjall_base.specs.Pairs.{Bytes, Pairs, byte_order}
+use Rattle.fjall_base.specs.Pairs.{Bytes, Pairs}
 use Rattle.fjall_base.specs.Store.{Command, Create, Delete, Item, Options, Store, Write, fold, map_at}
 use Rattle.fjall_base.specs.declared.error.Error.{Error}
 use Rattle.fjall_base.specs.declared.error.Error.TheVariants.{Io, SnapshotClosed}
 use Rattle.fjall_journal.specs.Changes.{Items}
 use Rattle.fjall_journal.specs.Ops.{BatchItem, item_in}
 use Rattle.fjall_compaction.specs.Ingests.{batch_items}
-use Rattle.fjall_writes.specs.Ingestions.{KeyOp}
-use Rattle.fjall_contents.specs.Replays.{option_pairs}
-use Rattle.fjall_contents.proofs.Slots.{get_put}
+use Rattle.fjall_reading.specs.Ingestions.{KeyOp}
+use Rattle.fjall_meta.specs.Replays.{option_pairs}
+use Rattle.fjall_meta.proofs.Slots.{get_put}
 use Rattle.fjall_history.specs.declared.reply.Reply.{Reply}
 use Rattle.fjall_history.specs.declared.reply.Reply.TheVariants.{Done, Flag, Opened, Refused}
 use Rattle.fjall_history.specs.declared.ticket.Ticket.{Ticket}
@@ -34,7 +33,6 @@ use Rattle.fjall_history.proofs.Maps.{found_in}
 use Rattle.fjall_history.proofs.Views.{view_of_all}
 use Rattle.fjall_machine.specs.Machine.{Answers, CreatesOrFinds, State, Step, clear_refusals, deletion_refusals, due, facts, first_due, handle_refusals, instant_of, maps_in, present, rotation_refusals, times, view_refusals}
 use Rattle.fjall_machine.specs.Machine as machine
-use Rattle.fjall_machine.proofs.Ascending.{may_ingest}
 use Rattle.fjall_machine.proofs.Dues.{below, is_so, neither, none_due}
 use Rattle.fjall_machine.proofs.Viewing.{first_or, latest_grown, second_or}
 use Rattle.fjall_machine.specs.Places.{id_opened, resolved, view_at}
@@ -50,7 +48,7 @@ use Rattle.fjall_calls.proofs.KeptWorlds.{kept_step}
 use Rattle.fjall_consistency.specs.Alike.{AreAlike}
 use Rattle.fjall_consistency.specs.Consistency.{AreLawful, IsAnswer, IsMade, IsTold, Known, NamesThere, accepted, after, asked, attempted, has_name, is_fault, is_living, items_in, one_write, opens, shown, snapshots_after}
 use Rattle.fjall_consistency.proofs.Alike.{AllAlike, creates_alike, does_alike, fold_alike}
-use Rattle.fjall_consistency.proofs.Causes.{Knows, core_cause, ingested_in, lives_there, may_begin}
+use Rattle.fjall_consistency.proofs.Causes.{Knows, core_cause, ingested_in, lives_there, allowed}
 use Rattle.fjall_consistency.proofs.Known.{IsGoing, IsKnown, IsShown, Tells, no_id}
 use Rattle.fjall_consistency.proofs.Steps.{answered_present, fault_poisons, no_other, poisoned_faults, poisoned_refuses, refused_times, stays_poisoned, stays_well}
 use Rattle.fjall_consistency.proofs.Turning.{Turns, all_shown, along_same, closed_by, core_turns, going_on, named_after, never_open, none_shown, one_each_still, real_id}
@@ -78,7 +76,7 @@ deletion_alike id false true same = absurd (true≢false same)
 deletion_alike id false false same = tt
 
 -- a batch
-batch_alike : (s : State) (how : Persistence) (items : List BatchItem) → AllAlike (crashes.asked s (OfChange (Items items) how)) (one_write (map item_in items))
+batch_alike : (s : State) (how : Persistence) (items : List BatchItem) → AllAlike (crashes.commands_asked s (OfChange (Items items) how)) (one_write (map item_in items))
 batch_alike s how [] = tt
 batch_alike s how (item ∷ items) = all_themselves (Write (map item_in (item ∷ items)) ∷ [])
 
@@ -88,16 +86,16 @@ ingested_items id [] = refl
 ingested_items id (item ∷ items) = ap (λ (l : List Item). ingested_in id item ∷ l) (ingested_items id items)
 
 -- an ingestion
-ingestion_alike : (s : State) (id : ℕ) (items : List KeyOp) → AllAlike (crashes.asked s (OfIngestion id items)) (one_write (map (ingested_in id) items))
+ingestion_alike : (s : State) (id : ℕ) (items : List KeyOp) → AllAlike (crashes.commands_asked s (OfIngestion id items)) (one_write (map (ingested_in id) items))
 ingestion_alike s id [] = tt
 ingestion_alike s id (item ∷ items) =
     subst (λ (l : List Item). AllAlike (Write (map item_in (batch_items id (item ∷ items))) ∷ []) (Write l ∷ [])) (ingested_items id (item ∷ items))
     (all_themselves (Write (map item_in (batch_items id (item ∷ items))) ∷ []))
 
 -- of alike stores a call asks for alike commands
-asks_alike : (s : State) (before : List Reply) (k : Known) (c : Call) → AreAlike (present s) k.present → AllAlike (crashes.asked s (shape_of (resolved before c))) (asked k (Core c))
+asks_alike : (s : State) (before : List Reply) (k : Known) (c : Call) → AreAlike (present s) k.present → AllAlike (crashes.commands_asked s (shape_of (resolved before c))) (asked k (Core c))
 asks_alike s before k (core.Keyspace name options) alike =
-    creation_alike name (option_pairs options) (machine.has_name (present s) name) (has_name k.present name)
+    creation_alike name (option_pairs options) (machine.names_one (present s) name) (has_name k.present name)
     (ap (λ (names : FinMap nat_cmp Bytes). list_any (λ other. bytes_eq other name) (values names)) alike.names)
 asks_alike s before k (core.DeleteKeyspace id) alike =
     deletion_alike id (machine.is_living (present s) id) (is_living k.present id) (ap (λ (names : FinMap nat_cmp Bytes). contains_key names id) alike.names)
@@ -118,13 +116,13 @@ nothing_alike (c ∷ cs) ds alike none = absurd cc
 -- a poisoned engine refuses a call that asks for something
 none_asked : (s : State) (before : List Reply) (k : Known) (c : Call) → AreAlike (present s) k.present → s.poisoned ≡ true → due s (shape_of (resolved before c)) ≡ None → asked k (Core c) ≡ []
 none_asked s before k c alike poisoned none =
-    nothing_alike (crashes.asked s (shape_of (resolved before c))) (asked k (Core c)) (asks_alike s before k c alike) (poisoned_refuses s (shape_of (resolved before c)) poisoned none)
+    nothing_alike (crashes.commands_asked s (shape_of (resolved before c))) (asked k (Core c)) (asks_alike s before k c alike) (poisoned_refuses s (shape_of (resolved before c)) poisoned none)
 
 -- and none that asks for something meets a fault in it
 none_attempted : (s t : State) (before : List Reply) (k : Known) (c : Call) (error : Error) → AreAlike (present s) k.present → s.poisoned ≡ true → Step s (resolved before c) (Refused error) t
     → attempted k (Core c) (Refused error) ≡ []
 none_attempted s t before k c (Io kind) alike poisoned step =
-    nothing_alike (crashes.asked s (shape_of (resolved before c))) (asked k (Core c)) (asks_alike s before k c alike) (poisoned_faults s t (shape_of (resolved before c)) kind poisoned step)
+    nothing_alike (crashes.commands_asked s (shape_of (resolved before c))) (asked k (Core c)) (asks_alike s before k c alike) (poisoned_faults s t (shape_of (resolved before c)) kind poisoned step)
 none_attempted s t before k c error alike poisoned step = refl
 
 -- nothing is more than itself
@@ -136,7 +134,7 @@ breaks : (s t : State) (before : List Reply) (k : Known) (c : Call) (reply : Rep
     → nat_lt (length (accepted k (Core c) reply)) (length (attempted k (Core c) reply)) ≡ true → t.poisoned ≡ true
 breaks s t before k c (Refused (Io kind)) alike step more =
     fault_poisons s t (shape_of (resolved before c)) kind
-    (λ none. never_more 0 (ap (λ (cs : List Command). nat_lt 0 (length cs)) (sym (nothing_alike (crashes.asked s (shape_of (resolved before c))) (asked k (Core c)) (asks_alike s before k c alike) none)) ∙ more)) step
+    (λ none. never_more 0 (ap (λ (cs : List Command). nat_lt 0 (length cs)) (sym (nothing_alike (crashes.commands_asked s (shape_of (resolved before c))) (asked k (Core c)) (asks_alike s before k c alike) none)) ∙ more)) step
 breaks s t before k c reply alike step more = absurd (never_more (length (accepted k (Core c) reply)) more)
 
 -- ---- the store afterwards
@@ -146,7 +144,7 @@ answered_alike : (s t : State) (before : List Reply) (k : Known) (c : Call) (rep
     → AreAlike (present t) (fold k.present (asked k (Core c)))
 answered_alike s t before k c reply alike answers =
     subst (λ (st : Store). AreAlike st (fold k.present (asked k (Core c)))) (sym (answered_present s t (shape_of (resolved before c)) reply answers))
-    (fold_alike (crashes.asked s (shape_of (resolved before c))) (asked k (Core c)) (present s) k.present (asks_alike s before k c alike) alike)
+    (fold_alike (crashes.commands_asked s (shape_of (resolved before c))) (asked k (Core c)) (present s) k.present (asks_alike s before k c alike) alike)
 
 -- and so does each call
 stays_alike : (s t : State) (before : List Reply) (k : Known) (c : Call) (reply : Reply) → AreAlike (present s) k.present → Step s (resolved before c) reply t
@@ -204,21 +202,6 @@ name_there s t name options id (inr (fresh, is, made)) =
     ∙ ap (get (insert (present s).names (present s).next name)) is
     ∙ put_there (present s).names (present s).next name
 
--- ---- keys that ascend
-
--- what holds of each two elements in order holds of what comes of them
-pairs_map : {X Y : Type 0} (f : X → Y) (R : Y → Y → Type 0) (xs : List X) → AllPairs (λ a b. R (f a) (f b)) xs → AllPairs R (map f xs)
-pairs_map f R [] all = λ i j d below within. absurd (omega (arith, within))
-pairs_map f R (x ∷ xs) all =
-    AllPairs-cons R (f x) (map f xs) (All-map (R (f x)) f xs (λ i d within. all 0 (suc i) d (omega arith) (omega (arith, within))))
-    (pairs_map f R xs (λ i j d below within. all (suc i) (suc j) d (omega (arith, below)) (omega (arith, within))))
-
--- so it is of the items of an ingestion that nothing refuses
-ingestion_ascends : (s : State) (id : ℕ) (items : List KeyOp) → due s (OfIngestion id items) ≡ None → AllPairs (λ a b. byte_order a.key b.key ≡ Less) (map (ingested_in id) items)
-ingestion_ascends s id [] none = λ i j d below within. absurd (omega (arith, within))
-ingestion_ascends s id (item ∷ items) none =
-    pairs_map (ingested_in id) (λ a b. byte_order a.key b.key ≡ Less) (item ∷ items) (may_ingest (facts s) id (item ∷ items) none).ascend
-
 -- ---- the keyspaces that are named are there
 
 -- one that isn't unknown was made
@@ -259,7 +242,8 @@ names_there s before k (core.MajorBegin id) alike none = one_lives s k id alike 
 names_there s before k (core.GetAt v id key) alike none = read_made s k (view_at before v) id alike none
 names_there s before k (core.PageAt v id range back max) alike none = read_made s k (view_at before v) id alike none
 names_there s before k (core.Keyspace name options) alike none = All-nil (Lives k)
-names_there s before k c alike none = items_live k (items_in k (Core c)) (may_begin s before k c alike none)
+names_there s before k (core.Ingest id items) alike none = items_live k (items_in k (Core (core.Ingest id items))) (allowed s before k (core.Ingest id items) alike none).0
+names_there s before k c alike none = items_live k (items_in k (Core c)) (allowed s before k c alike none)
 
 -- ---- an answer
 
@@ -273,7 +257,7 @@ told s t before k (core.PageAt v id range back max) reply alike all none answers
     let is = view_shown s before k v id (Page range back max) alike all none in
     (is.0, is.1, subst (λ (pairs : Pairs). Answered (Page range back max) pairs reply) is.2 answers.0)
 told s t before k (core.Keyspace name options) reply alike all none answers =
-    let named = may_begin s before k (core.Keyspace name options) alike none in (
+    let named = allowed s before k (core.Keyspace name options) alike none in (
       answers.0,
       answers.1,
       named.0,
@@ -283,8 +267,7 @@ told s t before k (core.Keyspace name options) reply alike all none answers =
     )
 told s t before k (core.KeyspaceExists name) reply alike all none answers =
     answers.0 ∙ ap (λ (names : FinMap nat_cmp Bytes). Flag (list_any (λ other. bytes_eq other name) (values names))) (sym alike.names)
-told s t before k (core.Ingest id items) reply alike all none answers = (may_begin s before k (core.Ingest id items) alike none, ingestion_ascends s id items.items none)
-told s t before k c reply alike all none answers = may_begin s before k c alike none
+told s t before k c reply alike all none answers = allowed s before k c alike none
 
 -- what is known where a call is refused
 knows : (w : World) (before : List Reply) (k : Known) → IsKnown w before k → Knows w.told.state before k

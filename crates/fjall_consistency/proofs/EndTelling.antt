@@ -36,20 +36,20 @@ use Rattle.fjall_calls.specs.declared.call.Kind.TheVariants.{Optimistic, Single}
 use Rattle.fjall_calls.specs.declared.call.TxCall.TheVariants.{Commit, Rollback}
 use Rattle.fjall_calls.specs.Hearing.{tx_of}
 use Rattle.fjall_calls.specs.Names.{Takes, is_of_kind}
-use Rattle.fjall_calls.specs.Steps.{IsRolledBack, gone_with, has_name, reply_to}
+use Rattle.fjall_calls.specs.Steps.{IsRolledBack, gone_with, is_transaction_named, reply_to}
 use Rattle.fjall_calls.specs.Worlds.{Going, World, along}
 use Rattle.fjall_calls.proofs.Following.{GoesOn, counted_next}
 use Rattle.fjall_calls.proofs.KeptWorlds.{IsKept, found_kind, found_open, kept_ended, kept_step, open_at}
 use Rattle.fjall_calls.proofs.Lists.{of_others, of_taken}
-use Rattle.fjall_calls.specs.Crashes.{asked as core_asked, is_io}
+use Rattle.fjall_calls.specs.Crashes.{commands_asked as core_asked, is_io}
 use Rattle.fjall_calls.specs.Commits.{change_of}
-use Rattle.fjall_calls.specs.Standing.{CommitStep, Told, accepted_of, history_of}
+use Rattle.fjall_calls.specs.Standing.{CommitStep, CoreState, accepted_of, history_of}
 use Rattle.fjall_calls.specs.Standing as standing
-use Rattle.fjall_calls.specs.Transactions.{MeetsSome, Tx, with_items}
+use Rattle.fjall_calls.specs.Transactions.{MeetsSome, Tx, marks_of_items}
 use Rattle.fjall_calls.proofs.Items.{some_items}
 use Rattle.fjall_consistency.specs.Alike.{AreAlike}
 use Rattle.fjall_consistency.proofs.Lawful.{change_lawful, own_lawful}
-use Rattle.fjall_consistency.specs.Consistency.{AreLawful, HasCause, IsAnswer, IsMet, Known, MayBegin, Transaction, after, attempted, commits as commits_of, is_fault, items_in, named, one_write, transactions_after}
+use Rattle.fjall_consistency.specs.Consistency.{AreLawful, HasCause, IsAnswer, IsMet, Known, IsAllowed, Transaction, after, attempted, commits as commits_of, is_fault, items_in, named, one_write, transactions_after}
 use Rattle.fjall_consistency.proofs.Alike.{own_alike}
 use Rattle.fjall_consistency.proofs.Causes.{contains_map, items_cause}
 use Rattle.fjall_consistency.proofs.Going.{IsOfKind, IsSame, is_met, met_is, same_met, same_plain, single_unmet}
@@ -211,7 +211,7 @@ closing_next s t id closes =
 
 -- where its ticket was closed
 rolled_back : (w : World) (before : List Reply) (k : Known) (name : ℕ) (g : Going) (others : List Going) (s : State) → IsKnown w before k
-    → Takes (has_name w name None) w.going (Some g) others → Step w.told.state (CloseSnapshot (tx_of g).ticket) Done s
+    → Takes (is_transaction_named w name None) w.going (Some g) others → Step w.told.state (CloseSnapshot (tx_of g).ticket) Done s
     → Tells (record (along w s) { going = others }) before k (Rollback name) Done
 rolled_back w before k name g others s known takes step =
     let v : World = record (along w s) { going = others } in
@@ -221,7 +221,7 @@ rolled_back w before k name g others s known takes step =
     record {
       answer = (refl, All-nil _, λ broken. refl);
       known =
-          ended_known w v before k (after k (Rollback name) Done) (has_name w name None) g Done [] known takes turns (along_same w s known.kept turns.goes) refl
+          ended_known w v before k (after k (Rollback name) Done) (is_transaction_named w name None) g Done [] known takes turns (along_same w s known.kept turns.goes) refl
           (closing_next w.told.state s (tx_of g).ticket.id step) refl (ap (λ (i : ℕ). map (option_map (met_by [])) (slice_set k.transactions i None) ++ None ∷ []) (sym place_is))
           (kept_step w v before (Rollback name) Done (CloseSnapshot (tx_of g).ticket ∷ []) (Done ∷ []) known.kept (IsRolledBack name g others takes Done s step))
           (subst (λ (h : History). AreAlike (latest h) k.present) (sym (turned_history w.told.state s (Close (tx_of g).ticket.id) Done step.1)) known.alike)
@@ -230,7 +230,7 @@ rolled_back w before k name g others s known takes step =
     }
 
 pub rolled_back_tells : (w : World) (before : List Reply) (k : Known) (name : ℕ) (g : Going) (others : List Going) (reply : Reply) (s : State) → IsKnown w before k
-    → Takes (has_name w name None) w.going (Some g) others → Step w.told.state (CloseSnapshot (tx_of g).ticket) reply s
+    → Takes (is_transaction_named w name None) w.going (Some g) others → Step w.told.state (CloseSnapshot (tx_of g).ticket) reply s
     → Tells (record (along w s) { going = others }) before k (Rollback name) reply
 rolled_back_tells w before k name g others reply s known takes step =
     let opened = found_open w name None g takes.0 in
@@ -241,11 +241,11 @@ rolled_back_tells w before k name g others reply s known takes step =
 -- ---- what a commit leaves of what is told
 
 -- the history, with what is accepted
-history_as : (old new : Told) (accepted : List Accepted) → GoesOn old new → new.accepted ≡ accepted → history_of new ≡ record (history_of old) { accepted = accepted }
+history_as : (old new : CoreState) (accepted : List Accepted) → GoesOn old new → new.accepted ≡ accepted → history_of new ≡ record (history_of old) { accepted = accepted }
 history_as old new accepted goes is = ap (λ (h : History). record h { accepted = new.accepted }) goes.follows.grown.1 ∙ ap (λ (l : List Accepted). record old.state.history { accepted = l }) is
 
 -- where nothing is accepted, all others are as they were
-same_still : (old new : Told) → GoesOn old new → new.accepted ≡ old.accepted → SameOn old new []
+same_still : (old new : CoreState) → GoesOn old new → new.accepted ≡ old.accepted → SameOn old new []
 same_still old new goes is instant own marks mode tx same =
     subst (λ (h : History). IsSame h instant own marks mode (met_by [] tx)) (sym (history_as old new old.accepted goes is))
     (subst (λ (since : List (ℕ × Bytes)). IsSame (history_of old) instant own marks mode (record tx { since = since })) (sym (append-nil tx.since)) same)
@@ -284,12 +284,12 @@ wrote_some tx some = by tx.own some ∙ append-nil tx.writes
     by (item ∷ own) some = let no : (length (item ∷ own) == 0) ≡ false = grind (arith, nat_tests) in ap (λ (b : Bool). (if b then [] else tx.writes) ++ []) no
 
 -- where its command is accepted, others are met by its keys
-same_committed : (old new : Told) (instant : ℕ) (own : Own) (marks : Option Marks) (kind : Kind) (mode : Option PersistMode) (tx : Transaction) → GoesOn old new → IsSame (history_of old) instant own marks mode tx
+same_committed : (old new : CoreState) (instant : ℕ) (own : Own) (marks : Option Marks) (kind : Kind) (mode : Option PersistMode) (tx : Transaction) → GoesOn old new → IsSame (history_of old) instant own marks mode tx
     → tx.kind ≡ kind → (tx.own ≡ [] → ⊥) → new.accepted ≡ old.accepted ++ accepted_of instant marks (items_of own) ∷ [] → SameOn old new (wrote_by kind tx)
 same_committed old new instant own (Some marks) Optimistic mode tx goes is kind some accepted at writes others how other same =
     subst (λ (h : History). IsSame h at writes others how (met_by (wrote_by Optimistic tx) other)) (sym (history_as old new _ goes accepted))
     (subst (λ (keys : List (ℕ × Bytes)). IsSame (grown (history_of old) (accepted_of instant (Some marks) (items_of own))) at writes others how (met_by keys other)) (sym (wrote_some tx some))
-    (same_met (history_of old) (write_of (items_of own)) (record { instant = instant; marks = with_items marks (items_of own) }) tx.writes at writes others how other same
+    (same_met (history_of old) (write_of (items_of own)) (record { instant = instant; marks = marks_of_items marks (items_of own) }) tx.writes at writes others how other same
     (marks_known marks own tx.writes is.wrote) (known_marked marks own tx.writes is.wrote)))
 same_committed old new instant own None Single mode tx goes is kind some accepted at writes others how other same =
     subst (λ (h : History). IsSame h at writes others how (met_by [] other)) (sym (history_as old new _ goes accepted))
@@ -387,11 +387,11 @@ made_present s t (item ∷ items) how some answers = answered_present s t (OfCha
 
 -- ---- a commit
 
-module _ (w : World) (before : List Reply) (k : Known) (kind : Kind) (name : ℕ) (g : Going) (others : List Going) (new : Told) (known : IsKnown w before k)
-    (takes : Takes (has_name w name (Some kind)) w.going (Some g) others) where
+module _ (w : World) (before : List Reply) (k : Known) (kind : Kind) (name : ℕ) (g : Going) (others : List Going) (new : CoreState) (known : IsKnown w before k)
+    (takes : Takes (is_transaction_named w name (Some kind)) w.going (Some g) others) where
   -- it is open
   was : IsGoing w before k g
-  was = of_taken (IsGoing w before k) (has_name w name (Some kind)) w.going others g takes known.going
+  was = of_taken (IsGoing w before k) (is_transaction_named w name (Some kind)) w.going others g takes known.going
 
   -- and known under its name
   place_is : g.named.place ≡ name
@@ -426,7 +426,7 @@ module _ (w : World) (before : List Reply) (k : Known) (kind : Kind) (name : ℕ
       record {
         answer = answer;
         known =
-            ended_known w world before k (after k (Commit kind name) reply) (has_name w name (Some kind)) g reply keys known takes
+            ended_known w world before k (after k (Commit kind name) reply) (is_transaction_named w name (Some kind)) g reply keys known takes
             (commit_turns w (tx_of g) outcome new known.kept known.small step) same none next refl
             (ap (λ (l : List (Option Transaction)). map (option_map (met_by keys)) l ++ None ∷ []) (left ∙ ap (λ (i : ℕ). slice_set k.transactions i None) (sym place_is)))
             (kept_ended w kind name g others outcome new known.kept takes step) alike (undamaged ∙ known.undamaged)
@@ -476,7 +476,7 @@ module _ (w : World) (before : List Reply) (k : Known) (kind : Kind) (name : ℕ
 
   -- where it meets no commit and its items are lawful, it takes place
   takes_place : (instant : ℕ) → get w.told.state.tickets.instants (tx_of g).ticket.id ≡ Some instant → (MeetsSome instant (tx_of g).marks (commits (history_of w.told)) → ⊥)
-      → AreLawful k.present (map item_in (items_of (tx_of g).own)) → MayBegin k (Commit kind name)
+      → AreLawful k.present (map item_in (items_of (tx_of g).own)) → IsAllowed k (Commit kind name)
   takes_place instant opened apart lawful = (
     was.tx,
     named_is,
@@ -560,7 +560,7 @@ module _ (w : World) (before : List Reply) (k : Known) (kind : Kind) (name : ℕ
   ends outcome (standing.IsCommitted instant opened some apart told mid made closes grows) =
       subst (λ (o : CommitOutcome Error). Tells world before k (Commit kind name) (reply_to o)) (sym told) (succeeds instant opened some apart mid made closes grows)
 
-pub ended_tells : (w : World) (before : List Reply) (k : Known) (kind : Kind) (name : ℕ) (g : Going) (others : List Going) (outcome : CommitOutcome Error) (new : Told) → IsKnown w before k
-    → Takes (has_name w name (Some kind)) w.going (Some g) others → CommitStep w.told (tx_of g) outcome new
+pub ended_tells : (w : World) (before : List Reply) (k : Known) (kind : Kind) (name : ℕ) (g : Going) (others : List Going) (outcome : CommitOutcome Error) (new : CoreState) → IsKnown w before k
+    → Takes (is_transaction_named w name (Some kind)) w.going (Some g) others → CommitStep w.told (tx_of g) outcome new
     → Tells (record w { told = new; going = others; gone = gone_with w.gone g w.told new }) before k (Commit kind name) (reply_to outcome)
 ended_tells w before k kind name g others outcome new known takes step = ends w before k kind name g others new known takes outcome step

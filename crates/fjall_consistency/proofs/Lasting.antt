@@ -5,16 +5,16 @@ use Rattle.std.proofs.lemmas.Option.{none-some}
 use Rattle.std.proofs.lemmas.List.Elements.{All-nil}
 use Rattle.std.specs.FinMap.{contains_key, empty, get, get-empty, get-retain_keys, nat_cmp-IsAntisymmetric, retain_keys}
 use Rattle.std.specs.Ordering.{nat_cmp}
-use Rattle.fjall_contents.proofs.Slots.{same_maps}
+use Rattle.fjall_meta.proofs.Slots.{same_maps}
 use Rattle.std.proofs.lemmas.List.{append-nil, append_cancel_right}
 use Rattle.fjall_base.specs.Crash.{IsHoused}
 use Rattle.fjall_base.specs.Disk.{DiskState, Meaning, standing, state_in}
 use Rattle.fjall_base.specs.Store.{Command, Store, fold, kept}
 use Rattle.fjall_base.specs.declared.error.Error.{Error}
 use Rattle.fjall_base.specs.declared.error.Error.TheVariants as error
-use Rattle.fjall_contents.proofs.Kept.{kept_along, kept_twice}
-use Rattle.fjall_contents.proofs.Slots.{fold-append}
-use Rattle.fjall_contents.specs.Replays.{bare}
+use Rattle.fjall_meta.proofs.Kept.{kept_along, kept_twice}
+use Rattle.fjall_meta.proofs.Slots.{fold-append}
+use Rattle.fjall_meta.specs.Replays.{bare}
 use Rattle.fjall_journal.specs.declared.recovery_mode.RecoveryMode.{RecoveryMode}
 use Rattle.fjall_journal.specs.declared.recovery_mode.RecoveryMode.TheVariants.{RefuseTornTail, TolerateCorruptTail}
 use Rattle.fjall_meta.specs.Keyspaces.{no_keyspaces}
@@ -32,11 +32,11 @@ use Rattle.fjall_calls.specs.Durables.{Passes}
 use Rattle.fjall_calls.specs.Holding.{Held}
 use Rattle.fjall_calls.specs.Openings.{OpensAs}
 use Rattle.fjall_calls.specs.CoreStanding.{RunsOn}
-use Rattle.fjall_lives.proofs.CrashesInRuns.{no_more, run_passes}
+use Rattle.fjall_calls.proofs.CrashesInRuns.{no_more, run_passes}
 use Rattle.fjall_calls.proofs.Reopening.{a_core_holds_amid, holds_store_amid}
-use Rattle.fjall_lives.specs.Lives.{begun, start_of}
-use Rattle.fjall_lives.proofs.CrashedDisks.{new_disk_holds}
-use Rattle.fjall_calls.specs.Standing.{StandFor, Told}
+use Rattle.fjall_calls.specs.Lives.{life_begun, start_of}
+use Rattle.fjall_calls.proofs.LivedDisks.{new_disk_holds}
+use Rattle.fjall_calls.specs.Standing.{StandFor, CoreState}
 use Rattle.fjall_calls.specs.Transactions.{Kept, none_kept}
 use Rattle.fjall_calls.proofs.CoreStanding.{opening_stands}
 use Rattle.fjall_calls.specs.declared.call.TxCall.{TxCall}
@@ -56,7 +56,7 @@ use Rattle.fjall_consistency.proofs.Telling.{all_told}
 -- ---- an opening
 
 -- the state that a core opened as, of which nothing is accepted since
-abbrev told_as : (core : Held) (store : Store) → OpensAs core store → Told
+abbrev told_as : (core : Held) (store : Store) → OpensAs core store → CoreState
 told_as core store opens = record { state = start_of core store opens; accepted = [] }
 
 stands_as : (core : Held) (store : Store) (opens : OpensAs core store) → StandFor core none_kept (told_as core store opens)
@@ -107,12 +107,12 @@ LeadAlike store calls replies closed next = (start : Store) → AreAlike store s
 
 -- Calls that a core served which opened as this store: the calls of the core that they came to, over the disk.
 module _ (honest : Bool) (h : IsTrue honest) (core new : Held) (beside : Kept) (store : Store) (calls : List TxCall) (replies : List Reply) (opens : OpensAs core store) (ran : RunsTx honest core none_kept calls replies new beside) where
-  abbrev pub run : RunsOn core ran.made ran.told new (start_of core store opens) (begun core store)
-  run = ran.safe h (start_of core store opens) (begun core store) opens.state opens.reads opens.base
+  abbrev pub run : RunsOn core ran.made ran.told new (start_of core store opens) (life_begun core store)
+  run = ran.safe h (start_of core store opens) (life_begun core store) opens.state opens.reads opens.base
 
   -- some beginning passed into the base
-  passed : Passes (begun core store) run.tried run.durable
-  passed = run_passes (start_of core store opens) run.state (begun core store) run.durable ran.made ran.told run.tried opens.base.rests run.run
+  passed : Passes (life_begun core store) run.tried run.durable
+  passed = run_passes (start_of core store opens) run.state (life_begun core store) run.durable ran.made ran.told run.tried opens.base.rests run.run
 
   left_is : (safe : List Command) → kept run.durable.base ≡ kept (fold store safe) → (front : List Command) → kept (fold run.durable.base front) ≡ kept (fold store (safe ++ front))
   left_is safe base front = kept_along run.durable.base (fold store safe) front base ∙ ap kept (sym (fold-append store safe front))
@@ -136,14 +136,14 @@ module _ (honest : Bool) (h : IsTrue honest) (core new : Held) (beside : Kept) (
 
     tries : AllAlike run.tried (all_attempted (begins start) calls replies)
     tries = let (v, stands, reads, through) = ran.runs h (told_as core store opens) (stands_as core store opens) opens.reads in
-        all_tried (worlds.begins (told_as core store opens) None) v [] (begins start) calls replies ran.made ran.told (start_of core store opens) run.state (begun core store) run.durable run.tried known through alike run.run
+        all_tried (worlds.begins (told_as core store opens) None) v [] (begins start) calls replies ran.made ran.told (start_of core store opens) run.state (life_begun core store) run.durable run.tried known through alike run.run
 
     -- What a sync followed is in whatever beginning has what passed into the base.
     synced : (safe : List Command) → safe ++ run.durable.pending ≡ run.tried → (front other : List Command) → AllAlike (safe ++ front) other → IsBeginning other (all_attempted (begins start) calls replies) → (i : ℕ) → IsSyncAt (begins start) calls replies i
         → IsBeginning (all_attempted (begins start) (take (suc i) calls) (take (suc i) replies)) other
     synced safe rest front other each begins_all i sync =
         let (v, stands, reads, through) = ran.runs h (told_as core store opens) (stands_as core store opens) opens.reads in
-        let there = synced_at (worlds.begins (told_as core store opens) None) v [] (begins start) calls replies ran.made ran.told (start_of core store opens) run.state (begun core store) run.durable run.tried known through alike run.run i sync in
+        let there = synced_at (worlds.begins (told_as core store opens) None) v [] (begins start) calls replies ran.made ran.told (start_of core store opens) run.state (life_begun core store) run.durable run.tried known through alike run.run i sync in
         let at = run.synced there.place there.sync in
         let upto = all_attempted (begins start) (take (suc i) calls) (take (suc i) replies) in
         let n = alike_length at.before upto (there.so_far at.mid at.on at.before at.so_far) in
@@ -188,7 +188,7 @@ module _ (honest : Bool) (h : IsTrue honest) (core new : Held) (beside : Kept) (
 -- ---- one life
 
 module _ (honest : Bool) (h : IsTrue honest) (core new : Held) (beside : Kept) (store : Store) (life : Life) (told : lives.Told) (opens : OpensAs core store) (ran : RunsTx honest core none_kept life.calls.items told.replies.items new beside) where
-  abbrev ran_on : RunsOn core ran.made ran.told new (start_of core store opens) (begun core store)
+  abbrev ran_on : RunsOn core ran.made ran.told new (start_of core store opens) (life_begun core store)
   ran_on = run honest h core new beside store life.calls.items told.replies.items opens ran
 
   -- an engine that didn't close leaves so
@@ -263,7 +263,7 @@ pub none_served : (core : Held) (store : Store) (life : Life) (error : Error) �
 none_served core store life error out is opens housed = record {
   next = store;
   waits = [];
-  holds = a_core_holds_amid core opens.entries (begun core store) opens.base housed;
+  holds = a_core_holds_amid core opens.entries (life_begun core store) opens.base housed;
   each = λ front waits. refused_life store life error (kept (fold store front)) out (ap (λ (l : List Command). kept (fold store l)) (no_more front waits.0 waits.1) ∙ is);
 }
 

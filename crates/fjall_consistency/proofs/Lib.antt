@@ -17,6 +17,6 @@ pub mod Turning
 pub mod WildTurns
 pub mod WithinTelling
 -- Their lemmas that those above cite.
-pub use Rattle.fjall_lives.proofs.CrashedDisks
-pub use Rattle.fjall_lives.proofs.LastSyncs
-pub use Rattle.fjall_lives.proofs.Lives
+pub use Rattle.fjall_calls.proofs.LivedDisks
+pub use Rattle.fjall_calls.proofs.LastSyncs
+pub use Rattle.fjall_calls.proofs.Lives

@@ -19,7 +19,7 @@ use Rattle.fjall_tx.specs.declared.key.Key.{Key}
 use Rattle.fjall_tx.proofs.Growing.{writes_add_up}
 use Rattle.fjall_tx.proofs.Keys.{key_tied, key_total}
 use Rattle.fjall_tx.proofs.Merges.{first, is_tied, not_found, second, tied, tied_all}
-use Rattle.fjall_calls.specs.Transactions.{with_items}
+use Rattle.fjall_calls.specs.Transactions.{marks_of_items}
 use Rattle.fjall_calls.proofs.Items.{items_within}
 use Rattle.fjall_consistency.proofs.Causes.{contains_map}
 use Rattle.fjall_consistency.proofs.Going.{IsWritten, WroteThese}
@@ -62,7 +62,7 @@ item_written own item there = get-entries own (key_of item.0 item.1) ∙ item_at
 -- ---- marks of items
 
 -- what is marked with items was marked before, or is the key of one
-marked_by : (items : List BatchItem) (marks : Marks) (id : ℕ) (key : Bytes) → set.contains (with_items marks items).writes (place id key) ≡ true
+marked_by : (items : List BatchItem) (marks : Marks) (id : ℕ) (key : Bytes) → set.contains (marks_of_items marks items).writes (place id key) ≡ true
     → (set.contains marks.writes (place id key) ≡ true) ⊎ ((op : Op) × Contains items (id, key, op))
 marked_by [] marks id key is = inl is
 marked_by (item ∷ items) marks id key is =
@@ -71,19 +71,19 @@ marked_by (item ∷ items) marks id key is =
     (marked_by items (with_write marks item.0 item.1) id key is)
 
 -- what was marked stays marked
-stays_marked : (items : List BatchItem) (marks : Marks) (id : ℕ) (key : Bytes) → set.contains marks.writes (place id key) ≡ true → set.contains (with_items marks items).writes (place id key) ≡ true
+stays_marked : (items : List BatchItem) (marks : Marks) (id : ℕ) (key : Bytes) → set.contains marks.writes (place id key) ≡ true → set.contains (marks_of_items marks items).writes (place id key) ≡ true
 stays_marked [] marks id key was = was
 stays_marked (item ∷ items) marks id key was = stays_marked items (with_write marks item.0 item.1) id key ((writes_add_up marks item.0 id item.1 key).1 (inl was))
 
 -- the key of an item is marked
-item_marked : (items : List BatchItem) (marks : Marks) (item : BatchItem) → Contains items item → set.contains (with_items marks items).writes (place item.0 item.1) ≡ true
+item_marked : (items : List BatchItem) (marks : Marks) (item : BatchItem) → Contains items item → set.contains (marks_of_items marks items).writes (place item.0 item.1) ≡ true
 item_marked items marks item there =
-    All-contains (λ (one : Item). set.contains (with_items marks items).writes (place one.id one.key) ≡ true) (map item_in items) (item_in item) (items_within items marks)
+    All-contains (λ (one : Item). set.contains (marks_of_items marks items).writes (place one.id one.key) ≡ true) (map item_in items) (item_in item) (items_within items marks)
     (contains_map item_in items item there)
 
 -- a commit marks the keys that are known to be written
 pub marks_known : (marks : Marks) (own : Own) (writes : List (ℕ × Bytes)) → WroteThese marks own writes → (id : ℕ) (key : Bytes)
-    → set.contains (with_items marks (items_of own)).writes (place id key) ≡ true → Contains {X = ℕ × Bytes} writes (id, key)
+    → set.contains (marks_of_items marks (items_of own)).writes (place id key) ≡ true → Contains {X = ℕ × Bytes} writes (id, key)
 marks_known marks own writes wrote id key is = wrote.listed id key (by (marked_by (items_of own) marks id key is))
   where
     by : (set.contains marks.writes (place id key) ≡ true) ⊎ ((op : Op) × Contains (items_of own) (id, key, op)) → IsWritten marks own id key
@@ -92,9 +92,9 @@ marks_known marks own writes wrote id key is = wrote.listed id key (by (marked_b
 
 -- and no others
 pub known_marked : (marks : Marks) (own : Own) (writes : List (ℕ × Bytes)) → WroteThese marks own writes → (id : ℕ) (key : Bytes)
-    → Contains {X = ℕ × Bytes} writes (id, key) → set.contains (with_items marks (items_of own)).writes (place id key) ≡ true
+    → Contains {X = ℕ × Bytes} writes (id, key) → set.contains (marks_of_items marks (items_of own)).writes (place id key) ≡ true
 known_marked marks own writes wrote id key has = by (wrote.written id key has)
   where
-    by : IsWritten marks own id key → set.contains (with_items marks (items_of own)).writes (place id key) ≡ true
+    by : IsWritten marks own id key → set.contains (marks_of_items marks (items_of own)).writes (place id key) ≡ true
     by (inl was) = stays_marked (items_of own) marks id key was
     by (inr is) = item_marked (items_of own) marks (id, key, is.0) (item_there (entries own) id key is.0 (sym (get-entries own (key_of id key)) ∙ is.1))

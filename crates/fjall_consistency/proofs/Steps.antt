@@ -9,9 +9,9 @@ use Rattle.fjall_base.specs.Store.{Command, Create, Delete, Store, fold}
 use Rattle.fjall_base.specs.declared.error.Error.{Error}
 use Rattle.fjall_base.specs.declared.error.Error.TheVariants.{Io, NumbersUsedUp, OutOfMemory, Poisoned, Storage, TooManyItems, ValueTooLong}
 use Rattle.fjall_compaction.specs.Ingests.{ingestion}
-use Rattle.fjall_writes.specs.Ingestions.{KeyOp}
+use Rattle.fjall_reading.specs.Ingestions.{KeyOp}
 use Rattle.fjall_journal.specs.Changes.{Emptied, Items, command_of}
-use Rattle.fjall_contents.specs.Replays.{option_pairs}
+use Rattle.fjall_meta.specs.Replays.{option_pairs}
 use Rattle.fjall_history.specs.declared.job.JobId.{JobId}
 use Rattle.fjall_history.specs.declared.reply.Reply.{Reply}
 use Rattle.fjall_history.specs.declared.reply.Reply.TheVariants.{Opened, Refused}
@@ -22,11 +22,11 @@ use Rattle.fjall_history.specs.Queries.{Get, Page}
 use Rattle.fjall_history.specs.Tickets.{Tickets}
 use Rattle.fjall_machine.specs.Shapes.{CallShape, Count, DiskSpace, Entries, Exists, Flushes, JournalSpace, Keyspaces, MergesDone, MergesOut, Next, OfChange, OfCount, OfCreation, OfDeletion, OfFlushBegin, OfFlushFinish, OfHandle, OfIngestion, OfJournalRotation, OfMaintenance, OfMergeBegin, OfMergeFinish, OfPersist, OfRead, OfRotation, OfTickets, OneLess, OneMore, OpenTickets, SealedMemtables, Tables, TablesL0, TicketCall, ToFlush, Visible, WriteBuffer}
 use Rattle.fjall_machine.specs.Shapes as shapes
-use Rattle.fjall_machine.specs.Machine.{Answers, BeginsFlush, BeginsMerge, CountIs, CreatesOrFinds, EvictsSome, FinishesFlush, FinishesMerge, IngestionFails, IngestsInto, IsPoisoned, MayFail, ReadsTables, Refuses, State, StepOf, WorkFails, at_fault, begins_flush, begins_merge, clear_refusals, creation_refusals, deleted, deletion_refusals, due, facts, first_due, has_name, ingestion_refusals, is_flushing, is_living, is_long, is_merging, items_refusals, journal_rotated, journal_synced, present, rotated, rotates, takes_effect, times, written_out}
+use Rattle.fjall_machine.specs.Machine.{Answers, BeginsFlush, BeginsMerge, CountIs, CreatesOrFinds, EvictsSome, FinishesFlush, FinishesMerge, IngestionFails, IngestsInto, IsPoisoned, MayFail, ReadsTables, Refuses, State, StepOf, WorkFails, at_fault, begins_flush, begins_merge, clear_refusals, creation_refusals, deleted, deletion_refusals, due, facts, first_due, names_one, ingestion_refusals, is_flushing, is_living, is_long, is_merging, items_refusals, journal_rotated, journal_synced, present, rotated, rotates, takes_effect, times, parts_written_out}
 use Rattle.fjall_machine.proofs.Dues.{is_so, neither, none_due}
 use Rattle.fjall_machine.proofs.Viewing.{latest_grown}
 use Rattle.fjall_consistency.specs.Consistency.{is_fault}
-use Rattle.fjall_calls.specs.Crashes.{asked, is_io}
+use Rattle.fjall_calls.specs.Crashes.{commands_asked, is_io}
 
 -- ---- refused
 
@@ -58,7 +58,7 @@ fault_standing s (OfCount count) = refl
 synced_standing : (s : State) → standing (journal_synced s) ≡ standing s
 synced_standing s = by (is_long s.parts)
   where
-    by : (b : Bool) → standing (if b then journal_rotated s else record s { parts = written_out s.parts 0 }) ≡ standing s
+    by : (b : Bool) → standing (if b then journal_rotated s else record s { parts = parts_written_out s.parts 0 }) ≡ standing s
     by true = refl
     by false = refl
 
@@ -148,12 +148,12 @@ grows s t c is = ap latest is ∙ latest_grown s.history (plain c)
 pub chosen : (s : Store) (c : Command) (is : Bool) (b : Bool) → b ≡ is → fold s (if b then [] else (c ∷ [])) ≡ fold s (if is then [] else (c ∷ []))
 chosen s c is b e = ap (λ x. fold s (if x then [] else (c ∷ []))) e
 
-created_present : (s t : State) (name : Bytes) (options : List Bytes) (id : ℕ) → CreatesOrFinds s name options id t → present t ≡ fold (present s) (asked s (OfCreation name options))
-created_present s t name options id (inl (had, found, same)) = ap present same ∙ sym (chosen (present s) (Create name (option_pairs options)) true (has_name (present s) name) had)
+created_present : (s t : State) (name : Bytes) (options : List Bytes) (id : ℕ) → CreatesOrFinds s name options id t → present t ≡ fold (present s) (commands_asked s (OfCreation name options))
+created_present s t name options id (inl (had, found, same)) = ap present same ∙ sym (chosen (present s) (Create name (option_pairs options)) true (names_one (present s) name) had)
 created_present s t name options id (inr (fresh, is, made)) =
-    grows s t (Create name (option_pairs options)) (ap (λ (x : State). x.history) made) ∙ sym (chosen (present s) (Create name (option_pairs options)) false (has_name (present s) name) fresh)
+    grows s t (Create name (option_pairs options)) (ap (λ (x : State). x.history) made) ∙ sym (chosen (present s) (Create name (option_pairs options)) false (names_one (present s) name) fresh)
 
-deleted_present : (s t : State) (id : ℕ) (living : Bool) → is_living (present s) id ≡ living → t ≡ (if living then deleted s id else s) → present t ≡ fold (present s) (asked s (OfDeletion id))
+deleted_present : (s t : State) (id : ℕ) (living : Bool) → is_living (present s) id ≡ living → t ≡ (if living then deleted s id else s) → present t ≡ fold (present s) (commands_asked s (OfDeletion id))
 deleted_present s t id true living is = grows s t (Delete id) (ap (λ (x : State). x.history) is) ∙ ap (λ b. fold (present s) (if b then (Delete id ∷ []) else [])) (sym living)
 deleted_present s t id false living is = ap present is ∙ ap (λ b. fold (present s) (if b then (Delete id ∷ []) else [])) (sym living)
 
@@ -179,13 +179,13 @@ merge_finished_present s t job reply true true (told, well, parts, merged, is) =
 merge_finished_present s t job reply true false (told, is) = ap present is
 merge_finished_present s t job reply false lives (told, same) = ap present same
 
-ingested_present : (s t : State) (id : ℕ) (items : List KeyOp) (reply : Reply) → IngestsInto id items s reply t → present t ≡ fold (present s) (asked s (OfIngestion id items))
+ingested_present : (s t : State) (id : ℕ) (items : List KeyOp) (reply : Reply) → IngestsInto id items s reply t → present t ≡ fold (present s) (commands_asked s (OfIngestion id items))
 ingested_present s t id [] reply (told, is) = ap present is
 ingested_present s t id (item ∷ items) reply (told, left, mid, ingests, is) =
     grows s t (ingestion id (item ∷ items)) (ap (λ (x : State). x.history) is ∙ ap (λ (x : State). x.history) ingests.is ∙ ap (λ (k : Times). grown k.history (plain (ingestion id (item ∷ items)))) (synced_times s))
 
 -- a call that is answered leaves what it asked for
-pub answered_present : (s t : State) (shape : CallShape) (reply : Reply) → Answers s shape reply t → present t ≡ fold (present s) (asked s shape)
+pub answered_present : (s t : State) (shape : CallShape) (reply : Reply) → Answers s shape reply t → present t ≡ fold (present s) (commands_asked s shape)
 answered_present s t (OfChange (Items []) how) reply (told, is) = ap present is
 answered_present s t (OfChange (Items (item ∷ items)) how) reply (told, is) = grows s t (command_of (Items (item ∷ items))) (ap (λ (x : State). x.history) is)
 answered_present s t (OfChange (Emptied id) how) reply (told, is) = grows s t (command_of (Emptied id)) (ap (λ (x : State). x.history) is)
@@ -226,7 +226,7 @@ kept s = record { poisoned = s.poisoned; damaged = s.damaged; tickets = record s
 synced_kept : (s : State) → kept (journal_synced s) ≡ kept s
 synced_kept s = by (is_long s.parts)
   where
-    by : (b : Bool) → kept (if b then journal_rotated s else record s { parts = written_out s.parts 0 }) ≡ kept s
+    by : (b : Bool) → kept (if b then journal_rotated s else record s { parts = parts_written_out s.parts 0 }) ≡ kept s
     by true = refl
     by false = refl
 
@@ -471,7 +471,7 @@ changes_poisons s t shape kind reads works (inr (inl (asks, same))) = absurd (re
 changes_poisons s t shape kind reads works (inr (inr fails)) = works fails
 
 -- a fault in a call that was to change the store poisons the engine
-pub fault_poisons : (s t : State) (shape : CallShape) (kind : ErrorKind) → (asked s shape ≡ [] → ⊥) → StepOf s shape (Refused (Io kind)) t → t.poisoned ≡ true
+pub fault_poisons : (s t : State) (shape : CallShape) (kind : ErrorKind) → (commands_asked s shape ≡ [] → ⊥) → StepOf s shape (Refused (Io kind)) t → t.poisoned ≡ true
 fault_poisons s t (OfChange (Items []) how) kind some step = absurd (some refl)
 fault_poisons s t (OfChange (Items (item ∷ items)) how) kind some step =
     let shape : CallShape = OfChange (Items (item ∷ items)) how in
@@ -501,14 +501,14 @@ well_there : (s : State) → s.poisoned ≡ true → s.poisoned ≡ false → �
 well_there s poisoned well = true≢false (sym poisoned ∙ well)
 
 -- a poisoned engine accepts no change any more
-pub poisoned_refuses : (s : State) (shape : CallShape) → s.poisoned ≡ true → due s shape ≡ None → asked s shape ≡ []
+pub poisoned_refuses : (s : State) (shape : CallShape) → s.poisoned ≡ true → due s shape ≡ None → commands_asked s shape ≡ []
 poisoned_refuses s (OfChange (Items []) how) poisoned none = refl
 poisoned_refuses s (OfChange (Items (item ∷ items)) how) poisoned none = absurd (well_there s poisoned (none_due (items_refusals (facts s) (item ∷ items)) none).1.1.1.1.1.0)
 poisoned_refuses s (OfChange (Emptied id) how) poisoned none = absurd (well_there s poisoned (none_due (clear_refusals (facts s) id) none).1.1.0)
 poisoned_refuses s (OfIngestion id []) poisoned none = refl
 poisoned_refuses s (OfIngestion id (item ∷ items)) poisoned none = absurd (well_there s poisoned (none_due (ingestion_refusals (facts s) id (item ∷ items)) none).1.1.1.1.1.1.0)
 poisoned_refuses s (OfCreation name options) poisoned none =
-    let had = is_so (has_name (present s) name) (before_true (not (has_name (present s) name)) s.poisoned poisoned (none_due (creation_refusals (facts s) name) none).1.0) in
+    let had = is_so (names_one (present s) name) (before_true (not (names_one (present s) name)) s.poisoned poisoned (none_due (creation_refusals (facts s) name) none).1.0) in
     ap (λ b. if b then [] else (Create name (option_pairs options) ∷ [])) had
 poisoned_refuses s (OfDeletion id) poisoned none =
     ap (λ b. if b then (Delete id ∷ []) else []) (before_true (is_living (present s) id) s.poisoned poisoned (none_due (deletion_refusals (facts s) id) none).1.0)
@@ -524,7 +524,7 @@ fault_undue s t shape kind refusals none = by (first_due refusals) refl
     by None is fails = is
 
 -- in a poisoned engine no call that was to change the store meets a fault
-pub poisoned_faults : (s t : State) (shape : CallShape) (kind : ErrorKind) → s.poisoned ≡ true → StepOf s shape (Refused (Io kind)) t → asked s shape ≡ []
+pub poisoned_faults : (s t : State) (shape : CallShape) (kind : ErrorKind) → s.poisoned ≡ true → StepOf s shape (Refused (Io kind)) t → commands_asked s shape ≡ []
 poisoned_faults s t (OfChange (Items []) how) kind poisoned step = refl
 poisoned_faults s t (OfChange (Items (item ∷ items)) how) kind poisoned step =
     let shape : CallShape = OfChange (Items (item ∷ items)) how in poisoned_refuses s shape poisoned (fault_undue s t shape kind (items_refusals (facts s) (item ∷ items)) refl step)

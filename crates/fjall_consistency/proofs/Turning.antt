@@ -31,7 +31,7 @@ use Rattle.fjall_machine.specs.declared.call.Call.{Call}
 use Rattle.fjall_machine.specs.declared.call.Call.TheVariants.{CloseSnapshot}
 use Rattle.fjall_machine.proofs.Moving.{shape_moves}
 use Rattle.fjall_calls.specs.Commits.{change_of}
-use Rattle.fjall_calls.specs.Standing.{CommitStep, IsCommitted, IsGone, IsIdle, IsMet, IsRefused, Told, history_of}
+use Rattle.fjall_calls.specs.Standing.{CommitStep, IsCommitted, IsGone, IsIdle, IsMet, IsRefused, CoreState, history_of}
 use Rattle.fjall_calls.specs.Transactions.{Tx}
 use Rattle.fjall_calls.specs.Hearing.{tx_of}
 use Rattle.fjall_calls.specs.Names.{Takes}
@@ -48,7 +48,7 @@ use Rattle.fjall_consistency.proofs.Steps.{answered_open, refused_times}
 use Rattle.fjall_consistency.proofs.Meeting.{met_by}
 
 -- What is told goes on, ids of tickets are left, and each ticket that is open stays so but for the one that is closed, where one is.
-pub record Turns (old new : Told) (gone : Option ℕ) : Type 0 where
+pub record Turns (old new : CoreState) (gone : Option ℕ) : Type 0 where
   pub goes : GoesOn old new
   pub small : new.state.tickets.next ≤ no_id
   pub stays : (id instant : ℕ) → (gone ≡ Some id → ⊥) → get old.state.tickets.instants id ≡ Some instant → get new.state.tickets.instants id ≡ Some instant
@@ -177,8 +177,8 @@ still_turns w kept small = record {
 }
 
 -- after a commit ids are left
-commit_small : (old new : Told) (tx : Tx) (outcome : CommitOutcome Error) → CommitStep old tx outcome new → old.state.tickets.next ≤ no_id → new.state.tickets.next ≤ no_id
-commit_small old new tx outcome (IsGone none told same) small = as_small old.state.tickets new.state.tickets (ap (λ (t : Told). t.state.tickets.next) same) small
+commit_small : (old new : CoreState) (tx : Tx) (outcome : CommitOutcome Error) → CommitStep old tx outcome new → old.state.tickets.next ≤ no_id → new.state.tickets.next ≤ no_id
+commit_small old new tx outcome (IsGone none told same) small = as_small old.state.tickets new.state.tickets (ap (λ (t : CoreState). t.state.tickets.next) same) small
 commit_small old new tx outcome (IsIdle instant opened none told closes same) small = step_small old.state new.state (OfTickets (Close tx.ticket.id)) Done closes small
 commit_small old new tx outcome (IsMet instant opened some meets told closes same) small = step_small old.state new.state (OfTickets (Close tx.ticket.id)) Done closes small
 commit_small old new tx outcome (IsRefused instant opened some apart error told mid refused closes same) small =
@@ -194,9 +194,9 @@ changed_stays s mid t tx reply sound step closes id instant still there =
     (step_stays s mid (change_of tx) reply sound step id instant (none-some id) there)
 
 -- so a commit leaves each other ticket open
-commit_stays : (old new : Told) (tx : Tx) (outcome : CommitOutcome Error) → AreSound (times old.state) → CommitStep old tx outcome new → (id instant : ℕ) → (Some tx.ticket.id ≡ Some id → ⊥)
+commit_stays : (old new : CoreState) (tx : Tx) (outcome : CommitOutcome Error) → AreSound (times old.state) → CommitStep old tx outcome new → (id instant : ℕ) → (Some tx.ticket.id ≡ Some id → ⊥)
     → get old.state.tickets.instants id ≡ Some instant → get new.state.tickets.instants id ≡ Some instant
-commit_stays old new tx outcome sound (IsGone none told same) id instant still there = ap (λ (t : Told). get t.state.tickets.instants id) same ∙ there
+commit_stays old new tx outcome sound (IsGone none told same) id instant still there = ap (λ (t : CoreState). get t.state.tickets.instants id) same ∙ there
 commit_stays old new tx outcome sound (IsIdle instant opened none told closes same) id at still there = step_stays old.state new.state (OfTickets (Close tx.ticket.id)) Done sound closes id at still there
 commit_stays old new tx outcome sound (IsMet instant opened some meets told closes same) id at still there = step_stays old.state new.state (OfTickets (Close tx.ticket.id)) Done sound closes id at still there
 commit_stays old new tx outcome sound (IsRefused instant opened some apart error told mid refused closes same) id at still there =
@@ -204,7 +204,7 @@ commit_stays old new tx outcome sound (IsRefused instant opened some apart error
 commit_stays old new tx outcome sound (IsCommitted instant opened some apart told mid made closes grown) id at still there = changed_stays old.state mid new.state tx Done sound made closes id at still there
 
 -- a commit
-pub commit_turns : (w : World) (tx : Tx) (outcome : CommitOutcome Error) (new : Told) → IsKept w → w.told.state.tickets.next ≤ no_id → CommitStep w.told tx outcome new → Turns w.told new (Some tx.ticket.id)
+pub commit_turns : (w : World) (tx : Tx) (outcome : CommitOutcome Error) (new : CoreState) → IsKept w → w.told.state.tickets.next ≤ no_id → CommitStep w.told tx outcome new → Turns w.told new (Some tx.ticket.id)
 commit_turns w tx outcome new kept small step = record {
   goes = commit_goes_on w.told new tx outcome kept.sound step;
   small = commit_small w.told new tx outcome step small;
@@ -238,7 +238,7 @@ past_end (y ∷ xs) x (suc place) lt = past_end xs x place (omega arith)
 -- ---- snapshots
 
 -- no ticket of the greatest id is open
-unopened : (t : Told) → IsSound t → t.state.tickets.next ≤ no_id → (instant : ℕ) → get t.state.tickets.instants no_id ≡ Some instant → ⊥
+unopened : (t : CoreState) → IsSound t → t.state.tickets.next ≤ no_id → (instant : ℕ) → get t.state.tickets.instants no_id ≡ Some instant → ⊥
 unopened t sound small instant found = let lt = (sound.sound no_id instant found).0 in omega (arith, lt, small)
 
 -- an id that was given out was so before more are
@@ -247,14 +247,14 @@ still_given id old new up (inl lt) = inl (omega (arith, up, lt))
 still_given id old new up (inr is) = inr is
 
 -- a view that a ticket may show stays
-same_view : (old new : Told) → IsSound old → GoesOn old new → (id instant : ℕ) → get old.state.tickets.instants id ≡ Some instant → view new.state.history instant ≡ view old.state.history instant
+same_view : (old new : CoreState) → IsSound old → GoesOn old new → (id instant : ℕ) → get old.state.tickets.instants id ≡ Some instant → view new.state.history instant ≡ view old.state.history instant
 same_view old new sound goes id instant there =
     let le = (sound.sound id instant there).2 in
     let n = told_number old sound in
     sym (told_view new goes.sound instant) ∙ view_grown (history_of old) (history_of new) instant goes.follows.grown (omega (arith, le, n)) ∙ told_view old sound instant
 
 -- one that isn't closed shows what it showed
-pub shown_on : (old new : Told) (gone : Option ℕ) (id : ℕ) (shows : Option Store) → old.state.tickets.next ≤ no_id → GoesOn old old → Turns old new gone → IsShown old.state id shows → (gone ≡ Some id → ⊥) → IsShown new.state id shows
+pub shown_on : (old new : CoreState) (gone : Option ℕ) (id : ℕ) (shows : Option Store) → old.state.tickets.next ≤ no_id → GoesOn old old → Turns old new gone → IsShown old.state id shows → (gone ≡ Some id → ⊥) → IsShown new.state id shows
 shown_on old new ended id shows small sound turns is open_still = record {
   given = still_given id old.state.tickets.next new.state.tickets.next turns.goes.follows.given is.given;
   there = λ instant now. by_id instant now is.given;
@@ -274,7 +274,7 @@ shown_on old new ended id shows small sound turns is open_still = record {
     before none (Some instant) was = absurd (none-some instant (sym none ∙ turns.stays id instant open_still was))
 
 -- and one that is closed none
-pub shown_closed : (old new : Told) (gone : Option ℕ) (id : ℕ) (shows : Option Store) → Turns old new gone → IsShown old.state id shows → gone ≡ Some id → IsShown new.state id None
+pub shown_closed : (old new : CoreState) (gone : Option ℕ) (id : ℕ) (shows : Option Store) → Turns old new gone → IsShown old.state id shows → gone ≡ Some id → IsShown new.state id None
 shown_closed old new ended id shows turns is closed = record {
   given = still_given id old.state.tickets.next new.state.tickets.next turns.goes.follows.given is.given;
   there = λ instant now. absurd (none-some instant (sym (turns.closes id closed) ∙ now));
@@ -282,7 +282,7 @@ shown_closed old new ended id shows turns is closed = record {
 }
 
 -- a place of no ticket shows none
-unshown : (t : Told) → IsSound t → t.state.tickets.next ≤ no_id → IsShown t.state no_id None
+unshown : (t : CoreState) → IsSound t → t.state.tickets.next ≤ no_id → IsShown t.state no_id None
 unshown t sound small = record { given = inr refl; there = λ instant found. absurd (unopened t sound small instant found); closed = λ none. refl }
 
 -- whether it is this id
@@ -336,7 +336,7 @@ pub none_shown : (s : State) (reply : Reply) → s.tickets.next ≤ no_id → ((
 none_shown s reply small never none = subst (λ (id : ℕ). IsShown s id None) (sym none) (record { given = inr refl; there = λ instant found. absurd (never instant found); closed = λ e. refl })
 
 -- no ticket of the greatest id is open
-pub never_open : (t : Told) (gone : Option ℕ) (u : Told) → Turns t u gone → (instant : ℕ) → get u.state.tickets.instants no_id ≡ Some instant → ⊥
+pub never_open : (t : CoreState) (gone : Option ℕ) (u : CoreState) → Turns t u gone → (instant : ℕ) → get u.state.tickets.instants no_id ≡ Some instant → ⊥
 never_open t ended u turns instant found = unopened u turns.goes.sound turns.small instant found
 
 -- each ticket has one place still
@@ -373,7 +373,7 @@ one_each_still w before k reply known new place other some same = by (where_is (
 -- ---- transactions
 
 -- each transaction that is known goes on to be known, with the keys that others wrote
-abbrev pub SameOn : Told → Told → List (ℕ × Bytes) → Type 0
+abbrev pub SameOn : CoreState → CoreState → List (ℕ × Bytes) → Type 0
 SameOn old new keys = (instant : ℕ) (own : Own) (marks : Option Marks) (mode : Option PersistMode) (tx : Transaction) → IsSame (history_of old) instant own marks mode tx → IsSame (history_of new) instant own marks mode (met_by keys tx)
 
 -- after calls of the core that commit no transaction

@@ -6,18 +6,18 @@ use Rattle.fjall_base.specs.Disk.{DiskEntry, DiskState, DiskStep, File, Folder, 
 use Rattle.fjall_base.specs.Store.{Command, Store, fold, kept}
 use Rattle.fjall_base.specs.declared.error.Error.{Error}
 use Rattle.fjall_base.specs.declared.error.Error.TheVariants as error
-use Rattle.fjall_contents.proofs.Kept.{kept_twice}
+use Rattle.fjall_meta.proofs.Kept.{kept_twice}
 use Rattle.fjall_journal.specs.declared.recovery_mode.RecoveryMode.{RecoveryMode}
 use Rattle.fjall_recovery.specs.Folders.{Contents}
 use Rattle.fjall_recovery.specs.Amid.{HoldsAmid, StandsAmid}
 use Rattle.fjall_recovery.specs.Held.{IsOpenFolder}
-use Rattle.fjall_wild.specs.Wild.{IsUnforged, SurvivesUnforged}
+use Rattle.fjall_recovery.specs.Wild.{IsUnforged, SurvivesUnforged}
 use Rattle.fjall_calls.specs.Holding.{Held}
-use Rattle.fjall_calls.specs.Openings.{ForHeld, IsDueTo, IsLeftWildly, OpensAmid, OpensWithin, StaysAmid}
+use Rattle.fjall_calls.specs.Openings.{ForHeld, IsDueTo, IsLeftWildly, OpensAfterCrash, OpensBetween, StaysAmid}
 use Rattle.fjall_calls.proofs.CrashedDisks.{crash_holds}
-use Rattle.fjall_lives.proofs.CrashesInRuns.{no_more}
+use Rattle.fjall_calls.proofs.CrashesInRuns.{no_more}
 use Rattle.fjall_calls.proofs.Reopening.{holds_store_amid}
-use Rattle.fjall_lives.proofs.CrashedDisks.{a_wild_crash_amid_holds}
+use Rattle.fjall_calls.proofs.LivedDisks.{a_wild_crash_amid_holds}
 use Rattle.fjall_calls.specs.Transactions.{Kept, none_kept}
 use Rattle.fjall_consistency.specs.Alike.{AreAlike}
 use Rattle.fjall_consistency.specs.Consistency.{RunsOut}
@@ -141,7 +141,7 @@ pub unopened_passes : (disk : Meaning) (life : Life) (error : Error) → RunsOut
 unopened_passes disk life error out wild base pending holds = stays_passes wild base pending life error disk (inr out) holds
 
 -- an engine that opened within commands went on from one of their beginnings
-within_passes : (wild : Bool) (base : Store) (pending : List Command) (core : Held) (beside : Kept) (life : Life) (told : Result Told Error) (new : Meaning) → OpensWithin core base [] pending → beside ≡ none_kept
+within_passes : (wild : Bool) (base : Store) (pending : List Command) (core : Held) (beside : Kept) (life : Life) (told : Result Told Error) (new : Meaning) → OpensBetween core base [] pending → beside ≡ none_kept
     → ServesOn core beside life told new → GoesOn wild base pending life told new
 within_passes wild base pending core beside life told new opened none serves =
     let leaves = serves none (kept (fold base opened.front)) (kept_twice (fold base opened.front)) opened.opens in
@@ -154,8 +154,8 @@ within_passes wild base pending core beside life told new opened none serves =
 
 -- so did an engine that opened on whatever stood there
 pub opened_passes : (old : Meaning) (core : Held) (beside : Kept) (life : Life) (told : Result Told Error) (new : Meaning)
-    → ForHeld old (OpensAmid old core)
-    → ((base : Store) (least all : List Command) → IsLeftWildly (state_in old) (StandsAmid base least all) → OpensWithin core base least all)
+    → ForHeld old (OpensAfterCrash old core)
+    → ((base : Store) (least all : List Command) → IsLeftWildly (state_in old) (StandsAmid base least all) → OpensBetween core base least all)
     → beside ≡ none_kept → ServesOn core beside life told new → PassesOn old life told new
 opened_passes old core beside life told new amid any none serves wild base pending (inl holds) =
     let opened = amid base pending holds in

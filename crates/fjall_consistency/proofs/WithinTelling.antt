@@ -36,7 +36,7 @@ use Rattle.fjall_calls.specs.declared.call.Within.TheVariants as inner
 use Rattle.fjall_calls.specs.Acting.{Acts, AnswersWithin, AreFine, AsksCore, AsksFor, AsksNothing, Gets, IsNotUpdated, IsUnread, IsUnwritable, Pages, Persists, RunsOut, Updates, Writes, call_for, query_of, seen_by, update_of, update_reply}
 use Rattle.fjall_calls.specs.Hearing.{tx_of}
 use Rattle.fjall_calls.specs.Names.{Takes}
-use Rattle.fjall_calls.specs.Steps.{IsWithin, gone_by, has_name}
+use Rattle.fjall_calls.specs.Steps.{IsWithin, gone_by, is_transaction_named}
 use Rattle.fjall_calls.specs.Worlds.{Going, World, along}
 use Rattle.fjall_calls.proofs.Following.{told_view}
 use Rattle.fjall_calls.proofs.KeptWorlds.{IsKept, asked_goes_on, kept_step}
@@ -390,7 +390,7 @@ failed_still failed fault (inr now) = or_right failed fault now
 
 -- a call within a transaction that is known
 module _ (w : World) (before : List Reply) (k : Known) (name : ℕ) (call : Inner) (g : Going) (others : List Going) (reply : Reply) (made : List Call) (told : List Reply) (s : State) (after : Tx)
-    (known : IsKnown w before k) (takes : Takes (has_name w name None) w.going (Some g) others) (acts : Acts w.told.state (tx_of g) call reply made told s after) where
+    (known : IsKnown w before k) (takes : Takes (is_transaction_named w name None) w.going (Some g) others) (acts : Acts w.told.state (tx_of g) call reply made told s after) where
   -- the transaction afterwards, the world afterwards, and what is known then
   abbrev called : Going
   called = gone_by g call reply after
@@ -403,7 +403,7 @@ module _ (w : World) (before : List Reply) (k : Known) (name : ℕ) (call : Inne
 
   -- the transaction is known under its name
   is : IsGoing w before k g
-  is = of_taken (IsGoing w before k) (has_name w name None) w.going others g takes known.going
+  is = of_taken (IsGoing w before k) (is_transaction_named w name None) w.going others g takes known.going
 
   -- which is its place
   has_place : g.named.place ≡ name
@@ -481,7 +481,7 @@ module _ (w : World) (before : List Reply) (k : Known) (name : ℕ) (call : Inne
 
   -- the others are apart from it and from each other
   apart : AreApart others × All (AreTwo g) others
-  apart = apart_taken (has_name w name None) w.going others g takes known.apart
+  apart = apart_taken (is_transaction_named w name None) w.going others g takes known.apart
 
   -- and go on
   other_goes : (h : Going) → IsGoing w before k h × AreTwo g h → IsGoing v (before ++ reply ∷ []) now h
@@ -494,7 +494,7 @@ module _ (w : World) (before : List Reply) (k : Known) (name : ℕ) (call : Inne
   -- all of them
   others_go : All (IsGoing v (before ++ reply ∷ []) now) others
   others_go =
-      let going = of_others (IsGoing w before k) (has_name w name None) w.going others g takes known.going in
+      let going = of_others (IsGoing w before k) (is_transaction_named w name None) w.going others g takes known.going in
       All-weaker (λ h. IsGoing w before k h × AreTwo g h) (IsGoing v (before ++ reply ∷ []) now) other_goes others (λ i d lt. (going i d lt, apart.1 i d lt))
 
   -- they are apart from the transaction afterwards too
@@ -506,7 +506,7 @@ module _ (w : World) (before : List Reply) (k : Known) (name : ℕ) (call : Inne
   found_still P h has holds same = ⊎_elim
       (λ e. (called, Contains-push others called, same e))
       (λ in_others. (h, Contains-append_left others (called ∷ []) h in_others, holds))
-      (taken_or_left (has_name w name None) w.going others g h takes has)
+      (taken_or_left (is_transaction_named w name None) w.going others g h takes has)
 
   -- what is named was named before
   named_before : (place : ℕ) (t : Transaction) → unwrap_or (slice_get left place) None ≡ Some t → (old : Transaction) × (named k place ≡ Some old)
@@ -555,8 +555,8 @@ module _ (w : World) (before : List Reply) (k : Known) (name : ℕ) (call : Inne
     going = All-push (IsGoing v (before ++ reply ∷ []) now) others called others_go goes;
     apart = apart_push others called apart.0 (All-weaker (AreTwo g) (λ h. AreTwo h called) still_apart others apart.1);
     found = found;
-    written = All-push (IsWritersOwn w) others called (of_others (IsWritersOwn w) (has_name w name None) w.going others g takes known.written)
-        (λ none. of_taken (IsWritersOwn w) (has_name w name None) w.going others g takes known.written (unmarked_still after.marks (tx_of g).marks (sym keeps.kind) none) ∙ ap (λ (t : Ticket). Some t) (sym keeps.ticket));
+    written = All-push (IsWritersOwn w) others called (of_others (IsWritersOwn w) (is_transaction_named w name None) w.going others g takes known.written)
+        (λ none. of_taken (IsWritersOwn w) (is_transaction_named w name None) w.going others g takes known.written (unmarked_still after.marks (tx_of g).marks (sym keeps.kind) none) ∙ ap (λ (t : Ticket). Some t) (sym keeps.ticket));
     writer_given = λ ticket e. let given = known.writer_given ticket e in let up = turns.goes.follows.given in omega (arith, given, up);
     writer = writer;
   }
@@ -566,6 +566,6 @@ module _ (w : World) (before : List Reply) (k : Known) (name : ℕ) (call : Inne
   told_so = record { answer = come.answer; known = known_now }
 
 pub within_tells : (w : World) (before : List Reply) (k : Known) (name : ℕ) (call : Inner) (g : Going) (others : List Going) (reply : Reply) (made : List Call) (told : List Reply) (s : State) (after : Tx) → IsKnown w before k
-    → Takes (has_name w name None) w.going (Some g) others → Acts w.told.state (tx_of g) call reply made told s after
+    → Takes (is_transaction_named w name None) w.going (Some g) others → Acts w.told.state (tx_of g) call reply made told s after
     → Tells (record (along w s) { going = others ++ gone_by g call reply after ∷ [] }) before k (Within name call) reply
 within_tells w before k name call g others reply made told s after known takes acts = told_so w before k name call g others reply made told s after known takes acts

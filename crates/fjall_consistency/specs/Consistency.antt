@@ -33,7 +33,7 @@ use Rattle.fjall_consistency.specs.declared.life.Told.{Told}
 -- ---- what is known along a list of calls
 
 -- A transaction that is open: the store as it began, what it wrote itself, which keys it marked as read and as written, which keys
--- those wrote that committed since it began, and how its commit is persisted.
+-- the optimistic ones wrote that committed since it began, and how its commit is persisted.
 pub record Transaction : Type 0 where
   pub kind : Kind
   pub view : Store
@@ -184,15 +184,24 @@ IsOutcome k tx reply = ⊥
 abbrev pub IsWriting : Known → Type 0
 IsWriting k = Any (λ going. IsSomeAnd going (λ tx. tx.kind ≡ Single)) k.transactions
 
--- What a call is told that isn't refused: a read what the store of its view has, and a creation an id that has the name then; what it
--- writes is lawful. A change and a persist are acknowledged by whatever isn't a refusal. Of counts, lists of names and jobs nothing is said.
+-- What the engine allows: a creation of a lawful name, a lawful write, a clear of a keyspace that lives, an ingestion whose keys ascend, a
+-- commit that takes place, and any call that changes nothing.
+abbrev pub IsAllowed : Known → TxCall → Type 0
+IsAllowed k (Core (core.Keyspace name options)) = (name ≢ []) × (length name ≤ 255)
+IsAllowed k (Core (core.Clear id)) = is_living k.present id ≡ true
+IsAllowed k (Core (core.Ingest id items)) = AreLawful k.present (items_in k (Core (core.Ingest id items))) × AllPairs (λ a b. byte_order a.key b.key ≡ Less) (items_in k (Core (core.Ingest id items)))
+IsAllowed k (Core call) = AreLawful k.present (items_in k (Core call))
+IsAllowed k (Commit kind place) = (tx : Transaction) × (named k place ≡ Some tx) × (tx.kind ≡ kind) × IsOutcome k tx (Flag true)
+IsAllowed k call = ⊤
+
+-- What a call is told that isn't refused: a read what the store of its view has, and a creation an id that has the name then. It is allowed.
+-- A change and a persist are acknowledged by whatever isn't a refusal. Of counts, lists of names and jobs nothing is said.
 abbrev pub IsTold : Known → TxCall → Reply → Type 0
 IsTold k (Core (core.GetAt view id key)) reply = (s : Store) × (shown k view ≡ Some s) × (reply ≡ Value (value_at s id key))
 IsTold k (Core (core.PageAt view id range back max)) reply = (s : Store) × (shown k view ≡ Some s) × IsPage range back max (map_at s.maps id) reply
 IsTold k (Core (core.Keyspace name options)) reply = (id : ℕ) × (reply ≡ Number id) × (name ≢ []) × (length name ≤ 255) × (get (fold k.present (asked k (Core (core.Keyspace name options)))).names id ≡ Some name)
 IsTold k (Core (core.KeyspaceExists name)) reply = reply ≡ Flag (has_name k.present name)
-IsTold k (Core (core.Ingest id items)) reply = AreLawful k.present (items_in k (Core (core.Ingest id items))) × AllPairs (λ a b. byte_order a.key b.key ≡ Less) (items_in k (Core (core.Ingest id items)))
-IsTold k (Core call) reply = AreLawful k.present (items_in k (Core call))
+IsTold k (Core call) reply = IsAllowed k (Core call)
 IsTold k (Within place call) reply = (tx : Transaction) × (named k place ≡ Some tx) × IsToldWithin tx call reply
 IsTold k (Commit kind place) reply = (tx : Transaction) × (named k place ≡ Some tx) × (tx.kind ≡ kind) × IsOutcome k tx reply
 IsTold k (Begin Single) reply = (reply ≡ Done) × (IsWriting k → ⊥)
@@ -233,20 +242,13 @@ ChangesKeyspaces (Core (core.Keyspace name options)) = ⊤
 ChangesKeyspaces (Core (core.DeleteKeyspace id)) = ⊤
 ChangesKeyspaces call = ⊥
 
--- memory, the disk, numbers or the room for a list may run out at any call
+-- memory, numbers or the room for a list run out, or the disk fails
 abbrev pub RunsOut : Error → Type 0
 RunsOut OutOfMemory = ⊤
 RunsOut (Io kind) = ⊤
 RunsOut NumbersUsedUp = ⊤
 RunsOut TooManyItems = ⊤
 RunsOut error = ⊥
-
--- What a fault of the disk may cut short: a creation of a lawful name, a lawful write, and a commit that would take place.
-abbrev pub MayBegin : Known → TxCall → Type 0
-MayBegin k (Core (core.Keyspace name options)) = (name ≢ []) × (length name ≤ 255)
-MayBegin k (Core call) = AreLawful k.present (items_in k (Core call))
-MayBegin k (Commit kind place) = (tx : Transaction) × (named k place ≡ Some tx) × (tx.kind ≡ kind) × IsOutcome k tx (Flag true)
-MayBegin k call = ⊤
 
 -- What holds where a call is refused so. A release may be of a handle that nobody has, and settings may be too long.
 abbrev pub HasCause : Known → TxCall → Error → Type 0
@@ -260,7 +262,7 @@ HasCause k call ValueTooLong = ChangesKeyspaces call ⊎ Any (λ item. IsSomeAnd
 HasCause k call KeyOrder = (id : ℕ) × (items : Vec (Bytes × Op) Global) × (call ≡ Core (core.Ingest id items)) × (AllPairs (λ a b. byte_order a.key b.key ≡ Less) (items_in k call) → ⊥)
 HasCause k call InvalidName = (name : Bytes) × (options : List Bytes) × (call ≡ Core (core.Keyspace name options)) × ((name ≡ []) ⊎ (255 < length name))
 HasCause k call Poisoned = k.failed ≡ true
-HasCause k call (Io fault) = MayBegin k call
+HasCause k call (Io fault) = IsAllowed k call
 HasCause k call error = RunsOut error
 
 -- ---- a list of calls
@@ -291,7 +293,7 @@ commits k (Commit Optimistic place) (Flag true) = flat_map (λ tx. if length tx.
 commits k call reply = []
 
 -- The transactions of the calls so far: one goes on by a call within it that isn't refused. A commit or a rollback ends the one that it
--- names, if one is open, also where it is refused.
+-- names, also where it is refused; `SnapshotClosed` tells that it names none.
 abbrev pub transactions_after : Known → TxCall → Reply → List (Option Transaction)
 transactions_after k call (Refused SnapshotClosed) = k.transactions
 transactions_after k (Within place call) (Refused error) = k.transactions
@@ -310,8 +312,8 @@ after k call reply = record {
   broken = k.broken || nat_lt (length (accepted k call reply)) (length (attempted k call reply));
 }
 
--- The keyspaces that it names live; one that it deletes, holds or reads was made, since a deleted one is still read until its last release. Those of a
--- commit that conflicts need not be there.
+-- The keyspaces that it names live; one that it deletes, holds or reads was made, since a deleted one is still read until its last release. Of a
+-- commit its outcome says so.
 abbrev pub NamesThere : Known → TxCall → Type 0
 NamesThere k (Commit kind place) = ⊤
 NamesThere k (Core (core.DeleteKeyspace id)) = IsMade k.present id

@@ -9,7 +9,7 @@ use Rattle.fjall_calls.specs.Holding.{Held}
 use Rattle.fjall_calls.specs.Openings.{IsLeftWildly, OpensAs}
 use Rattle.fjall_calls.specs.CoreStanding.{ClosesSafely, OwesClosing}
 use Rattle.fjall_recovery.specs.Amid.{HoldsAmid, IsBeginning, StandsAmid}
-use Rattle.fjall_wild.specs.Wild.{SurvivesUnforged}
+use Rattle.fjall_recovery.specs.Wild.{SurvivesUnforged}
 use Rattle.fjall_calls.specs.Transactions.{Kept, none_kept}
 use Rattle.fjall_consistency.specs.Alike.{AreAlike}
 use Rattle.fjall_consistency.specs.Consistency.{IsLife}

@@ -2,11 +2,11 @@
 
 ghost use Rattle.std.specs.Prelude.{false, IfOk};
 ghost use Rattle.fjall_consistency.specs.Links.{IsTurned};
-ghost use Rattle.fjall_memory.specs.MemoryDisk.{meaning_in};
+ghost use Rattle.fjall_disk_memory.specs.MemoryDisk.{meaning_in};
 
 use crate::power::Power;
 use fjall_base::{Error, Result};
-use fjall_memory::MemoryDisk;
+use fjall_disk_memory::MemoryDisk;
 
 /// What happens between two lives, and in the later one.
 #[derive(Clone, Copy, Debug)]

@@ -1,33 +1,32 @@
-//! The engine's one machine: calls that change keyspaces, read them at any view and sync their journal.
+//! A core, which is an engine with its transactions as one value, and its readers: the single writer's transactions and optimistic
+//! ones, each read within its own view with its own writes applied, where each read marks what its answer rests on.
 #![tactic(auto)]
 
-mod close;
-mod config;
-mod engine;
-mod flushes;
-mod ingestions;
-mod jobs;
-mod journals;
-mod keyspaces;
+mod cores;
+mod laid;
 mod laws;
-mod memtables;
-mod merges;
-mod open;
-mod plain;
-mod reads;
-mod replies;
-mod run;
-mod snapshots;
-mod tables;
-mod writes;
+mod reader;
+mod reader_laws;
+mod transaction;
+mod transaction_reader;
+mod transactions;
+mod updates;
 
-pub use config::Config;
-pub use engine::Engine;
-pub use fjall_history::{JobId, Reply, Ticket, View};
-pub use fjall_jobs::{FlushJob, FlushMade, MergeJob, MergeMade};
-pub use fjall_journal::{BatchItem, Op, PersistMode, RecoveryMode};
-pub use fjall_machine::Call;
-pub use fjall_reading::KeyRange;
-pub use jobs::Job;
-pub use laws::{a_known_job_stays_known, a_read_leaves_all, an_owed_call_steps, no_view_is_longer};
-pub use replies::{pairs_reply, reply_of, value_reply};
+pub use cores::Core;
+pub use fjall_engine::{
+    BatchItem, Call, Config, Engine, FlushMade, Job, JobId, KeyRange, MergeMade, Op, PersistMode,
+    RecoveryMode, Reply, Ticket, View, pairs_reply, reply_of, value_reply,
+};
+pub use fjall_tx::{CommitOutcome, Conflict, OwnWrites};
+pub use laws::{
+    a_call_of_the_core_stands, a_commit_stands, an_opening_stands, conflicts_are_exact,
+    one_single_writer_is_open, the_kept_are_the_cores, transactions_are_serial,
+    what_stays_is_not_written,
+};
+pub use reader::Reader;
+pub use reader_laws::readers_show_the_state;
+pub use transaction::Transaction;
+pub use transaction_reader::TransactionReader;
+pub use updates::Made;
+
+// The core's words, so that who stands on transactions lists no core.

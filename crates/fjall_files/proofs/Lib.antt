@@ -19,3 +19,10 @@ pub mod Fitting
 pub mod Serving
 pub mod FilesRead
 pub mod OwnEntries
+mod Raising
+pub mod Going
+pub mod Evicting
+mod Rotating
+pub mod Telling
+mod Placing
+pub mod Raised

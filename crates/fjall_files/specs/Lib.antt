@@ -8,3 +8,10 @@ pub mod Trims
 pub mod Calls
 pub mod Texts
 pub mod Own
+pub mod Marks
+pub mod Journals
+pub mod Evictions
+pub mod Rotations
+pub mod Telling
+pub mod Places
+pub mod Reaching

@@ -2,10 +2,9 @@
 
 use crate::inner::Inner;
 use fjall_base::{Disk, Result, Slice, check_item};
-use fjall_folder::FolderDisk;
-use fjall_reading::Identified;
+use fjall_disk_folder::FolderDisk;
+use fjall_reading::{Identified, OwnedWriteBatch as Writes};
 use fjall_shared::PersistMode;
-use fjall_writes::OwnedWriteBatch as Writes;
 use std::alloc::Global;
 use std::ops::Deref;
 use std::sync::{Arc, Wait};

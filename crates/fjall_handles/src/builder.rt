@@ -7,7 +7,7 @@ use crate::database::Database;
 use crate::inner::Settings;
 use crate::opening::{is_reported, open_database};
 use fjall_base::{CompressionType, Disk, Refused, Result};
-use fjall_folder::FolderDisk;
+use fjall_disk_folder::FolderDisk;
 use fjall_shared::{Config, RecoveryMode};
 use fjall_workers::{Gate, OpenGate};
 use log::{Log, Logged, warn};
@@ -134,7 +134,7 @@ impl<O> DatabaseBuilder<O> {
 
 impl<O> DatabaseBuilder<O> {
     /// Opens the database on a disk and starts its workers, whose jobs pass a gate. A refusal hands the disk back: those of
-    /// `fjall_transactions::Core::open`, and `OutOfMemory` where a worker can't be started.
+    /// `fjall_core::Core::open`, and `OutOfMemory` where a worker can't be started.
     pub fn open_with_gate<
         R: Threads + Wait + Log + Copy + Drop + Send + 'static,
         D: Disk + Drop + Send + 'static,

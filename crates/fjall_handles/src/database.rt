@@ -10,7 +10,7 @@ use crate::snapshot::{Snapshot, open_snapshot};
 use crate::temporary::remove_all;
 use crate::transaction::{Kind, WriteTransaction, begin};
 use fjall_base::{Disk, Error, Result, Slice};
-use fjall_folder::FolderDisk;
+use fjall_disk_folder::FolderDisk;
 use fjall_options::KeyspaceCreateOptions;
 use fjall_reading::Identified;
 use fjall_shared::{Flag, PersistMode, Shared};

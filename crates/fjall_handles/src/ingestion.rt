@@ -2,10 +2,9 @@
 
 use crate::keyspace::Keyspace;
 use fjall_base::{Disk, Error, Result, Slice, check_item};
-use fjall_folder::FolderDisk;
-use fjall_reading::Identified;
+use fjall_disk_folder::FolderDisk;
+use fjall_reading::{Identified, Ingestion as Items};
 use fjall_workers::WorkerMessage;
-use fjall_writes::Ingestion as Items;
 use std::ops::Deref;
 use std::sync::Wait;
 

@@ -2,7 +2,7 @@
 
 use crate::snapshot::Snapshot;
 use fjall_base::{Disk, Error, Result};
-use fjall_folder::FolderDisk;
+use fjall_disk_folder::FolderDisk;
 use fjall_reading::{Cursor, Guard, KeyRange};
 use std::alloc::Global;
 use std::sync::Wait;

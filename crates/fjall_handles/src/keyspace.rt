@@ -10,7 +10,7 @@ use crate::needs::Needs;
 use crate::reader::Reader;
 use crate::snapshot::open_snapshot;
 use fjall_base::{Disk, Error, KeyBounds, Result, Slice, UserValue, check_item};
-use fjall_folder::FolderDisk;
+use fjall_disk_folder::FolderDisk;
 use fjall_reading::{Guard, Identified, KeyRange, Readable, prefix_to_range, range_of};
 use fjall_shared::{Raiser, View};
 use fjall_workers::{Bench, OpenGate, WorkerMessage, serve};

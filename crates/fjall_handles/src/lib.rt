@@ -18,7 +18,6 @@ mod transaction;
 mod tx_reader;
 mod working;
 
-// What users of handles name of the crates below, so that who stands on these lists no other.
 pub use batch::OwnedWriteBatch;
 pub use builder::{DatabaseBuilder, Host};
 pub use database::Database;
@@ -26,7 +25,7 @@ pub use fjall_base::{
     CompressionType, Disk, Error, FormatVersion, JournalRecoveryError, KeyBounds, KvPair, Refused,
     Result, Slice, StorageError, UserKey, UserValue,
 };
-pub use fjall_folder::FolderDisk;
+pub use fjall_disk_folder::FolderDisk;
 pub use fjall_options::{
     BlockSizePolicy, BloomConstructionPolicy, CompressionPolicy, DecodeConfig, EncodeConfig,
     FilterPolicy, FilterPolicyEntry, HashRatioPolicy, KeyspaceCreateOptions, Leveled, Levelled,
@@ -42,3 +41,5 @@ pub use reader::Reader;
 pub use snapshot::Snapshot;
 pub use transaction::{Kind, Optimistic, Single, WriteTransaction};
 pub use tx_reader::TransactionReader;
+
+// What users of handles name of the crates below, so that who stands on these lists no other.

@@ -3,7 +3,7 @@
 use crate::inner::Inner;
 use crate::reader::Reader;
 use fjall_base::{Disk, Error, Result};
-use fjall_folder::FolderDisk;
+use fjall_disk_folder::FolderDisk;
 use fjall_shared::{Flag, Raiser, Shared, Ticket, View};
 use std::alloc::Global;
 use std::sync::{Arc, Wait};

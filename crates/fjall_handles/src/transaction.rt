@@ -4,7 +4,7 @@ use crate::inner::Inner;
 use crate::snapshot::watch;
 use crate::tx_reader::TransactionReader;
 use fjall_base::{Disk, Error, Result, Slice, UserValue, check_item};
-use fjall_folder::FolderDisk;
+use fjall_disk_folder::FolderDisk;
 use fjall_reading::Identified;
 use fjall_shared::{CommitOutcome, Conflict, Flag, Made, PersistMode, Raiser, Shared, Transaction};
 use std::alloc::Global;

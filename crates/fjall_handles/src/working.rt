@@ -2,8 +2,7 @@
 
 use crate::inner::Inner;
 use fjall_base::{Disk, Error, Result};
-use fjall_places::{Begun, Made, Ran};
-use fjall_shared::{FlushMade, MergeMade};
+use fjall_shared::{Begun, FlushMade, JobOutput, MergeMade, Ran};
 use fjall_workers::{Bench, OpenGate, WorkerMessage, run_job};
 use std::sync::Wait;
 use std::sync::atomic::Ordering::SeqCst;
@@ -31,7 +30,7 @@ pub(crate) struct Finish {
 }
 
 // Leaves what a job made in its place; the other end may be in the midst of a look, so that it is tried again.
-fn leave<M: Made>(ran: Ran<M>) -> u64 {
+fn leave<M: JobOutput>(ran: Ran<M>) -> u64 {
     let mut ran = ran;
     for _ in 0..u64::MAX {
         match ran.leave() {

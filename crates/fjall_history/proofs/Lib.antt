@@ -11,3 +11,4 @@ mod Items
 pub mod Serials
 pub mod Growing
 pub mod Resting
+pub mod Rules

@@ -6,3 +6,6 @@ pub mod Queries
 pub mod Checked
 pub mod Serial
 pub mod Asks
+pub mod Codes
+pub mod Rules
+pub mod Seats

@@ -1,16 +1,19 @@
 //! The history of an engine: what was accepted since it was opened, the tickets of snapshots that read at its instants and the
-//! tracker of these; and that optimistic transactions act one after another.
+//! tracker of these; that optimistic transactions act one after another; and the word at which threads see the visible number.
 #![tactic(auto)]
 
 mod instants;
 mod job;
 mod laws;
 mod reply;
+mod rule;
+mod seats;
 mod serial_laws;
 mod snapshot_tracker;
 mod ticket;
 mod tickets;
 mod tracker_laws;
+mod word;
 
 pub use job::JobId;
 pub use laws::{
@@ -18,6 +21,8 @@ pub use laws::{
     the_watermark_never_falls, the_watermark_spares, views_stay,
 };
 pub use reply::Reply;
+pub use rule::{Origin, Saying};
+pub use seats::{CoreSeat, SeenSeat};
 pub use serial_laws::{
     a_checked_history_grows, a_marked_query, answers_rest_on_marks,
     checked_transactions_are_serial, conflicts_rest_on_commits, each_answer_is_of_those_before,
@@ -30,3 +35,4 @@ pub use tracker_laws::{
     closings_are_counted, instants_are_counted, open_instants_are_bounded,
     the_watermark_follows_the_oldest, trackers_stay_sound,
 };
+pub use word::Word;

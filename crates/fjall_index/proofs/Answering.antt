@@ -17,22 +17,22 @@ use Rattle.fjall_history.proofs.Views.{one_more}
 use Rattle.fjall_machine.specs.Machine.{State, due, present, times}
 use Rattle.fjall_machine.specs.Shapes.{ByMode, Close, OfTickets}
 use Rattle.fjall_machine.proofs.Moving.{shape_moves}
-use Rattle.fjall_transactions.specs.Commits.{change_of}
-use Rattle.fjall_transactions.specs.CoreStanding.{ReadsOn}
-use Rattle.fjall_transactions.specs.Holding.{Held}
-use Rattle.fjall_transactions.specs.Standing.{CommitGoesOn, CommitStep, GoesOn, IsCommitted, IsGone, IsIdle, IsMet, IsRefused, StandFor, Told, gone_on}
-use Rattle.fjall_transactions.specs.Transactions.{Kept, Tx}
-use Rattle.fjall_transactions.proofs.Items.{some_items}
+use Rattle.fjall_core.specs.Commits.{change_of}
+use Rattle.fjall_core.specs.CoreStanding.{ReadsOn}
+use Rattle.fjall_core.specs.Holding.{Held}
+use Rattle.fjall_core.specs.Standing.{CommitGoesOn, CommitStep, GoesOn, IsCommitted, IsGone, IsIdle, IsMet, IsRefused, StandFor, CoreState, gone_on}
+use Rattle.fjall_core.specs.Transactions.{Kept, Tx}
+use Rattle.fjall_core.proofs.Items.{some_items}
 use Rattle.fjall_index.specs.Changing.{EndsAnswered, IsAnswerOf, own_where_answered, own_where_done}
 use Rattle.fjall_index.specs.Opening.{Arrives}
 use Rattle.fjall_index.proofs.Beginning.{ticket_history}
 use Rattle.fjall_index.proofs.Committing.{closes_quietly, makes, no_items, refused_history}
 
 -- the present has these items behind what it had
-abbrev pub HasWrittenTo : Told → List Item → Told → Type 0
+abbrev pub HasWrittenTo : CoreState → List Item → CoreState → Type 0
 HasWrittenTo t items next = (id : ℕ) → map_at (present next.state).maps id ≡ map_at (written (present t.state).maps items) id
 
-module _ (new : Held) (after : Kept) (t next : Told) (stands : StandFor new after next) (reads : ReadsOn new next.state) (moves : MovesOn (times t.state) (times next.state)) where
+module _ (new : Held) (after : Kept) (t next : CoreState) (stands : StandFor new after next) (reads : ReadsOn new next.state) (moves : MovesOn (times t.state) (times next.state)) where
   -- where nothing was accepted
   pub rests_so : next.state.history ≡ t.state.history → Arrives t next new after × HasWrittenTo t [] next
   rests_so same = (
@@ -56,16 +56,16 @@ answered_items (outcomes.Aborted error) answer tx is = ap (λ (a : Result Unit E
 
 -- by a commit
 pub answers_commit : (old new : Held) (before after : Kept) (tx : Tx) (outcome : CommitOutcome Error) (done answer : Result Unit Error)
-    → ((t : Told) → StandFor old before t → ReadsOn old t.state → CommitGoesOn old t tx outcome new after) → IsAnswerOf outcome answer → EndsAnswered old before tx done answer new after
+    → ((t : CoreState) → StandFor old before t → ReadsOn old t.state → CommitGoesOn old t tx outcome new after) → IsAnswerOf outcome answer → EndsAnswered old before tx done answer new after
 answers_commit old new before after tx outcome done answer steps is t stood read =
     let (next, stands, reads, step, led) = steps t stood read in
     let (arrives, wrote) = by next stands reads step in
     (next, arrives, subst (λ (items : List Item). HasWrittenTo t items next) (sym (answered_items outcome answer tx is)) wrote)
   where
-    by : (next : Told) → StandFor new after next → ReadsOn new next.state → CommitStep t tx outcome next → Arrives t next new after × HasWrittenTo t (own_where_done outcome tx) next
+    by : (next : CoreState) → StandFor new after next → ReadsOn new next.state → CommitStep t tx outcome next → Arrives t next new after × HasWrittenTo t (own_where_done outcome tx) next
     by next stands reads (IsGone none told same) =
         subst (λ (o : CommitOutcome Error). Arrives t next new after × HasWrittenTo t (own_where_done o tx) next) (sym told)
-        (let still = ap (λ (u : Told). u.state) same in
+        (let still = ap (λ (u : CoreState). u.state) same in
         rests_so new after t next stands reads (subst (λ (s : State). MovesOn (times t.state) (times s)) (sym still) (NoMove (times t.state))) (ap (λ (s : State). s.history) still))
     by next stands reads (IsIdle instant opened none told closes same) =
         subst (λ (o : CommitOutcome Error). Arrives t next new after × HasWrittenTo t (own_where_done o tx) next) (sym told)
@@ -91,7 +91,7 @@ answers_commit old new before after tx outcome done answer steps is t stood read
 
 -- by a rollback, behind which it is refused
 pub answers_rollback : (old new : Held) (before after : Kept) (tx : Tx) (id : ℕ) (reply : Reply) (done answer : Result Unit Error)
-    → ((t : Told) → StandFor old before t → ReadsOn old t.state → GoesOn old t (OfTickets (Close id)) reply new after) → IsErr answer → EndsAnswered old before tx done answer new after
+    → ((t : CoreState) → StandFor old before t → ReadsOn old t.state → GoesOn old t (OfTickets (Close id)) reply new after) → IsErr answer → EndsAnswered old before tx done answer new after
 answers_rollback old new before after tx id reply done (Ok _) steps fails t stood read = absurd (true≢false (sym fails))
 answers_rollback old new before after tx id reply done (Err error) steps fails t stood read =
     let (s, stands, reads, step, led) = steps t stood read in

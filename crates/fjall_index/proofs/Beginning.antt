@@ -20,11 +20,11 @@ use Rattle.fjall_history.proofs.Views.{view_of_all}
 use Rattle.fjall_machine.specs.Shapes.{Open, OfTickets, TicketCall}
 use Rattle.fjall_machine.specs.Machine.{MayFail, Refuses, State, StepOf, due, maps_in, present, times}
 use Rattle.fjall_machine.proofs.Moving.{shape_moves}
-use Rattle.fjall_transactions.specs.Crashes.{asked, attempt, is_io}
-use Rattle.fjall_transactions.specs.Durables.{Durable, Passes}
-use Rattle.fjall_transactions.specs.Holding.{Held}
-use Rattle.fjall_transactions.specs.Standing.{GoesOn, Told, gone_on}
-use Rattle.fjall_transactions.specs.Transactions.{Kept}
+use Rattle.fjall_core.specs.Crashes.{commands_asked, attempt, is_io}
+use Rattle.fjall_core.specs.Durables.{Durable, Passes}
+use Rattle.fjall_core.specs.Holding.{Held}
+use Rattle.fjall_core.specs.Standing.{GoesOn, CoreState, gone_on}
+use Rattle.fjall_core.specs.Transactions.{Kept}
 use Rattle.fjall_index_entries.specs.Index.{FieldOf}
 use Rattle.fjall_index.specs.Standing.{GoesOnIndexed, StandsIndexed}
 use Rattle.fjall_index.proofs.Going.{none_tried, rests}
@@ -54,13 +54,13 @@ ticket_history s t call reply step = ap (λ (k : State). k.history) step.1.1
 tries_nothing : (s : State) (call : TicketCall) (reply : Reply) → attempt s (OfTickets call) reply ≡ []
 tries_nothing s call (Refused error) = by (is_io error)
   where
-    by : (io : Bool) → (if io then asked s (OfTickets call) else []) ≡ []
+    by : (io : Bool) → (if io then commands_asked s (OfTickets call) else []) ≡ []
     by true = refl
     by false = refl
 tries_nothing s call reply = refl
 
 -- what is told stays
-pub same_told : (t : Told) (s : State) → s.history ≡ t.state.history → (gone_on t s).accepted ≡ t.accepted
+pub same_told : (t : CoreState) (s : State) → s.history ≡ t.state.history → (gone_on t s).accepted ≡ t.accepted
 same_told t s e =
     ap (λ (l : List Accepted). t.accepted ++ map plain (commands_of l)) (ap (λ (h : History). drop (length t.state.history.accepted) h.accepted) e ∙ drop-length t.state.history.accepted)
     ∙ append-nil t.accepted
@@ -105,8 +105,8 @@ opened_shows s t ticket step =
 -- ---- calls on tickets
 
 module _ (field : FieldOf) (main index since : ℕ) where
-  pub ticket_goes : (old new : Held) (before after : Kept) (t : Told) (d : Durable) (call : TicketCall) (reply : Reply) → StandsIndexed field main index since old before t d
-      → GoesOn old t (OfTickets call) reply new after → (next : Told) × (e : Durable) × GoesOnIndexed field main index since [] t d next e new after × StepOf t.state (OfTickets call) reply next.state
+  pub ticket_goes : (old new : Held) (before after : Kept) (t : CoreState) (d : Durable) (call : TicketCall) (reply : Reply) → StandsIndexed field main index since old before t d
+      → GoesOn old t (OfTickets call) reply new after → (next : CoreState) × (e : Durable) × GoesOnIndexed field main index since [] t d next e new after × StepOf t.state (OfTickets call) reply next.state
   ticket_goes old new before after t d call reply all (s, stands, reads, step, led) =
       let (e, on, passes) = led d all.on in
       let same = ticket_history t.state s call reply step in

@@ -21,14 +21,14 @@ use Rattle.fjall_machine.specs.Shapes.{ByMode, Close, OfChange, OfTickets, Persi
 use Rattle.fjall_machine.specs.Machine.{MayFail, Refuses, State, StepOf, due, facts, first_due, items_refusals, present, times}
 use Rattle.fjall_machine.proofs.Dues.{may_change}
 use Rattle.fjall_machine.proofs.Moving.{shape_moves}
-use Rattle.fjall_transactions.specs.Crashes.{CallPasses, asked, attempt, is_io}
-use Rattle.fjall_transactions.specs.Durables.{Durable, Passes}
-use Rattle.fjall_transactions.specs.Holding.{Held}
-use Rattle.fjall_transactions.specs.CoreStanding.{StandsOn}
-use Rattle.fjall_transactions.specs.Commits.{change_of}
-use Rattle.fjall_transactions.specs.Standing.{CommitGoesOn, CommitPasses, CommitStep, IsCommitted, IsGone, IsIdle, IsMet, IsRefused, Told, accepted_of, history_of}
-use Rattle.fjall_transactions.specs.Transactions.{Kept, MeetsSome, Tx, with_items}
-use Rattle.fjall_transactions.proofs.Items.{some_items}
+use Rattle.fjall_core.specs.Crashes.{CallPasses, commands_asked, attempt, is_io}
+use Rattle.fjall_core.specs.Durables.{Durable, Passes}
+use Rattle.fjall_core.specs.Holding.{Held}
+use Rattle.fjall_core.specs.CoreStanding.{StandsOn}
+use Rattle.fjall_core.specs.Commits.{change_of}
+use Rattle.fjall_core.specs.Standing.{CommitGoesOn, CommitPasses, CommitStep, IsCommitted, IsGone, IsIdle, IsMet, IsRefused, CoreState, accepted_of, history_of}
+use Rattle.fjall_core.specs.Transactions.{Kept, MeetsSome, Tx, marks_of_items}
+use Rattle.fjall_core.proofs.Items.{some_items}
 use Rattle.fjall_index_entries.specs.Index.{FieldOf}
 use Rattle.fjall_index_entries.specs.Keeping.{IsIndexed, IsIndexedAmid, KeepsIndex}
 use Rattle.fjall_index_entries.proofs.Keeps.{commit_keeps}
@@ -95,11 +95,11 @@ refused_well s t items how error some io step = by (due s (OfChange (Items items
 
 -- ---- what was tried
 
-asked_items : (s : State) (items : List BatchItem) (how : Persistence) → (items ≡ [] → ⊥) → asked s (OfChange (Items items) how) ≡ write_of items ∷ []
+asked_items : (s : State) (items : List BatchItem) (how : Persistence) → (items ≡ [] → ⊥) → commands_asked s (OfChange (Items items) how) ≡ write_of items ∷ []
 asked_items s [] how some = absurd (some refl)
 asked_items s (item ∷ items) how some = refl
 
-asked_none : (s : State) (items : List BatchItem) (how : Persistence) → items ≡ [] → asked s (OfChange (Items items) how) ≡ []
+asked_none : (s : State) (items : List BatchItem) (how : Persistence) → items ≡ [] → commands_asked s (OfChange (Items items) how) ≡ []
 asked_none s [] how none = refl
 asked_none s (item ∷ items) how none = let bad : ⊥ = cc in absurd bad
 
@@ -109,13 +109,13 @@ no_items own none = ap items_of none ∙ ap (map item_of) (nil_from_length (entr
 -- an optimistic transaction tells of itself
 marked : (marks : Option Marks) (m : Marks) → marks ≡ Some m → (instant : ℕ) (items : List BatchItem) → (accepted_of instant marks items).commit ≡ None → ⊥
 marked None m e instant items none = none-some m e
-marked (Some k) m e instant items none = none-some (record { instant = instant; marks = with_items k items }) (sym none)
+marked (Some k) m e instant items none = none-some (record { instant = instant; marks = marks_of_items k items }) (sym none)
 
 -- ---- commits
 
 module _ (field : FieldOf) (main index since : ℕ) where
   -- the present behind what an open transaction writes that meets none
-  kept_at : (core : Held) (before : Kept) (t : Told) (d : Durable) (tx : Tx) (instant : ℕ) → StandsIndexed field main index since core before t d → TxKeepsIndex field main index t tx
+  kept_at : (core : Held) (before : Kept) (t : CoreState) (d : Durable) (tx : Tx) (instant : ℕ) → StandsIndexed field main index since core before t d → TxKeepsIndex field main index t tx
       → get t.state.tickets.instants tx.ticket.id ≡ Some instant → (MeetsSome instant tx.marks (commits (history_of t)) → ⊥)
       → IsIndexed field main index (apply (present t.state) (Write (map item_in (items_of tx.own)))).maps
   kept_at core before t d tx instant all keeps opened apart =
@@ -129,20 +129,20 @@ module _ (field : FieldOf) (main index since : ℕ) where
       (subst (λ (s : Store). IsIndexed field main index s.maps) (sym told) (now_indexed field main index since core before t d all)))
 
   -- a crash behind a refused change: the disk may have it, where a fault of the disk refused it
-  fault_tried : (core : Held) (before : Kept) (t : Told) (d : Durable) (tx : Tx) (mid : State) (error : Error) → StandsIndexed field main index since core before t d → (items_of tx.own ≡ [] → ⊥)
+  fault_tried : (core : Held) (before : Kept) (t : CoreState) (d : Durable) (tx : Tx) (mid : State) (error : Error) → StandsIndexed field main index since core before t d → (items_of tx.own ≡ [] → ⊥)
       → StepOf t.state (change_of tx) (Refused error) mid → IsIndexed field main index (apply (present t.state) (Write (map item_in (items_of tx.own)))).maps
       → IsIndexedAmid field main index d.base (d.pending ++ attempt t.state (change_of tx) (Refused error))
   fault_tried core before t d tx mid error all some step indexed = by (is_io error) refl
     where
-      by : (io : Bool) → is_io error ≡ io → IsIndexedAmid field main index d.base (d.pending ++ (if io then asked t.state (change_of tx) else []))
+      by : (io : Bool) → is_io error ≡ io → IsIndexedAmid field main index d.base (d.pending ++ (if io then commands_asked t.state (change_of tx) else []))
       by false e = none_tried field main index since core before t d all
       by true e =
           subst (λ (l : List Command). IsIndexedAmid field main index d.base (d.pending ++ l)) (sym (asked_items t.state (items_of tx.own) (ByMode tx.mode) some))
           (one_tried field main index since core before t d (map item_in (items_of tx.own)) all
           (sym all.stands.machine.remembered.poisoned ∙ refused_well t.state mid (items_of tx.own) (ByMode tx.mode) error some e step) indexed)
 
-  pub commit_goes : (old new : Held) (before after : Kept) (t : Told) (d : Durable) (tx : Tx) (outcome : CommitOutcome Error) → StandsIndexed field main index since old before t d → TxKeepsIndex field main index t tx
-      → CommitGoesOn old t tx outcome new after → (next : Told) × (e : Durable) × GoesOnIndexed field main index since (own_where_done outcome tx) t d next e new after
+  pub commit_goes : (old new : Held) (before after : Kept) (t : CoreState) (d : Durable) (tx : Tx) (outcome : CommitOutcome Error) → StandsIndexed field main index since old before t d → TxKeepsIndex field main index t tx
+      → CommitGoesOn old t tx outcome new after → (next : CoreState) × (e : Durable) × GoesOnIndexed field main index since (own_where_done outcome tx) t d next e new after
   commit_goes old new before after t d tx outcome all keeps (next, stands, reads, step, led) = let (e, on, passes) = led d all.on in (next, e, by e on passes step)
     where
       closing : (e : Durable) → StandsOn new next.state.parts.entries e → Passes d [] e
@@ -156,8 +156,8 @@ module _ (field : FieldOf) (main index since : ℕ) where
       by e on passes (IsGone none told same) =
           subst (λ (o : CommitOutcome Error). GoesOnIndexed field main index since (own_where_done o tx) t d next e new after) (sym told)
           (let p : CallPasses t.state d (change_of tx) (Refused SnapshotClosed) e = subst (λ (o : CommitOutcome Error). CommitPasses t.state d tx o e) told passes in
-          let still = ap (λ (u : Told). u.state) same in
-          rests field main index since old new before after t next d e [] all (ap (λ (s : State). s.history) still) (ap (λ (u : Told). u.accepted) same)
+          let still = ap (λ (u : CoreState). u.state) same in
+          rests field main index since old new before after t next d e [] all (ap (λ (s : State). s.history) still) (ap (λ (u : CoreState). u.accepted) same)
           (subst (λ (s : State). MovesOn (times t.state) (times s)) (sym still) (NoMove (times t.state))) stands reads on (none_tried field main index since old before t d all) p.0)
       by e on passes (IsIdle instant opened none told closes same) =
           subst (λ (o : CommitOutcome Error). GoesOnIndexed field main index since (own_where_done o tx) t d next e new after) (sym told)

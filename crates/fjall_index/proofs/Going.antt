@@ -14,12 +14,12 @@ use Rattle.fjall_history.specs.Moves.{MovesOn, NoMove, OneMove, Times}
 use Rattle.fjall_history.specs.Serial.{ChangesByTransactions}
 use Rattle.fjall_history.proofs.Views.{one_more, view_of_all, view_stays}
 use Rattle.fjall_machine.specs.Machine.{is_living, present, times}
-use Rattle.fjall_transactions.specs.Durables.{Durable, MakesPresent, Passes}
-use Rattle.fjall_transactions.specs.Holding.{Held}
-use Rattle.fjall_transactions.specs.CoreStanding.{ReadsOn, StandsOn, store_with_tables}
-use Rattle.fjall_transactions.specs.Leaving.{LeavesStanding}
-use Rattle.fjall_transactions.specs.Standing.{StandFor, Told, history_of}
-use Rattle.fjall_transactions.specs.Transactions.{Kept}
+use Rattle.fjall_core.specs.Durables.{Durable, MakesPresent, Passes}
+use Rattle.fjall_core.specs.Holding.{Held}
+use Rattle.fjall_core.specs.CoreStanding.{ReadsOn, StandsOn, store_with_tables}
+use Rattle.fjall_core.specs.Leaving.{LeavesStanding}
+use Rattle.fjall_core.specs.Standing.{StandFor, CoreState, history_of}
+use Rattle.fjall_core.specs.Transactions.{Kept}
 use Rattle.fjall_index_entries.specs.Index.{FieldOf}
 use Rattle.fjall_index_entries.specs.Keeping.{IsIndexed, IsIndexedAmid}
 use Rattle.fjall_index_entries.proofs.Keeps.{change_indexed, kept_indexed, passes_indexed}
@@ -28,13 +28,13 @@ use Rattle.fjall_index.specs.Standing.{GoesOnIndexed, IsIndexedImage, StandsInde
 -- ---- what is told
 
 -- the views of a history are those that are told
-pub view_told : (t : Told) (instant : ℕ) → commands_of t.accepted ≡ commands_of t.state.history.accepted → view (history_of t) instant ≡ view t.state.history instant
+pub view_told : (t : CoreState) (instant : ℕ) → commands_of t.accepted ≡ commands_of t.state.history.accepted → view (history_of t) instant ≡ view t.state.history instant
 view_told t instant same =
     let n = instant - t.state.history.base in
     ap (fold t.state.history.opened) (sym (take-map command_of n t.accepted) ∙ ap (take n) same ∙ take-map command_of n t.state.history.accepted)
 
 -- and so is what it makes
-pub latest_told : (t : Told) → commands_of t.accepted ≡ commands_of t.state.history.accepted → latest (history_of t) ≡ present t.state
+pub latest_told : (t : CoreState) → commands_of t.accepted ≡ commands_of t.state.history.accepted → latest (history_of t) ≡ present t.state
 latest_told t same = ap (fold t.state.history.opened) same
 
 -- ---- maps
@@ -70,30 +70,30 @@ module _ (field : FieldOf) (main index since : ℕ) where
       (λ image left. (kept (fold d.base left.front), left.stands, amid left.front left.within.0 left.within.1))
 
   -- where nothing was tried
-  pub none_tried : (core : Held) (before : Kept) (t : Told) (d : Durable) → StandsIndexed field main index since core before t d → IsIndexedAmid field main index d.base (d.pending ++ [])
+  pub none_tried : (core : Held) (before : Kept) (t : CoreState) (d : Durable) → StandsIndexed field main index since core before t d → IsIndexedAmid field main index d.base (d.pending ++ [])
   none_tried core before t d all = subst (IsIndexedAmid field main index d.base) (sym (append-nil d.pending)) all.amid
 
-  pub present_amid : (core : Held) (before : Kept) (t : Told) (d : Durable) → StandsIndexed field main index since core before t d → core.memory.poisoned ≡ false → kept (fold d.base d.pending) ≡ kept (present t.state)
+  pub present_amid : (core : Held) (before : Kept) (t : CoreState) (d : Durable) → StandsIndexed field main index since core before t d → core.memory.poisoned ≡ false → kept (fold d.base d.pending) ≡ kept (present t.state)
   present_amid core before t d all well =
       let made : MakesPresent false d (store_with_tables t.state.parts.entries core) = subst (λ (b : Bool). MakesPresent b d (store_with_tables t.state.parts.entries core)) well all.on.present in
       made ∙ sym all.stands.machine.remembered.present
 
   -- where a command was, behind which the present is indexed
-  pub one_tried : (core : Held) (before : Kept) (t : Told) (d : Durable) (items : List Item) → StandsIndexed field main index since core before t d → core.memory.poisoned ≡ false
+  pub one_tried : (core : Held) (before : Kept) (t : CoreState) (d : Durable) (items : List Item) → StandsIndexed field main index since core before t d → core.memory.poisoned ≡ false
       → IsIndexed field main index (apply (present t.state) (Write items)).maps → IsIndexedAmid field main index d.base (d.pending ++ Write items ∷ [])
   one_tried core before t d items all well indexed =
       change_indexed field main index d.base (present t.state) d.pending (Write items) all.amid (present_amid core before t d all well)
       (kept_indexed field main index (apply (present t.state) (Write items)) all.main_lives all.index_lives indexed)
 
   -- the present is a view
-  pub now_indexed : (core : Held) (before : Kept) (t : Told) (d : Durable) → StandsIndexed field main index since core before t d → IsIndexed field main index (present t.state).maps
+  pub now_indexed : (core : Held) (before : Kept) (t : CoreState) (d : Durable) → StandsIndexed field main index since core before t d → IsIndexed field main index (present t.state).maps
   now_indexed core before t d all =
       let n = number t.state.history in
       subst (λ (s : Store). IsIndexed field main index s.maps) (view_of_all t.state.history (since + n) (omega arith)) (all.views (since + n) (omega arith))
 
   -- ---- a call that accepts nothing
 
-  pub rests : (old new : Held) (before after : Kept) (t next : Told) (d e : Durable) (tried : List Command) → StandsIndexed field main index since old before t d
+  pub rests : (old new : Held) (before after : Kept) (t next : CoreState) (d e : Durable) (tried : List Command) → StandsIndexed field main index since old before t d
       → next.state.history ≡ t.state.history → next.accepted ≡ t.accepted → MovesOn (times t.state) (times next.state) → StandFor new after next → ReadsOn new next.state
       → StandsOn new next.state.parts.entries e → IsIndexedAmid field main index d.base (d.pending ++ tried) → Passes d tried e → GoesOnIndexed field main index since [] t d next e new after
   rests old new before after t next d e tried all same list moves stands reads on amid passes = record {
@@ -117,7 +117,7 @@ module _ (field : FieldOf) (main index since : ℕ) where
   }
 
   -- a call that does nothing
-  pub still_goes : (core : Held) (before : Kept) (t : Told) (d : Durable) → StandsIndexed field main index since core before t d → GoesOnIndexed field main index since [] t d t d core before
+  pub still_goes : (core : Held) (before : Kept) (t : CoreState) (d : Durable) → StandsIndexed field main index since core before t d → GoesOnIndexed field main index since [] t d t d core before
   still_goes core before t d all = record {
     keeps = all;
     moves = NoMove (times t.state);
@@ -128,7 +128,7 @@ module _ (field : FieldOf) (main index since : ℕ) where
   }
 
   -- what was read
-  pub reads_go : (honest : Bool) (old new : Held) (before : Kept) (t : Told) (d : Durable) → IsTrue honest → LeavesStanding honest old new → StandsIndexed field main index since old before t d
+  pub reads_go : (honest : Bool) (old new : Held) (before : Kept) (t : CoreState) (d : Durable) → IsTrue honest → LeavesStanding honest old new → StandsIndexed field main index since old before t d
       → (e : Durable) × GoesOnIndexed field main index since [] t d t e new before
   reads_go honest old new before t d h left all =
       let (e, on, passes) = left.on h t.state d all.stands.machine all.reads all.on in
@@ -144,7 +144,7 @@ module _ (field : FieldOf) (main index since : ℕ) where
       (e, rests old new before before t t d e [] all refl refl (NoMove (times t.state)) stay (left.reads h t.state all.stands.machine all.reads) on (none_tried old before t d all) passes)
 
   -- the same of a core that was lent
-  pub lent_goes : (honest : Bool) (old core left new : Held) (before : Kept) (t : Told) (d : Durable) → IsTrue honest → core ≡ old → new ≡ left → LeavesStanding honest core left
+  pub lent_goes : (honest : Bool) (old core left new : Held) (before : Kept) (t : CoreState) (d : Durable) → IsTrue honest → core ≡ old → new ≡ left → LeavesStanding honest core left
       → StandsIndexed field main index since old before t d → (e : Durable) × GoesOnIndexed field main index since [] t d t e new before
   lent_goes honest old core left new before t d h lent given stand all =
       reads_go honest old new before t d h (subst (λ (c : Held). LeavesStanding honest c new) lent (subst (LeavesStanding honest core) (sym given) stand)) all
@@ -175,7 +175,7 @@ module _ (field : FieldOf) (main index since : ℕ) where
     | inr late ↦ subst (λ (s : Store). IsIndexed field main index s.maps) (sym (view_of_all (grown h a) instant (past_all h a instant late))) now
   ]
 
-  pub grows : (old new : Held) (before after : Kept) (t next : Told) (d e : Durable) (items : List Item) (one : Accepted) → StandsIndexed field main index since old before t d
+  pub grows : (old new : Held) (before after : Kept) (t next : CoreState) (d e : Durable) (items : List Item) (one : Accepted) → StandsIndexed field main index since old before t d
       → (one.commit ≡ None → ⊥) → next.state.history ≡ grown t.state.history (plain (Write items)) → next.accepted ≡ t.accepted ++ one ∷ []
       → MovesOn (times t.state) (times next.state) → StandFor new after next → ReadsOn new next.state → StandsOn new next.state.parts.entries e → old.memory.poisoned ≡ false
       → IsIndexed field main index (apply (present t.state) (Write items)).maps → Passes d (Write items ∷ []) e → GoesOnIndexed field main index since items t d next e new after
@@ -217,7 +217,7 @@ module _ (field : FieldOf) (main index since : ℕ) where
   moves_on a b c (OneMove _ mid _ first rest) then = OneMove a mid c first (moves_on mid b c rest then)
 
   -- the first of which writes nothing
-  pub goes_then : (mid new : Held) (amid after : Kept) (t u next : Told) (d m e : Durable) (items : List Item) → GoesOnIndexed field main index since [] t d u m mid amid
+  pub goes_then : (mid new : Held) (amid after : Kept) (t u next : CoreState) (d m e : Durable) (items : List Item) → GoesOnIndexed field main index since [] t d u m mid amid
       → GoesOnIndexed field main index since items u m next e new after → GoesOnIndexed field main index since items t d next e new after
   goes_then mid new amid after t u next d m e items first then = record {
     keeps = then.keeps;
@@ -229,7 +229,7 @@ module _ (field : FieldOf) (main index since : ℕ) where
   }
 
   -- which are told otherwise
-  pub told_as : (core : Held) (kept : Kept) (t next : Told) (d e : Durable) (items others : List Item) → ((id : ℕ) → map_at (written (present t.state).maps items) id ≡ map_at (written (present t.state).maps others) id)
+  pub told_as : (core : Held) (kept : Kept) (t next : CoreState) (d e : Durable) (items others : List Item) → ((id : ℕ) → map_at (written (present t.state).maps items) id ≡ map_at (written (present t.state).maps others) id)
       → GoesOnIndexed field main index since items t d next e core kept → GoesOnIndexed field main index since others t d next e core kept
   told_as core kept t next d e items others same goes = record {
     keeps = goes.keeps;

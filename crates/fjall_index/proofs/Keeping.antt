@@ -35,13 +35,13 @@ use Rattle.fjall_history.specs.declared.reply.Reply.TheVariants.{Opened}
 use Rattle.fjall_history.specs.declared.ticket.View.TheVariants.{At}
 use Rattle.fjall_machine.specs.Machine.{maps_in, present, times}
 use Rattle.fjall_machine.specs.Shapes.{Close, OfTickets, Open}
-use Rattle.fjall_transactions.specs.Durables.{Durable}
-use Rattle.fjall_transactions.specs.Holding.{Held}
-use Rattle.fjall_transactions.specs.Leaving.{LeavesStanding}
-use Rattle.fjall_transactions.specs.Shown.{Shows}
-use Rattle.fjall_transactions.specs.Standing.{CommitGoesOn, GoesOn, Told}
+use Rattle.fjall_core.specs.Durables.{Durable}
+use Rattle.fjall_core.specs.Holding.{Held}
+use Rattle.fjall_core.specs.Leaving.{LeavesStanding}
+use Rattle.fjall_core.specs.Shown.{Shows}
+use Rattle.fjall_core.specs.Standing.{CommitGoesOn, GoesOn, CoreState}
 use Rattle.fjall_index_entries.specs.declared.error.IndexError.{IndexError}
-use Rattle.fjall_transactions.specs.Transactions.{Kept, Tx, begun, having_read, no_marks, with_own_items}
+use Rattle.fjall_core.specs.Transactions.{Kept, Tx, transaction_begun, having_read, no_marks, with_own_items}
 use Rattle.fjall_index_entries.specs.Index.{FieldOf, field_in}
 use Rattle.fjall_index_entries.specs.Keeping.{AreRead, KeepsIndex}
 use Rattle.fjall_index_entries.specs.Putting.{all_items, put_items}
@@ -68,10 +68,10 @@ all_put P key items (e ∷ es) here all = by (byte_order key e.0) refl (all_put 
     by Equal is rest = All-cons P (e.0, items) es (subst (λ (k : Bytes). P (k, items)) (byte_tied key e.0 is) here) (All-tail P e es all)
     by Greater is rest = All-cons P e (insert_entry byte_order es key items) (All-head P e es all) rest
 
-module _ (field : FieldOf) (main index : ℕ) (t : Told) where
+module _ (field : FieldOf) (main index : ℕ) (t : CoreState) where
   -- one that has just begun
   pub begun_tx : (tx : IndexedTx) (transaction : Tx) → tx.transaction ≡ transaction → tx.changes.entries ≡ []
-      → transaction ≡ begun (Some no_marks) transaction.ticket → transaction.ticket.id < t.state.tickets.next → IsIndexedTx field main index t tx
+      → transaction ≡ transaction_begun (Some no_marks) transaction.ticket → transaction.ticket.id < t.state.tickets.next → IsIndexedTx field main index t tx
   begun_tx tx transaction is none fresh given = record {
     marks = no_marks;
     optimistic = ap (λ (x : Tx). x.marks) (is ∙ fresh);
@@ -107,7 +107,7 @@ next_grows : (old new : Times) → MovesOn old new → old.tickets.next ≤ new.
 next_grows old new (NoMove _) = omega arith
 next_grows old new (OneMove _ mid _ first rest) = let one = given_up old mid first in let more = next_grows mid new rest in omega (arith, one, more)
 
-same_tx : (tx next : IndexedTx) → IsSameTx tx next → {field : FieldOf} {main index : ℕ} {t : Told} → IsIndexedTx field main index t tx → IsIndexedTx field main index t next
+same_tx : (tx next : IndexedTx) → IsSameTx tx next → {field : FieldOf} {main index : ℕ} {t : CoreState} → IsIndexedTx field main index t tx → IsIndexedTx field main index t next
 same_tx tx next same {field} {main} {index} {t} all = record {
   marks = all.marks;
   optimistic = ap (λ (x : Tx). x.marks) same.transaction ∙ all.optimistic;
@@ -120,7 +120,7 @@ same_tx tx next same {field} {main} {index} {t} all = record {
 }
 
 -- it stays so whatever is called meanwhile
-pub stays_tx : (field : FieldOf) (main index : ℕ) (old new : Told) (tx : IndexedTx) → MovesOn (times old.state) (times new.state) → AreSound (times old.state) → IsIndexedTx field main index old tx → IsIndexedTx field main index new tx
+pub stays_tx : (field : FieldOf) (main index : ℕ) (old new : CoreState) (tx : IndexedTx) → MovesOn (times old.state) (times new.state) → AreSound (times old.state) → IsIndexedTx field main index old tx → IsIndexedTx field main index new tx
 stays_tx field main index old new tx moves sound all = record {
   marks = all.marks;
   optimistic = all.optimistic;
@@ -188,23 +188,23 @@ module _ (field : FieldOf) (main index : ℕ) (s : Store) where
 
 module _ (field : FieldOf) (main index since : ℕ) where
   -- a transaction that begins
-  pub begin_goes : (old new : Held) (before after : Kept) (t : Told) (d : Durable) (transaction : Tx) (tx : IndexedTx) → StandsIndexed field main index since old before t d
-      → GoesOn old t (OfTickets Open) (Opened transaction.ticket) new after → transaction ≡ begun (Some no_marks) transaction.ticket → tx.transaction ≡ transaction → tx.changes.entries ≡ []
-      → (next : Told) × (e : Durable) × GoesOnIndexed field main index since [] t d next e new after × IsIndexedTx field main index next tx
+  pub begin_goes : (old new : Held) (before after : Kept) (t : CoreState) (d : Durable) (transaction : Tx) (tx : IndexedTx) → StandsIndexed field main index since old before t d
+      → GoesOn old t (OfTickets Open) (Opened transaction.ticket) new after → transaction ≡ transaction_begun (Some no_marks) transaction.ticket → tx.transaction ≡ transaction → tx.changes.entries ≡ []
+      → (next : CoreState) × (e : Durable) × GoesOnIndexed field main index since [] t d next e new after × IsIndexedTx field main index next tx
   begin_goes old new before after t d transaction tx all goes fresh is none =
       let (next, e, gone, step) = ticket_goes field main index since old new before after t d Open (Opened transaction.ticket) all goes in
       (next, e, gone, begun_tx field main index next tx transaction is none fresh (opened_given t.state next.state transaction.ticket step))
 
   -- a call that is refused before it began
-  pub not_begun : {T : Type 0} (old new : Held) (before after : Kept) (t : Told) (d : Durable) (reply : Reply) (answer : Result T IndexError) (P : Told → T → Type 0) → IsErr answer → StandsIndexed field main index since old before t d
-      → GoesOn old t (OfTickets Open) reply new after → (next : Told) × (e : Durable) × GoesOnIndexed field main index since [] t d next e new after × IfOk answer (P next)
+  pub not_begun : {T : Type 0} (old new : Held) (before after : Kept) (t : CoreState) (d : Durable) (reply : Reply) (answer : Result T IndexError) (P : CoreState → T → Type 0) → IsErr answer → StandsIndexed field main index since old before t d
+      → GoesOn old t (OfTickets Open) reply new after → (next : CoreState) × (e : Durable) × GoesOnIndexed field main index since [] t d next e new after × IfOk answer (P next)
   not_begun old new before after t d reply (Ok _) P fails all goes = absurd (true≢false (sym fails))
   not_begun old new before after t d reply (Err error) P fails all goes =
       let (next, e, gone, step) = ticket_goes field main index since old new before after t d Open reply all goes in
       (next, e, gone, tt)
 
   -- what is kept of one key more
-  pub keep_goes : (honest : Bool) (old lent left new : Held) (before : Kept) (t : Told) (d : Durable) (tx next : IndexedTx) (key : Bytes) (value : Option Bytes) (done : Result Unit IndexError) → IsTrue honest
+  pub keep_goes : (honest : Bool) (old lent left new : Held) (before : Kept) (t : CoreState) (d : Durable) (tx next : IndexedTx) (key : Bytes) (value : Option Bytes) (done : Result Unit IndexError) → IsTrue honest
       → lent ≡ old → new ≡ left → LeavesStanding honest lent left
       → ((map : Pairs) → Shows honest lent (At tx.transaction.ticket) main map → OnOk done (HasKept tx main key (put_items field main index key (lookup map key) value) next)) → OnErr done (IsSameTx tx next)
       → StandsIndexed field main index since old before t d
@@ -222,7 +222,7 @@ module _ (field : FieldOf) (main index since : ℕ) where
       by (Err error) has same was = same_tx tx next same was
 
   -- all that was kept is written
-  pub written_tx : (t : Told) (tx : IndexedTx) (transaction : Tx) → OwnKeeps → OwnReads → index ≢ main → transaction ≡ with_own_items tx.transaction (batch_of tx.changes.entries)
+  pub written_tx : (t : CoreState) (tx : IndexedTx) (transaction : Tx) → OwnKeeps → OwnReads → index ≢ main → transaction ≡ with_own_items tx.transaction (batch_of tx.changes.entries)
       → IsStrictlySortedBy byte_order (map (λ (c : Change). c.0) tx.changes.entries) → IsIndexedTx field main index t tx → TxKeepsIndex field main index t transaction
   written_tx t tx transaction keeps reads apart is sorted all = record {
     marks = all.marks;
@@ -240,23 +240,23 @@ module _ (field : FieldOf) (main index since : ℕ) where
       before : (instant : ℕ) → get t.state.tickets.instants transaction.ticket.id ≡ Some instant → get t.state.tickets.instants tx.transaction.ticket.id ≡ Some instant
       before instant there = subst (λ (x : Tx). get t.state.tickets.instants x.ticket.id ≡ Some instant) is there
 
-  told_so : (t : Told) (d : Durable) (tx : IndexedTx) (transaction : Tx) (new : Held) (after : Kept) (outcome : CommitOutcome Error) (told : CommitOutcome IndexError)
+  told_so : (t : CoreState) (d : Durable) (tx : IndexedTx) (transaction : Tx) (new : Held) (after : Kept) (outcome : CommitOutcome Error) (told : CommitOutcome IndexError)
       → ((id : ℕ) → map_at (written (present t.state).maps (map item_in (items_of transaction.own))) id ≡ map_at (written (present t.state).maps (items_in tx.changes.entries)) id) → IsOutcomeOf outcome told
-      → ((next : Told) × (e : Durable) × GoesOnIndexed field main index since (own_where_done outcome transaction) t d next e new after)
-      → (next : Told) × (e : Durable) × GoesOnIndexed field main index since (where_committed told (items_in tx.changes.entries)) t d next e new after
+      → ((next : CoreState) × (e : Durable) × GoesOnIndexed field main index since (own_where_done outcome transaction) t d next e new after)
+      → (next : CoreState) × (e : Durable) × GoesOnIndexed field main index since (where_committed told (items_in tx.changes.entries)) t d next e new after
   told_so t d tx transaction new after outcomes.Ok told same is (next, e, goes) =
-      subst (λ (o : CommitOutcome IndexError). (next : Told) × (e : Durable) × GoesOnIndexed field main index since (where_committed o (items_in tx.changes.entries)) t d next e new after) (sym is)
+      subst (λ (o : CommitOutcome IndexError). (next : CoreState) × (e : Durable) × GoesOnIndexed field main index since (where_committed o (items_in tx.changes.entries)) t d next e new after) (sym is)
       (next, e, told_as field main index since new after t next d e (map item_in (items_of transaction.own)) (items_in tx.changes.entries) same goes)
   told_so t d tx transaction new after outcomes.Conflicted told same is goes =
-      subst (λ (o : CommitOutcome IndexError). (next : Told) × (e : Durable) × GoesOnIndexed field main index since (where_committed o (items_in tx.changes.entries)) t d next e new after) (sym is) goes
+      subst (λ (o : CommitOutcome IndexError). (next : CoreState) × (e : Durable) × GoesOnIndexed field main index since (where_committed o (items_in tx.changes.entries)) t d next e new after) (sym is) goes
   told_so t d tx transaction new after (outcomes.Aborted error) told same is goes =
-      subst (λ (o : CommitOutcome IndexError). (next : Told) × (e : Durable) × GoesOnIndexed field main index since (where_committed o (items_in tx.changes.entries)) t d next e new after) (sym is) goes
+      subst (λ (o : CommitOutcome IndexError). (next : CoreState) × (e : Durable) × GoesOnIndexed field main index since (where_committed o (items_in tx.changes.entries)) t d next e new after) (sym is) goes
 
   -- and commits
-  pub commits_tx : (old new : Held) (before after : Kept) (t : Told) (d : Durable) (tx : IndexedTx) (transaction : Tx) (outcome : CommitOutcome Error) (told : CommitOutcome IndexError) → OwnKeeps → OwnReads → OwnGrows
+  pub commits_tx : (old new : Held) (before after : Kept) (t : CoreState) (d : Durable) (tx : IndexedTx) (transaction : Tx) (outcome : CommitOutcome Error) (told : CommitOutcome IndexError) → OwnKeeps → OwnReads → OwnGrows
       → transaction ≡ with_own_items tx.transaction (batch_of tx.changes.entries) → IsStrictlySortedBy byte_order (map (λ (c : Change). c.0) tx.changes.entries)
       → StandsIndexed field main index since old before t d → IsIndexedTx field main index t tx → CommitGoesOn old t transaction outcome new after → IsOutcomeOf outcome told
-      → (next : Told) × (e : Durable) × GoesOnIndexed field main index since (where_committed told (items_in tx.changes.entries)) t d next e new after
+      → (next : CoreState) × (e : Durable) × GoesOnIndexed field main index since (where_committed told (items_in tx.changes.entries)) t d next e new after
   commits_tx old new before after t d tx transaction outcome told keeps reads grows is sorted all kept goes so =
       told_so t d tx transaction new after outcome told
       (λ id. ap (λ (own : Own). map_at (written (present t.state).maps (map item_in (items_of own))) id) (ap (λ (x : Tx). x.own) is ∙ ap (λ (own : Own). with_writes own (batch_of tx.changes.entries)) kept.none)
@@ -264,14 +264,14 @@ module _ (field : FieldOf) (main index since : ℕ) where
       (commit_goes field main index since old new before after t d transaction outcome all (written_tx t tx transaction keeps reads all.apart is sorted kept) goes)
 
   -- a ticket that is closed
-  pub closes_tx : (old new : Held) (before after : Kept) (t : Told) (d : Durable) (id : ℕ) (reply : Reply) → StandsIndexed field main index since old before t d → GoesOn old t (OfTickets (Close id)) reply new after
-      → (next : Told) × (e : Durable) × GoesOnIndexed field main index since [] t d next e new after
+  pub closes_tx : (old new : Held) (before after : Kept) (t : CoreState) (d : Durable) (id : ℕ) (reply : Reply) → StandsIndexed field main index since old before t d → GoesOn old t (OfTickets (Close id)) reply new after
+      → (next : CoreState) × (e : Durable) × GoesOnIndexed field main index since [] t d next e new after
   closes_tx old new before after t d id reply all goes =
       let (next, e, gone, step) = ticket_goes field main index since old new before after t d (Close id) reply all goes in
       (next, e, gone)
 
   -- a change that is refused before anything is read
-  pub unkept : (core : Held) (before : Kept) (t : Told) (d : Durable) (tx : IndexedTx) (done : Result Unit IndexError) (P : Type 0) → IsErr done → StandsIndexed field main index since core before t d
+  pub unkept : (core : Held) (before : Kept) (t : CoreState) (d : Durable) (tx : IndexedTx) (done : Result Unit IndexError) (P : Type 0) → IsErr done → StandsIndexed field main index since core before t d
       → (e : Durable) × GoesOnIndexed field main index since [] t d t e core before × (IsIndexedTx field main index t tx → IsIndexedTx field main index t tx) × OnOk done P
   unkept core before t d tx (Ok _) P fails all = absurd (true≢false (sym fails))
   unkept core before t d tx (Err error) P fails all = (d, still_goes field main index since core before t d all, (λ is. is), tt)

@@ -21,10 +21,10 @@ use Rattle.fjall_tx.proofs.Keys.{byte_tied}
 use Rattle.fjall_tx.proofs.Merges.{lesser}
 use Rattle.fjall_history.specs.declared.ticket.View.TheVariants.{At}
 use Rattle.fjall_machine.specs.Machine.{maps_in, present}
-use Rattle.fjall_transactions.specs.Durables.{Durable}
-use Rattle.fjall_transactions.specs.Holding.{Held}
-use Rattle.fjall_transactions.specs.Standing.{Told}
-use Rattle.fjall_transactions.specs.Transactions.{Kept}
+use Rattle.fjall_core.specs.Durables.{Durable}
+use Rattle.fjall_core.specs.Holding.{Held}
+use Rattle.fjall_core.specs.Standing.{CoreState}
+use Rattle.fjall_core.specs.Transactions.{Kept}
 use Rattle.fjall_index_entries.specs.Index.{FieldOf}
 use Rattle.fjall_index_entries.specs.declared.error.IndexError.{IndexError}
 use Rattle.fjall_index_entries.proofs.Index.{get_altered}
@@ -263,19 +263,19 @@ module _ (field : FieldOf) (main index : ℕ) where
 
 module _ (field : FieldOf) (main index since : ℕ) where
   -- So a load goes on that is answered so: the main keyspace has what the pairs make, or nothing was written.
-  abbrev pub Loads : Told → Durable → List (Bytes × Bytes) → Result Unit IndexError → Held → Kept → Type 0
+  abbrev pub Loads : CoreState → Durable → List (Bytes × Bytes) → Result Unit IndexError → Held → Kept → Type 0
   Loads t d pairs answer new after =
-      (next : Told) × (e : Durable) × (items : List Item) × GoesOnIndexed field main index since items t d next e new after × OnErr answer (items ≡ [])
+      (next : CoreState) × (e : Durable) × (items : List Item) × GoesOnIndexed field main index since items t d next e new after × OnErr answer (items ≡ [])
       × OnOk answer (map_at (present next.state).maps main ≡ loaded pairs (map_at (present t.state).maps main))
       × OnOk answer ((id : ℕ) → id ≢ main → id ≢ index → map_at (present next.state).maps id ≡ map_at (present t.state).maps id)
 
   -- it is refused
-  pub not_loaded : (new : Held) (after : Kept) (t next : Told) (d e : Durable) (pairs : List (Bytes × Bytes)) (answer : Result Unit IndexError) → IsErr answer
+  pub not_loaded : (new : Held) (after : Kept) (t next : CoreState) (d e : Durable) (pairs : List (Bytes × Bytes)) (answer : Result Unit IndexError) → IsErr answer
       → GoesOnIndexed field main index since [] t d next e new after → Loads t d pairs answer new after
   not_loaded new after t next d e pairs (Ok _) fails goes = absurd (true≢false (sym fails))
   not_loaded new after t next d e pairs (Err error) fails goes = (next, e, [], goes, refl, tt, tt)
 
-  module _ (mid low new : Held) (amid half after : Kept) (t u : Told) (d m : Durable) (tx next : IndexedTx) (pairs : List (Bytes × Bytes)) (first : GoesOnIndexed field main index since [] t d u m mid amid) where
+  module _ (mid low new : Held) (amid half after : Kept) (t u : CoreState) (d m : Durable) (tx next : IndexedTx) (pairs : List (Bytes × Bytes)) (first : GoesOnIndexed field main index since [] t d u m mid amid) where
     -- it is rolled back
     pub rolled_back : (done answer : Result Unit IndexError) → IsErr answer → KeepsPairs field main index pairs tx done next mid amid low half
         → KeepsIndexed field main index nothing low half new after → Loads t d pairs answer new after
@@ -288,7 +288,7 @@ module _ (field : FieldOf) (main index since : ℕ) where
     -- it doesn't commit
     pub not_committed : (answer : Result Unit IndexError) → IsErr answer → IsIndexedTx field main index u tx
         → KeepsPairs field main index pairs tx (Ok tt) next mid amid low half
-        → ((w : Told) (n : Durable) → StandsIndexed field main index since low half w n → IsIndexedTx field main index w next → (v : Told) × (e : Durable) × GoesOnIndexed field main index since [] w n v e new after)
+        → ((w : CoreState) (n : Durable) → StandsIndexed field main index since low half w n → IsIndexedTx field main index w next → (v : CoreState) × (e : Durable) × GoesOnIndexed field main index since [] w n v e new after)
         → Loads t d pairs answer new after
     not_committed answer fails is puts commits =
         let (n, second, stays, loads) = puts since u m first.keeps in
@@ -298,8 +298,8 @@ module _ (field : FieldOf) (main index since : ℕ) where
 
     -- it commits
     pub committed : IsIndexedTx field main index u tx → tx.changes.entries ≡ [] → KeepsPairs field main index pairs tx (Ok tt) next mid amid low half
-        → ((w : Told) (n : Durable) → StandsIndexed field main index since low half w n → IsIndexedTx field main index w next
-        → (v : Told) × (e : Durable) × GoesOnIndexed field main index since (items_in next.changes.entries) w n v e new after)
+        → ((w : CoreState) (n : Durable) → StandsIndexed field main index since low half w n → IsIndexedTx field main index w next
+        → (v : CoreState) × (e : Durable) × GoesOnIndexed field main index since (items_in next.changes.entries) w n v e new after)
         → Loads t d pairs (Ok tt) new after
     committed is none puts commits =
         let (n, second, stays, loads) = puts since u m first.keeps in

@@ -8,7 +8,7 @@ use Rattle.std.specs.Result.{IsErr, IsErrAnd}
 use Rattle.fjall_base.specs.Pairs.{Bytes}
 use Rattle.fjall_base.specs.Store.{Create, Store, apply}
 use Rattle.fjall_base.specs.declared.error.Error.{Error}
-use Rattle.fjall_contents.specs.Replays.{option_pairs}
+use Rattle.fjall_meta.specs.Replays.{option_pairs}
 use Rattle.fjall_history.specs.Histories.{History, grown, latest, plain}
 use Rattle.fjall_history.specs.Moves.{NoMove, OneMove}
 use Rattle.fjall_history.specs.declared.reply.Reply.{Reply}
@@ -19,11 +19,11 @@ use Rattle.fjall_machine.specs.Machine.{CreatesOrFinds, State, due, present, tim
 use Rattle.fjall_machine.proofs.Facts.{living_given}
 use Rattle.fjall_machine.proofs.Moving.{shape_moves}
 use Rattle.fjall_machine.proofs.Standing.{a_name_resolved, living_agree, next_agrees}
-use Rattle.fjall_transactions.specs.Holding.{Held}
-use Rattle.fjall_transactions.specs.CoreStanding.{ReadsOn, number_reply}
-use Rattle.fjall_transactions.specs.Leaving.{LeavesStanding}
-use Rattle.fjall_transactions.specs.Standing.{GoesOn, StandFor, Told, gone_on}
-use Rattle.fjall_transactions.specs.Transactions.{Kept}
+use Rattle.fjall_core.specs.Holding.{Held}
+use Rattle.fjall_core.specs.CoreStanding.{ReadsOn, number_reply}
+use Rattle.fjall_core.specs.Leaving.{LeavesStanding}
+use Rattle.fjall_core.specs.Standing.{GoesOn, StandFor, CoreState, gone_on}
+use Rattle.fjall_core.specs.Transactions.{Kept}
 use Rattle.fjall_index_entries.specs.Index.{FieldOf}
 use Rattle.fjall_index_entries.specs.Keeping.{IsIndexed}
 use Rattle.fjall_index_entries.specs.declared.error.IndexError.{IndexError}
@@ -35,7 +35,7 @@ use Rattle.fjall_index.proofs.Going.{moves_on, reads_go, still_goes}
 
 -- ---- names
 
-below_next : (core : Held) (before : Kept) (t : Told) → StandFor core before t → (id : ℕ) (name : Bytes) → get (present t.state).names id ≡ Some name → id < (present t.state).next
+below_next : (core : Held) (before : Kept) (t : CoreState) → StandFor core before t → (id : ℕ) (name : Bytes) → get (present t.state).names id ≡ Some name → id < (present t.state).next
 below_next core before t stands id name is =
     let r = stands.machine.remembered in
     subst (λ n. id < n) (sym (next_agrees core.memory core.catalog.next_table_id t.state r))
@@ -54,7 +54,7 @@ name_comes names n x =
 made_store : (s t : State) (name : Bytes) (options : List Bytes) (is : t.history ≡ grown s.history (plain (Create name (option_pairs options)))) → present t ≡ apply (present s) (Create name (option_pairs options))
 made_store s t name options is = ap latest is ∙ one_more s.history (plain (Create name (option_pairs options)))
 
-found_stays : (core : Held) (before : Kept) (t : Told) (s : State) (name : Bytes) (options : List Bytes) (its : ℕ) → StandFor core before t → CreatesOrFinds t.state name options its s
+found_stays : (core : Held) (before : Kept) (t : CoreState) (s : State) (name : Bytes) (options : List Bytes) (its : ℕ) → StandFor core before t → CreatesOrFinds t.state name options its s
     → (id : ℕ) (other : Bytes) → get (present t.state).names id ≡ Some other → get (present s).names id ≡ Some other
 found_stays core before t s name options its stands (inl (has, named, same)) id other is = subst (λ (k : State). get (present k).names id ≡ Some other) (sym same) is
 found_stays core before t s name options its stands (inr (fresh, at, made)) id other is =
@@ -74,7 +74,7 @@ number_in reply other = other
 -- ---- a creation
 
 pub creation_arrives : (old new : Held) (before after : Kept) (name : Bytes) (options : List Bytes) (answer : Result ℕ Error)
-    → ((t : Told) → StandFor old before t → ReadsOn old t.state → GoesOn old t (OfCreation name options) (number_reply answer) new after)
+    → ((t : CoreState) → StandFor old before t → ReadsOn old t.state → GoesOn old t (OfCreation name options) (number_reply answer) new after)
     → ArrivesAt old before new after (λ s. IfOk answer (λ id. get s.names id ≡ Some name))
 unfolding number_in
 creation_arrives old new before after name options (Err error) goes t stands reads =
@@ -103,7 +103,7 @@ creation_arrives old new before after name options (Ok id) goes t stands reads =
     )
 
 pub creation_keeps : (old new : Held) (before after : Kept) (name : Bytes) (options : List Bytes) (reply : Reply)
-    → ((t : Told) → StandFor old before t → ReadsOn old t.state → GoesOn old t (OfCreation name options) reply new after) → KeepsAny old before new after
+    → ((t : CoreState) → StandFor old before t → ReadsOn old t.state → GoesOn old t (OfCreation name options) reply new after) → KeepsAny old before new after
 creation_keeps old new before after name options reply goes field main index since t d all =
     let one = goes t all.stands all.reads in
     let (e, stays) = creates field main index since old new before after t d name options reply all one in
@@ -145,7 +145,7 @@ if_refused (Err error) P fails = tt
 
 -- ---- reads behind it
 
-pub left_arrives : (honest : Bool) (t next : Told) (mid new : Held) (kept : Kept) → IsTrue honest → LeavesStanding honest mid new → Arrives t next mid kept → Arrives t next new kept
+pub left_arrives : (honest : Bool) (t next : CoreState) (mid new : Held) (kept : Kept) → IsTrue honest → LeavesStanding honest mid new → Arrives t next mid kept → Arrives t next new kept
 left_arrives honest t next mid new kept h left arrives = record {
   stands = record {
     machine = left.stands next.state arrives.stands.machine;
@@ -171,7 +171,7 @@ some_same : (a b : ℕ) → Some a ≡ Some b → a ≡ b
 some_same a b e = ap (λ (o : Option ℕ). elim o as (λ _. ℕ) [ None ↦ a | Some x ↦ x ]) e
 
 -- a name is of one keyspace
-one_id : (core : Held) (kept : Kept) (t : Told) → StandFor core kept t → (name : Bytes) (a b : ℕ) → get (present t.state).names a ≡ Some name → get (present t.state).names b ≡ Some name → a ≡ b
+one_id : (core : Held) (kept : Kept) (t : CoreState) → StandFor core kept t → (name : Bytes) (a b : ℕ) → get (present t.state).names a ≡ Some name → get (present t.state).names b ≡ Some name → a ≡ b
 one_id core kept t stands name a b first second =
     let r = stands.machine.remembered in
     some_same a b (sym ((a_name_resolved core.memory core.catalog.next_table_id t.state r a name).0 first) ∙ (a_name_resolved core.memory core.catalog.next_table_id t.state r b name).0 second)
@@ -182,7 +182,7 @@ names_apart s main index ids apart named same =
     apart (ap (λ (o : Option Bytes). elim o as (λ _. Bytes) [ None ↦ main | Some x ↦ x ]) (sym named.main_is ∙ ap (get s.names) (sym same) ∙ named.index_is))
 
 -- what is stale for the keyspaces of these names is so whichever they are
-pub stale_for_all : (core : Held) (kept : Kept) (t : Told) (field : FieldOf) (main index : Bytes) (ids : ℕ × ℕ) → StandFor core kept t → AreNamed main index ids (present t.state)
+pub stale_for_all : (core : Held) (kept : Kept) (t : CoreState) (field : FieldOf) (main index : Bytes) (ids : ℕ × ℕ) → StandFor core kept t → AreNamed main index ids (present t.state)
     → (IsIndexed field ids.0 ids.1 (present t.state).maps → ⊥) → AreStale field main index (present t.state)
 stale_for_all core kept t field main index ids stands named stale others are =
     let same_main = one_id core kept t stands main others.0 ids.0 are.named.main_is named.main_is in
@@ -194,7 +194,7 @@ if_no_value (Ok value) P fails = absurd (true≢false (sym fails))
 if_no_value (Err error) P fails = tt
 
 -- the same, where its transactions are as they were
-pub same_arrives : (honest : Bool) (t next : Told) (mid new : Held) (kept after : Kept) → IsTrue honest → LeavesStanding honest mid new → after ≡ kept → Arrives t next mid kept → Arrives t next new after
+pub same_arrives : (honest : Bool) (t next : CoreState) (mid new : Held) (kept after : Kept) → IsTrue honest → LeavesStanding honest mid new → after ≡ kept → Arrives t next mid kept → Arrives t next new after
 same_arrives honest t next mid new kept after h left same arrives = subst (Arrives t next new) (sym same) (left_arrives honest t next mid new kept h left arrives)
 
 pub same_keeps : (honest : Bool) (old mid new : Held) (before kept after : Kept) → IsTrue honest → LeavesStanding honest mid new → after ≡ kept → KeepsAny old before mid kept → KeepsAny old before new after

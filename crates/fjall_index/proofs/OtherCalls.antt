@@ -19,13 +19,13 @@ use Rattle.fjall_machine.specs.Shapes.{CallShape}
 use Rattle.fjall_machine.proofs.Facts.{living_given}
 use Rattle.fjall_machine.proofs.Moving.{shape_moves}
 use Rattle.fjall_machine.proofs.Standing.{living_agree, next_agrees}
-use Rattle.fjall_transactions.specs.Crashes.{attempt}
-use Rattle.fjall_transactions.specs.Durables.{Durable, Passes}
-use Rattle.fjall_transactions.specs.Holding.{Held}
-use Rattle.fjall_transactions.specs.CoreStanding.{ReadsOn, StandsOn}
-use Rattle.fjall_transactions.specs.Standing.{GoesOn, StandFor, Told, gone_on}
-use Rattle.fjall_transactions.specs.Transactions.{Kept}
-use Rattle.fjall_transactions.proofs.AttemptedCommands.{Moves, accepts, faults, stays, step_moves}
+use Rattle.fjall_core.specs.Crashes.{attempt}
+use Rattle.fjall_core.specs.Durables.{Durable, Passes}
+use Rattle.fjall_core.specs.Holding.{Held}
+use Rattle.fjall_core.specs.CoreStanding.{ReadsOn, StandsOn}
+use Rattle.fjall_core.specs.Standing.{GoesOn, StandFor, CoreState, gone_on}
+use Rattle.fjall_core.specs.Transactions.{Kept}
+use Rattle.fjall_core.proofs.AttemptedCommands.{Moves, accepts, faults, stays, step_moves}
 use Rattle.fjall_index_entries.specs.Index.{FieldOf, index_of}
 use Rattle.fjall_index_entries.specs.Keeping.{IsIndexed, IsIndexedAmid}
 use Rattle.fjall_index_entries.proofs.Keeps.{change_indexed, kept_indexed}
@@ -81,7 +81,7 @@ alone_lives s (Clear other) id alone lt = refl
 alone_lives s (Create name options) id alone lt = name_other s.names s.next id name lt
 alone_lives s (Delete other) id alone lt = ap is_some (get-remove nat_cmp_total s.names other id ∙ ap (λ (b : Bool). cond b None (get s.names id)) (apart_id id other alone))
 
-told_more : (t : Told) (s : State) (c : Command) → s.history ≡ grown t.state.history (plain c) → (gone_on t s).accepted ≡ t.accepted ++ plain c ∷ []
+told_more : (t : CoreState) (s : State) (c : Command) → s.history ≡ grown t.state.history (plain c) → (gone_on t s).accepted ≡ t.accepted ++ plain c ∷ []
 told_more t s c e =
     ap (λ (l : List Accepted). t.accepted ++ map plain (commands_of l))
     (ap (λ (h : History). drop (length t.state.history.accepted) h.accepted) e ∙ drop-append_seam t.state.history.accepted (plain c ∷ []))
@@ -89,10 +89,10 @@ told_more t s c e =
 -- ---- from call to call
 
 module _ (field : FieldOf) (main index since : ℕ) where
-  pub stays_of : (core : Held) (before : Kept) (t next : Told) (d e : Durable) → GoesOnIndexed field main index since [] t d next e core before → StaysIndexed field main index since t d next e core before
+  pub stays_of : (core : Held) (before : Kept) (t next : CoreState) (d e : Durable) → GoesOnIndexed field main index since [] t d next e core before → StaysIndexed field main index since t d next e core before
   stays_of core before t next d e goes = record { keeps = goes.keeps; moves = goes.moves; any_moment = goes.any_moment }
 
-  pub stays_then : (mid new : Held) (amid after : Kept) (t u next : Told) (d m e : Durable) → StaysIndexed field main index since t d u m mid amid → StaysIndexed field main index since u m next e new after
+  pub stays_then : (mid new : Held) (amid after : Kept) (t u next : CoreState) (d m e : Durable) → StaysIndexed field main index since t d u m mid amid → StaysIndexed field main index since u m next e new after
       → StaysIndexed field main index since t d next e new after
   stays_then mid new amid after t u next d m e first second = record {
     keeps = second.keeps;
@@ -100,14 +100,14 @@ module _ (field : FieldOf) (main index since : ℕ) where
     any_moment = runs_on d.meaning m.meaning e.meaning (IsIndexedImage field main index) first.any_moment second.any_moment;
   }
 
-  below : (core : Held) (before : Kept) (t : Told) (d : Durable) → StandsIndexed field main index since core before t d → (id : ℕ) → is_living (present t.state) id ≡ true → id < (present t.state).next
+  below : (core : Held) (before : Kept) (t : CoreState) (d : Durable) → StandsIndexed field main index since core before t d → (id : ℕ) → is_living (present t.state) id ≡ true → id < (present t.state).next
   below core before t d all id lives =
       let r = all.stands.machine.remembered in
       subst (λ n. id < n) (sym (next_agrees core.memory core.catalog.next_table_id t.state r))
       (living_given core.memory.keyspaces r.lawful.keyspaces core.memory.trees id (sym (living_agree core.memory core.catalog.next_table_id t.state r id) ∙ lives))
 
   -- one command more, which leaves both keyspaces alone
-  module _ (core : Held) (before : Kept) (t : Told) (d : Durable) (all : StandsIndexed field main index since core before t d) (c : Command) (main_alone : LeavesAlone main c) (index_alone : LeavesAlone index c) where
+  module _ (core : Held) (before : Kept) (t : CoreState) (d : Durable) (all : StandsIndexed field main index since core before t d) (c : Command) (main_alone : LeavesAlone main c) (index_alone : LeavesAlone index c) where
     main_stays : map_at (apply (present t.state) c).maps main ≡ map_at (present t.state).maps main
     main_stays = alone_map (present t.state) c main main_alone (below core before t d all main all.main_lives)
 
@@ -133,7 +133,7 @@ module _ (field : FieldOf) (main index since : ℕ) where
   alone_too s [] c id now is same alone = ((λ none. subst (λ (x : Store). map_at (apply x c).maps id ≡ map_at x.maps id) is same), tt)
   alone_too s (a ∷ accepted) c id now is same alone = (alone.0, alone_too (apply s a.command) accepted c id now is same alone.1)
 
-  made_stays : (old new : Held) (before after : Kept) (t : Told) (s : State) (d e : Durable) (c : Command) → (all : StandsIndexed field main index since old before t d) → LeavesAlone main c → LeavesAlone index c
+  made_stays : (old new : Held) (before after : Kept) (t : CoreState) (s : State) (d e : Durable) (c : Command) → (all : StandsIndexed field main index since old before t d) → LeavesAlone main c → LeavesAlone index c
       → s.history ≡ grown t.state.history (plain c) → StandFor new after (gone_on t s) → ReadsOn new s → StandsOn new s.parts.entries e → old.memory.poisoned ≡ false
       → Passes d (c ∷ []) e → (shape : CallShape) (reply : Reply) → StepOf t.state shape reply s → StaysIndexed field main index since t d (gone_on t s) e new after
   made_stays old new before after t s d e c all main_alone index_alone same stands reads on well passes shape reply step =
@@ -166,7 +166,7 @@ module _ (field : FieldOf) (main index since : ℕ) where
       }
 
   -- whatever is called that tries no command but such ones
-  pub another_call : (old new : Held) (before after : Kept) (t : Told) (d : Durable) (shape : CallShape) (reply : Reply) → StandsIndexed field main index since old before t d
+  pub another_call : (old new : Held) (before after : Kept) (t : CoreState) (d : Durable) (shape : CallShape) (reply : Reply) → StandsIndexed field main index since old before t d
       → All (LeavesAlone main) (attempt t.state shape reply) → All (LeavesAlone index) (attempt t.state shape reply)
       → (goes : GoesOn old t shape reply new after) → (e : Durable) × StaysIndexed field main index since t d (gone_on t goes.0) e new after
   another_call old new before after t d shape reply all main_alone index_alone (s, stands, reads, step, led) =

@@ -20,12 +20,12 @@ use Rattle.fjall_machine.specs.Machine.{State, instant_of, maps_in, present}
 use Rattle.fjall_history.specs.declared.reply.Reply.{Reply}
 use Rattle.fjall_history.specs.declared.reply.Reply.TheVariants.{Opened}
 use Rattle.fjall_machine.specs.Shapes.{OfTickets, Open}
-use Rattle.fjall_transactions.specs.Durables.{Durable}
-use Rattle.fjall_transactions.specs.Holding.{Held}
-use Rattle.fjall_transactions.specs.Leaving.{LeavesStanding}
-use Rattle.fjall_transactions.specs.Shown.{Shows}
-use Rattle.fjall_transactions.specs.Standing.{GoesOn, Told}
-use Rattle.fjall_transactions.specs.Transactions.{Kept, Tx, begun, no_marks}
+use Rattle.fjall_core.specs.Durables.{Durable}
+use Rattle.fjall_core.specs.Holding.{Held}
+use Rattle.fjall_core.specs.Leaving.{LeavesStanding}
+use Rattle.fjall_core.specs.Shown.{Shows}
+use Rattle.fjall_core.specs.Standing.{GoesOn, CoreState}
+use Rattle.fjall_core.specs.Transactions.{Kept, Tx, transaction_begun, no_marks}
 use Rattle.fjall_index_entries.specs.Index.{FieldOf, field_in}
 use Rattle.fjall_index_entries.specs.Keeping.{AreRead, KeepsIndex}
 use Rattle.fjall_index_entries.specs.Putting.{entry_in, entry_item, entry_items, item, put_items}
@@ -92,8 +92,8 @@ marked_here : (main : ℕ) (key : Bytes) → IsCovered (OfKey main key ∷ []) m
 marked_here main key = record { mark = OfKey main key; is_marked = (0, omega arith, refl); covers = (refl, refl) }
 
 -- the transaction of a put keeps the index
-pub put_tx : (field : FieldOf) (main index : ℕ) (t : Told) (ticket : Ticket) (tx : Tx) (key : Bytes) (new : Option Bytes) → OwnKeeps → OwnReads → index ≢ main
-    → HasWritten (begun (Some no_marks) ticket) main key (put_items field main index key (lookup (map_at (maps_in t.state (At ticket)) main) key) new) tx → TxKeepsIndex field main index t tx
+pub put_tx : (field : FieldOf) (main index : ℕ) (t : CoreState) (ticket : Ticket) (tx : Tx) (key : Bytes) (new : Option Bytes) → OwnKeeps → OwnReads → index ≢ main
+    → HasWritten (transaction_begun (Some no_marks) ticket) main key (put_items field main index key (lookup (map_at (maps_in t.state (At ticket)) main) key) new) tx → TxKeepsIndex field main index t tx
 put_tx field main index t ticket tx key new keeps reads apart has = subst (TxKeepsIndex field main index t) (sym has.is) (record {
   marks = with_read no_marks (OfKey main key);
   optimistic = refl;
@@ -110,12 +110,12 @@ put_tx field main index t ticket tx key new keeps reads apart has = subst (TxKee
 
 -- ---- from call to call
 
-put_ends : (field : FieldOf) (main index since : ℕ) (at new : Held) (amid after : Kept) (t u : Told) (m : Durable) (ticket : Ticket) (tx : Tx) (key : Bytes) (value : Option Bytes) (answer : Result Unit Error)
+put_ends : (field : FieldOf) (main index since : ℕ) (at new : Held) (amid after : Kept) (t u : CoreState) (m : Durable) (ticket : Ticket) (tx : Tx) (key : Bytes) (value : Option Bytes) (answer : Result Unit Error)
     → OwnKeeps → OwnReads → OwnGrows → StandsIndexed field main index since at amid u m → maps_in u.state (At ticket) ≡ (present u.state).maps
     → ((id : ℕ) → map_at (present u.state).maps id ≡ map_at (present t.state).maps id)
-    → HasWritten (begun (Some no_marks) ticket) main key (put_items field main index key (lookup (map_at (maps_in u.state (At ticket)) main) key) value) tx
+    → HasWritten (transaction_begun (Some no_marks) ticket) main key (put_items field main index key (lookup (map_at (maps_in u.state (At ticket)) main) key) value) tx
     → EndsIndexed at amid tx (Ok tt) answer new after
-    → (next : Told) × (e : Durable) × GoesOnIndexed field main index since (where_done answer (putting field main index key value) t.state) u m next e new after
+    → (next : CoreState) × (e : Durable) × GoesOnIndexed field main index since (where_done answer (putting field main index key value) t.state) u m next e new after
 put_ends field main index since at new amid after t u m ticket tx key value answer keeps reads grows all now same has ends =
     let (next, e, goes) = ends field main index since u m all (put_tx field main index u ticket tx key value keeps reads all.apart has) in
     (next, e, by answer next e goes)
@@ -126,19 +126,19 @@ put_ends field main index since at new amid after t u m ticket tx key value answ
         ∙ own_makes grows (present u.state).maps has.batch (put_items field main index key (lookup (map_at (maps_in u.state (At ticket)) main) key) value) has.of id
         ∙ ap (λ (p : Pairs). map_at (written (present u.state).maps (put_items field main index key (lookup p key) value)) id) (ap (λ (maps : FinMap nat_cmp Pairs). map_at maps main) now ∙ same main)
 
-    by : (answer : Result Unit Error) (next : Told) (e : Durable) → GoesOnIndexed field main index since (own_where_answered answer tx) u m next e new after
+    by : (answer : Result Unit Error) (next : CoreState) (e : Durable) → GoesOnIndexed field main index since (own_where_answered answer tx) u m next e new after
         → GoesOnIndexed field main index since (where_done answer (putting field main index key value) t.state) u m next e new after
     by (Ok done) next e goes = told_as field main index since new after u next m e (map item_in (items_of tx.own)) (putting field main index key value t.state) wrote goes
     by (Err error) next e goes = goes
 
 -- a transaction that began, wrote, and ended
-pub change_goes : (field : FieldOf) (main index since : ℕ) (honest : Bool) (old mid lent left at new : Held) (before amid after : Kept) (t : Told) (d : Durable) (transaction tx : Tx) (key : Bytes) (value : Option Bytes)
+pub change_goes : (field : FieldOf) (main index since : ℕ) (honest : Bool) (old mid lent left at new : Held) (before amid after : Kept) (t : CoreState) (d : Durable) (transaction tx : Tx) (key : Bytes) (value : Option Bytes)
     (done answer : Result Unit Error) → OwnKeeps → OwnReads → OwnGrows → IsTrue honest → StandsIndexed field main index since old before t d
-    → GoesOn old t (OfTickets Open) (Opened transaction.ticket) mid amid → transaction ≡ begun (Some no_marks) transaction.ticket
+    → GoesOn old t (OfTickets Open) (Opened transaction.ticket) mid amid → transaction ≡ transaction_begun (Some no_marks) transaction.ticket
     → lent ≡ mid → at ≡ left → LeavesStanding honest lent left
     → ((map : Pairs) → Shows honest lent (At transaction.ticket) main map → OnOk done (HasWritten transaction main key (put_items field main index key (lookup map key) value) tx))
     → EndsIndexed at amid tx done answer new after → OnErr done (IsErr answer)
-    → (next : Told) × (e : Durable) × GoesOnIndexed field main index since (where_done answer (putting field main index key value) t.state) t d next e new after
+    → (next : CoreState) × (e : Durable) × GoesOnIndexed field main index since (where_done answer (putting field main index key value) t.state) t d next e new after
 change_goes field main index since honest old mid lent left at new before amid after t d transaction tx key value done answer keeps reads grows h all goes fresh is given stand has ends refused =
     let (u, m, first, step) = ticket_goes field main index since old mid before amid t d Open (Opened transaction.ticket) all goes in
     let (n, second) = lent_goes field main index since honest mid lent left at amid u m h is given stand first.keeps in
@@ -150,41 +150,41 @@ change_goes field main index since honest old mid lent left at new before amid a
           (goes_then field main index since at new amid after u u next m n e (where_done answer (putting field main index key value) t.state) second third),
     )
   where
-    failed : (u : Told) (n : Durable) → StandsIndexed field main index since at amid u n → (answer : Result Unit Error) → IsErr answer
-        → ((next : Told) × (e : Durable) × GoesOnIndexed field main index since (own_where_answered answer tx) u n next e new after)
-        → (next : Told) × (e : Durable) × GoesOnIndexed field main index since (where_done answer (putting field main index key value) t.state) u n next e new after
+    failed : (u : CoreState) (n : Durable) → StandsIndexed field main index since at amid u n → (answer : Result Unit Error) → IsErr answer
+        → ((next : CoreState) × (e : Durable) × GoesOnIndexed field main index since (own_where_answered answer tx) u n next e new after)
+        → (next : CoreState) × (e : Durable) × GoesOnIndexed field main index since (where_done answer (putting field main index key value) t.state) u n next e new after
     failed u n stays (Ok _) fails goes_on = absurd (true≢false (sym fails))
     failed u n stays (Err error) fails goes_on = goes_on
 
-    by : (u : Told) (n : Durable) → StandsIndexed field main index since at amid u n → maps_in u.state (At transaction.ticket) ≡ (present u.state).maps
+    by : (u : CoreState) (n : Durable) → StandsIndexed field main index since at amid u n → maps_in u.state (At transaction.ticket) ≡ (present u.state).maps
         → ((id : ℕ) → map_at (present u.state).maps id ≡ map_at (present t.state).maps id) → (done : Result Unit Error)
         → OnOk done (HasWritten transaction main key (put_items field main index key (lookup (map_at (maps_in u.state (At transaction.ticket)) main) key) value) tx)
         → EndsIndexed at amid tx done answer new after → OnErr done (IsErr answer)
-        → (next : Told) × (e : Durable) × GoesOnIndexed field main index since (where_done answer (putting field main index key value) t.state) u n next e new after
+        → (next : CoreState) × (e : Durable) × GoesOnIndexed field main index since (where_done answer (putting field main index key value) t.state) u n next e new after
     by u n stays now same (Ok _) wrote ended _ =
         put_ends field main index since at new amid after t u n transaction.ticket tx key value answer keeps reads grows stays now same
         (subst (λ (x : Tx). HasWritten x main key (put_items field main index key (lookup (map_at (maps_in u.state (At transaction.ticket)) main) key) value) tx) fresh wrote) ended
     by u n stays now same (Err error) wrote ended fails = failed u n stays answer fails (ended field main index since u n stays tt)
 
 -- a call that is refused before it began
-pub refused_goes : {E : Type 0} (field : FieldOf) (main index since : ℕ) (old new : Held) (before after : Kept) (t : Told) (d : Durable) (reply : Reply) (answer : Result Unit E) (items : State → List Item) → IsErr answer
+pub refused_goes : {E : Type 0} (field : FieldOf) (main index since : ℕ) (old new : Held) (before after : Kept) (t : CoreState) (d : Durable) (reply : Reply) (answer : Result Unit E) (items : State → List Item) → IsErr answer
     → StandsIndexed field main index since old before t d → GoesOn old t (OfTickets Open) reply new after
-    → (next : Told) × (e : Durable) × GoesOnIndexed field main index since (where_done answer items t.state) t d next e new after
+    → (next : CoreState) × (e : Durable) × GoesOnIndexed field main index since (where_done answer items t.state) t d next e new after
 refused_goes field main index since old new before after t d reply (Ok _) items fails all goes = absurd (true≢false (sym fails))
 refused_goes field main index since old new before after t d reply (Err error) items fails all goes =
     let (next, e, gone, step) = ticket_goes field main index since old new before after t d Open reply all goes in
     (next, e, gone)
 
 -- a call that passes on a refusal
-pub passed_goes : {T F : Type 0} (field : FieldOf) (main index since : ℕ) (new : Held) (after : Kept) (t : Told) (d : Durable) (done : Result T Error) (answer : Result Unit F) (items : State → List Item) → IsErr done → IsErr answer
-    → ((next : Told) × (e : Durable) × GoesOnIndexed field main index since (where_done done items t.state) t d next e new after)
-    → (next : Told) × (e : Durable) × GoesOnIndexed field main index since (where_done answer items t.state) t d next e new after
+pub passed_goes : {T F : Type 0} (field : FieldOf) (main index since : ℕ) (new : Held) (after : Kept) (t : CoreState) (d : Durable) (done : Result T Error) (answer : Result Unit F) (items : State → List Item) → IsErr done → IsErr answer
+    → ((next : CoreState) × (e : Durable) × GoesOnIndexed field main index since (where_done done items t.state) t d next e new after)
+    → (next : CoreState) × (e : Durable) × GoesOnIndexed field main index since (where_done answer items t.state) t d next e new after
 passed_goes field main index since new after t d (Ok _) answer items fails fails_too goes = absurd (true≢false (sym fails))
 passed_goes field main index since new after t d (Err error) (Ok _) items fails fails_too goes = absurd (true≢false (sym fails_too))
 passed_goes field main index since new after t d (Err error) (Err other) items fails fails_too goes = goes
 
 -- a call that is refused before it asks the core for anything
-pub unasked_goes : {T F : Type 0} (field : FieldOf) (main index since : ℕ) (core : Held) (kept : Kept) (t : Told) (d : Durable) (answer : Result T F) (items : State → List Item) → IsErr answer
-    → StandsIndexed field main index since core kept t d → (next : Told) × (e : Durable) × GoesOnIndexed field main index since (where_done answer items t.state) t d next e core kept
+pub unasked_goes : {T F : Type 0} (field : FieldOf) (main index since : ℕ) (core : Held) (kept : Kept) (t : CoreState) (d : Durable) (answer : Result T F) (items : State → List Item) → IsErr answer
+    → StandsIndexed field main index since core kept t d → (next : CoreState) × (e : Durable) × GoesOnIndexed field main index since (where_done answer items t.state) t d next e core kept
 unasked_goes field main index since core kept t d (Ok _) items fails all = absurd (true≢false (sym fails))
 unasked_goes field main index since core kept t d (Err error) items fails all = (t, d, still_goes field main index since core kept t d all)

@@ -24,13 +24,13 @@ use Rattle.fjall_history.proofs.Growing.{no_present_conflict}
 use Rattle.fjall_machine.specs.Machine.{MayFail, Refuses, State, StepOf, due, maps_in, present}
 use Rattle.fjall_machine.specs.Reads.{IsReadRefusal}
 use Rattle.fjall_machine.specs.Shapes.{Close, OfTickets, Open}
-use Rattle.fjall_transactions.specs.Commits.{change_of}
-use Rattle.fjall_transactions.specs.CoreStanding.{Owes, ReadsOn, tables_of}
-use Rattle.fjall_transactions.specs.Holding.{Held}
-use Rattle.fjall_transactions.specs.Leaving.{LeavesStanding}
-use Rattle.fjall_transactions.specs.Shown.{ReadsKeyspace, Shows, read_due}
-use Rattle.fjall_transactions.specs.Standing.{CommitStep, GoesOn, IsCommitted, IsGone, IsIdle, IsMet, IsRefused, StandFor, Told, gone_on, history_of}
-use Rattle.fjall_transactions.specs.Transactions.{Kept, MeetsSome, Tx, begun, having_read, no_marks, with_own_items}
+use Rattle.fjall_core.specs.Commits.{change_of}
+use Rattle.fjall_core.specs.CoreStanding.{Owes, ReadsOn, tables_of}
+use Rattle.fjall_core.specs.Holding.{Held}
+use Rattle.fjall_core.specs.Leaving.{LeavesStanding}
+use Rattle.fjall_core.specs.Shown.{ReadsKeyspace, Shows, read_due}
+use Rattle.fjall_core.specs.Standing.{CommitStep, GoesOn, IsCommitted, IsGone, IsIdle, IsMet, IsRefused, StandFor, CoreState, gone_on, history_of}
+use Rattle.fjall_core.specs.Transactions.{Kept, MeetsSome, Tx, transaction_begun, having_read, no_marks, with_own_items}
 use Rattle.fjall_index_entries.specs.Index.{FieldOf}
 use Rattle.fjall_index_entries.specs.Putting.{put_items}
 use Rattle.fjall_index_entries.specs.Repairs.{AreRepairs, lacks_long}
@@ -131,7 +131,7 @@ any_error : {T : Type 0} {P : Error → Type 0} (answer : Result T Error) → ((
 any_error (Ok x) all = tt
 any_error (Err error) all = all error
 
-pub commit_cause : (t after : Told) (tx : Tx) (outcome : CommitOutcome Error) (done answer : Result Unit Error) → done ≡ Ok tt → IsAnswerOf outcome answer → CommitStep t tx outcome after → IfErr answer (IsEndRefusal t tx done)
+pub commit_cause : (t after : CoreState) (tx : Tx) (outcome : CommitOutcome Error) (done answer : Result Unit Error) → done ≡ Ok tt → IsAnswerOf outcome answer → CommitStep t tx outcome after → IfErr answer (IsEndRefusal t tx done)
 commit_cause t after tx outcome done answer ok is (IsGone none told same) = any_error answer (λ error. IsClosed none)
 commit_cause t after tx outcome done answer ok is (IsIdle instant opened none told closes same) =
     subst (λ (a : Result Unit Error). IfErr a (IsEndRefusal t tx done)) (sym (subst (λ (o : CommitOutcome Error). IsAnswerOf o answer) told is)) tt
@@ -164,13 +164,13 @@ close_none t s id error step = by (get t.tickets.instants id) refl
         let none : due t (OfTickets (Close id)) ≡ None = ap (λ (o : Option ℕ). if is_some o then None else Some SnapshotClosed) e in
         absurd (close_fails t s id error (subst (λ (first : Option Error). Refuses first (OfTickets (Close id)) error t s) none step))
 
-pub rollback_cause : (t : Told) (s : State) (tx : Tx) (done answer : Result Unit Error) (error : Error) → IsErrAnd answer (λ e. e ≡ error) → StepOf t.state (OfTickets (Close tx.ticket.id)) (Refused error) s → IfErr answer (IsEndRefusal t tx done)
+pub rollback_cause : (t : CoreState) (s : State) (tx : Tx) (done answer : Result Unit Error) (error : Error) → IsErrAnd answer (λ e. e ≡ error) → StepOf t.state (OfTickets (Close tx.ticket.id)) (Refused error) s → IfErr answer (IsEndRefusal t tx done)
 rollback_cause t s tx done answer error gives step = same_error (IsEndRefusal t tx done) answer error gives (IsClosed (close_none t.state s tx.ticket.id error step))
 
 -- ---- a call that is one transaction
 
 -- one that reads at the present meets none: it wasn't done, or its commit is refused
-once_end : (u : Told) (tx : Tx) (done : Result Unit Error) (error : Error) → commands_of u.accepted ≡ commands_of u.state.history.accepted → get u.state.tickets.instants tx.ticket.id ≡ Some (number u.state.history)
+once_end : (u : CoreState) (tx : Tx) (done : Result Unit Error) (error : Error) → commands_of u.accepted ≡ commands_of u.state.history.accepted → get u.state.tickets.instants tx.ticket.id ≡ Some (number u.state.history)
     → IsEndRefusal u tx done error → (done ≡ Err error) ⊎ ((done ≡ Ok tt) × (after : State) × StepOf u.state (change_of tx) (Refused error) after)
 once_end u tx done error same there (IsClosed none) = absurd (none-some (number u.state.history) (sym none ∙ there))
 once_end u tx done error same there (IsNotDone told) = inl told
@@ -188,11 +188,11 @@ once_end u tx done error same there (HasMet instant opened meets told) = absurd 
 once_end u tx done error same there (IsNotCommitted ok after refused) = inr (ok, after, refused)
 
 -- why it is refused that began, did its work, and ended
-pub once_cause : (honest : Bool) (old mid lent left at : Held) (before amid : Kept) (transaction tx : Tx) (done answer : Result Unit Error) (Fails : Held → Ticket → Held → Error → Type 0) (Writes : Told → Tx → Type 0) → IsTrue honest
-    → ((t : Told) → StandFor old before t → ReadsOn old t.state → GoesOn old t (OfTickets Open) (Opened transaction.ticket) mid amid) → Owes old (OfTickets Open) (Opened transaction.ticket) mid
+pub once_cause : (honest : Bool) (old mid lent left at : Held) (before amid : Kept) (transaction tx : Tx) (done answer : Result Unit Error) (Fails : Held → Ticket → Held → Error → Type 0) (Writes : CoreState → Tx → Type 0) → IsTrue honest
+    → ((t : CoreState) → StandFor old before t → ReadsOn old t.state → GoesOn old t (OfTickets Open) (Opened transaction.ticket) mid amid) → Owes old (OfTickets Open) (Opened transaction.ticket) mid
     → lent ≡ mid → at ≡ left → LeavesStanding honest lent left → tx.ticket ≡ transaction.ticket → IfErr done (Fails lent transaction.ticket left)
-    → ((u : Told) → StandFor mid amid u → ReadsOn mid u.state → maps_in u.state (At transaction.ticket) ≡ (present u.state).maps → OnOk done (Writes u tx)) → ((u : Told) → StandFor at amid u → IfErr answer (IsEndRefusal u tx done))
-    → (t : Told) → StandFor old before t → ReadsOn old t.state → IfErr answer (IsOnceRefusal t old Fails Writes)
+    → ((u : CoreState) → StandFor mid amid u → ReadsOn mid u.state → maps_in u.state (At transaction.ticket) ≡ (present u.state).maps → OnOk done (Writes u tx)) → ((u : CoreState) → StandFor at amid u → IfErr answer (IsEndRefusal u tx done))
+    → (t : CoreState) → StandFor old before t → ReadsOn old t.state → IfErr answer (IsOnceRefusal t old Fails Writes)
 once_cause honest old mid lent left at before amid transaction tx done (Ok x) Fails Writes h goes owes is given stand ticket refused writes ends t stood read = tt
 once_cause honest old mid lent left at before amid transaction tx done (Err error) Fails Writes h goes owes is given stand ticket refused writes ends t stood read =
     let (s, stands, reads, step, led) = goes t stood read in
@@ -202,7 +202,7 @@ once_cause honest old mid lent left at before amid transaction tx done (Err erro
     by done u stands.same (subst (λ (c : Held). IfErr done (Fails c transaction.ticket left)) is refused)
     (writes u stands reads (opened_shows t.state s transaction.ticket step)) (ap latest (ticket_history t.state s Open (Opened transaction.ticket) step)) there (ends u (stays u stands leaves))
   where
-    stays : (u : Told) → StandFor mid amid u → LeavesStanding honest mid at → StandFor at amid u
+    stays : (u : CoreState) → StandFor mid amid u → LeavesStanding honest mid at → StandFor at amid u
     stays u stands leaves = record {
       machine = leaves.stands u.state stands.machine;
       same = stands.same;
@@ -213,7 +213,7 @@ once_cause honest old mid lent left at before amid transaction tx done (Err erro
       keeps = stands.keeps;
     }
 
-    by : (done : Result Unit Error) (u : Told) → commands_of u.accepted ≡ commands_of u.state.history.accepted → IfErr done (Fails mid transaction.ticket left) → OnOk done (Writes u tx) → present u.state ≡ present t.state
+    by : (done : Result Unit Error) (u : CoreState) → commands_of u.accepted ≡ commands_of u.state.history.accepted → IfErr done (Fails mid transaction.ticket left) → OnOk done (Writes u tx) → present u.state ≡ present t.state
         → get u.state.tickets.instants tx.ticket.id ≡ Some (number u.state.history) → IsEndRefusal u tx done error → IsOnceRefusal t old Fails Writes error
     by done u same fails wrote now there end = elim (once_end u tx done error same there end) [
       | inl told ↦ IsNotWritten transaction.ticket mid left owes (subst (λ (r : Result Unit Error). IfErr r (Fails mid transaction.ticket left)) told fails)
@@ -222,26 +222,26 @@ once_cause honest old mid lent left at before amid transaction tx done (Err erro
 
 -- what a put writes, seen by a transaction that reads the present
 pub put_writes : (field : FieldOf) (main index : ℕ) (key : Bytes) (value : Option Bytes) (honest : Bool) (mid lent : Held) (amid : Kept) (transaction tx : Tx) (done : Result Unit Error) → IsTrue honest → lent ≡ mid
-    → transaction ≡ begun (Some no_marks) transaction.ticket → tx.ticket ≡ transaction.ticket
+    → transaction ≡ transaction_begun (Some no_marks) transaction.ticket → tx.ticket ≡ transaction.ticket
     → ((pairs : Pairs) → Shows honest lent (At transaction.ticket) main pairs → OnOk done (HasWritten transaction main key (put_items field main index key (lookup pairs key) value) tx))
-    → (u : Told) → StandFor mid amid u → ReadsOn mid u.state → maps_in u.state (At transaction.ticket) ≡ (present u.state).maps → OnOk done (HasPut field main index key value u tx)
+    → (u : CoreState) → StandFor mid amid u → ReadsOn mid u.state → maps_in u.state (At transaction.ticket) ≡ (present u.state).maps → OnOk done (HasPut field main index key value u tx)
 put_writes field main index key value honest mid lent amid transaction tx done h is fresh ticket written u stands reads now =
     on_ok done (λ has. record {
       batch = has.batch;
       of = has.of ∙ ap (λ (m : FinMap nat_cmp Pairs). put_items field main index key (lookup (map_at m main) key) value) now;
-      is = has.is ∙ ap (λ (k : Tx). with_own_items (having_read k (OfKey main key)) has.batch) (fresh ∙ ap (λ (k : Ticket). begun (Some no_marks) k) (sym ticket));
+      is = has.is ∙ ap (λ (k : Tx). with_own_items (having_read k (OfKey main key)) has.batch) (fresh ∙ ap (λ (k : Ticket). transaction_begun (Some no_marks) k) (sym ticket));
     }) (written (map_at (maps_in u.state (At transaction.ticket)) main) (shows honest mid lent (At transaction.ticket) u.state main h is stands.machine reads))
 
 -- what a rebuilding writes, seen so
 pub rebuilt_writes : (field : FieldOf) (main index : ℕ) (honest : Bool) (mid lent : Held) (amid : Kept) (transaction tx : Tx) (done : Result Unit Error) → IsTrue honest → lent ≡ mid
-    → transaction ≡ begun (Some no_marks) transaction.ticket → tx.ticket ≡ transaction.ticket
+    → transaction ≡ transaction_begun (Some no_marks) transaction.ticket → tx.ticket ≡ transaction.ticket
     → ((pairs found : Pairs) → Shows honest lent (At transaction.ticket) main pairs → Shows honest lent (At transaction.ticket) index found → OnOk done (HasRepaired field main index pairs found transaction tx))
-    → (u : Told) → StandFor mid amid u → ReadsOn mid u.state → maps_in u.state (At transaction.ticket) ≡ (present u.state).maps → OnOk done (HasRebuilt field main index u tx)
+    → (u : CoreState) → StandFor mid amid u → ReadsOn mid u.state → maps_in u.state (At transaction.ticket) ≡ (present u.state).maps → OnOk done (HasRebuilt field main index u tx)
 rebuilt_writes field main index honest mid lent amid transaction tx done h is fresh ticket repaired u stands reads now =
     let seen = maps_in u.state (At transaction.ticket) in
     let shown : (id : ℕ) → Shows honest lent (At transaction.ticket) id (map_at seen id) = λ id. shows honest mid lent (At transaction.ticket) u.state id h is stands.machine reads in
     on_ok done (λ has. record {
       batch = has.batch;
       repairs = subst (λ (m : FinMap nat_cmp Pairs). AreRepairs field index (map_at m main) (map_at m index) (map item_in has.batch)) now has.repairs;
-      is = has.is ∙ ap (λ (k : Tx). with_own_items (having_read (having_read k (whole main)) (whole index)) has.batch) (fresh ∙ ap (λ (k : Ticket). begun (Some no_marks) k) (sym ticket));
+      is = has.is ∙ ap (λ (k : Tx). with_own_items (having_read (having_read k (whole main)) (whole index)) has.batch) (fresh ∙ ap (λ (k : Ticket). transaction_begun (Some no_marks) k) (sym ticket));
     }) (repaired (map_at seen main) (map_at seen index) (shown main) (shown index))

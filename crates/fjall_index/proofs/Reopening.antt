@@ -7,10 +7,10 @@ use Rattle.fjall_history.proofs.Moving.{sound_move, sound_opening}
 use Rattle.fjall_history.proofs.Views.{view_of_all}
 use Rattle.fjall_history.specs.Tickets.{collected, no_tickets}
 use Rattle.fjall_machine.specs.Machine.{State, times}
-use Rattle.fjall_transactions.specs.Holding.{Held}
-use Rattle.fjall_transactions.specs.Openings.{OpensAs}
-use Rattle.fjall_transactions.specs.Transactions.{none_kept}
-use Rattle.fjall_transactions.proofs.Standing.{opening_stands}
+use Rattle.fjall_core.specs.Holding.{Held}
+use Rattle.fjall_core.specs.Openings.{OpensAs}
+use Rattle.fjall_core.specs.Transactions.{none_kept}
+use Rattle.fjall_core.proofs.Standing.{opening_stands}
 use Rattle.fjall_index_entries.specs.Index.{FieldOf}
 use Rattle.fjall_index_entries.specs.Keeping.{IsIndexed, IsIndexedAmid}
 use Rattle.fjall_index_entries.proofs.Keeps.{kept_indexed}

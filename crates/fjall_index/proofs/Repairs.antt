@@ -19,13 +19,13 @@ use Rattle.fjall_history.specs.declared.ticket.View.TheVariants.{At}
 use Rattle.fjall_machine.specs.Machine.{State, maps_in, present, times}
 use Rattle.fjall_machine.specs.Shapes.{OfTickets, Open}
 use Rattle.fjall_machine.proofs.Moving.{shape_moves}
-use Rattle.fjall_transactions.specs.CoreStanding.{ReadsOn}
-use Rattle.fjall_transactions.specs.Durables.{Durable}
-use Rattle.fjall_transactions.specs.Holding.{Held}
-use Rattle.fjall_transactions.specs.Leaving.{LeavesStanding}
-use Rattle.fjall_transactions.specs.Shown.{Shows}
-use Rattle.fjall_transactions.specs.Standing.{GoesOn, StandFor, Told, gone_on}
-use Rattle.fjall_transactions.specs.Transactions.{Kept, Tx, begun, having_read, no_marks}
+use Rattle.fjall_core.specs.CoreStanding.{ReadsOn}
+use Rattle.fjall_core.specs.Durables.{Durable}
+use Rattle.fjall_core.specs.Holding.{Held}
+use Rattle.fjall_core.specs.Leaving.{LeavesStanding}
+use Rattle.fjall_core.specs.Shown.{Shows}
+use Rattle.fjall_core.specs.Standing.{GoesOn, StandFor, CoreState, gone_on}
+use Rattle.fjall_core.specs.Transactions.{Kept, Tx, transaction_begun, having_read, no_marks}
 use Rattle.fjall_index_entries.specs.Index.{FieldOf, index_of}
 use Rattle.fjall_index_entries.specs.Keeping.{AreRead, IsIndexed, KeepsIndex}
 use Rattle.fjall_index_entries.specs.Repairs.{AreRepairs}
@@ -80,7 +80,7 @@ idle field main index pairs found tx old alone none has right =
     by [] e = refl
     by (item ∷ items) e = let bad : ⊥ = cc in absurd bad
 
-idle_tx : (field : FieldOf) (main index : ℕ) (t : Told) (pairs found : Pairs) (tx old : Tx) → old ≡ begun (Some no_marks) old.ticket → HasRepaired field main index pairs found old tx → items_of tx.own ≡ [] → TxKeepsIndex field main index t tx
+idle_tx : (field : FieldOf) (main index : ℕ) (t : CoreState) (pairs found : Pairs) (tx old : Tx) → old ≡ transaction_begun (Some no_marks) old.ticket → HasRepaired field main index pairs found old tx → items_of tx.own ≡ [] → TxKeepsIndex field main index t tx
 idle_tx field main index t pairs found tx old fresh has none = record {
   marks = marks;
   optimistic = ap (λ (x : Tx). x.marks) has.is ∙ ap (λ (x : Tx). (having_read (having_read x (whole main)) (whole index)).marks) fresh;
@@ -104,7 +104,7 @@ rebuild_rests field main index core kept (Err error) fails t stands reads = (
 
 -- or as its ticket was opened
 pub rebuild_refused : {T E : Type 0} (field : FieldOf) (main index : ℕ) (old new : Held) (before after : Kept) (reply : Reply) (answer : Result T E)
-    → ((t : Told) → StandFor old before t → ReadsOn old t.state → GoesOn old t (OfTickets Open) reply new after) → IsErr answer → Rebuilds field main index old before answer new after
+    → ((t : CoreState) → StandFor old before t → ReadsOn old t.state → GoesOn old t (OfTickets Open) reply new after) → IsErr answer → Rebuilds field main index old before answer new after
 rebuild_refused field main index old new before after reply (Ok _) goes fails t stood read = absurd (true≢false (sym fails))
 rebuild_refused field main index old new before after reply (Err error) goes fails t stood read =
     let (s, stands, reads, step, led) = goes t stood read in
@@ -130,7 +130,7 @@ rebuilt_as field main index old new before after (Err _) (Err e) ok err rebuilds
 
 -- a transaction that began, repaired, and ended
 pub rebuild_answers : (field : FieldOf) (main index : ℕ) (honest : Bool) (old mid lent left at new : Held) (before amid after : Kept) (transaction tx : Tx) (done answer : Result Unit Error) → OwnGrows → OthersStay → IsTrue honest → main ≢ index
-    → ((t : Told) → StandFor old before t → ReadsOn old t.state → GoesOn old t (OfTickets Open) (Opened transaction.ticket) mid amid) → transaction ≡ begun (Some no_marks) transaction.ticket
+    → ((t : CoreState) → StandFor old before t → ReadsOn old t.state → GoesOn old t (OfTickets Open) (Opened transaction.ticket) mid amid) → transaction ≡ transaction_begun (Some no_marks) transaction.ticket
     → lent ≡ mid → at ≡ left → LeavesStanding honest lent left
     → ((pairs found : Pairs) → Shows honest lent (At transaction.ticket) main pairs → Shows honest lent (At transaction.ticket) index found → OnOk done (HasRepaired field main index pairs found transaction tx))
     → EndsAnswered at amid tx done answer new after → OnErr done (IsErr answer) → Rebuilds field main index old before answer new after
@@ -163,7 +163,7 @@ rebuild_answers field main index honest old mid lent left at new before amid aft
       keeps = stands.keeps;
     }
 
-    outcome : (s : State) (next : Told) → maps_in s (At transaction.ticket) ≡ (present s).maps → (done answer : Result Unit Error)
+    outcome : (s : State) (next : CoreState) → maps_in s (At transaction.ticket) ≡ (present s).maps → (done answer : Result Unit Error)
         → OnOk done (HasRepaired field main index (map_at (maps_in s (At transaction.ticket)) main) (map_at (maps_in s (At transaction.ticket)) index) transaction tx) → OnErr done (IsErr answer)
         → HasWrittenTo (gone_on t s) (own_where_answered answer tx) next → IsRebuilt field main index answer (present s) (present next.state)
     outcome s next now (Ok _) (Ok _) repairs ok wrote =
@@ -174,11 +174,11 @@ rebuild_answers field main index honest old mid lent left at new before amid aft
     outcome s next now (Err _) (Err error) repairs fails wrote = record { indexed = tt; others = λ id other. wrote id; same = wrote index }
 
 -- one over which the index is kept already: nothing is written
-pub rebuild_keeps : (field : FieldOf) (main index since : ℕ) (honest : Bool) (old mid lent left at new : Held) (before amid after : Kept) (t : Told) (d : Durable) (transaction tx : Tx) (done answer : Result Unit Error)
-    → LeftAlone → IsTrue honest → StandsIndexed field main index since old before t d → GoesOn old t (OfTickets Open) (Opened transaction.ticket) mid amid → transaction ≡ begun (Some no_marks) transaction.ticket
+pub rebuild_keeps : (field : FieldOf) (main index since : ℕ) (honest : Bool) (old mid lent left at new : Held) (before amid after : Kept) (t : CoreState) (d : Durable) (transaction tx : Tx) (done answer : Result Unit Error)
+    → LeftAlone → IsTrue honest → StandsIndexed field main index since old before t d → GoesOn old t (OfTickets Open) (Opened transaction.ticket) mid amid → transaction ≡ transaction_begun (Some no_marks) transaction.ticket
     → lent ≡ mid → at ≡ left → LeavesStanding honest lent left
     → ((pairs found : Pairs) → Shows honest lent (At transaction.ticket) main pairs → Shows honest lent (At transaction.ticket) index found → OnOk done (HasRepaired field main index pairs found transaction tx))
-    → EndsIndexed at amid tx done answer new after → OnErr done (IsErr answer) → (next : Told) × (e : Durable) × GoesOnIndexed field main index since [] t d next e new after
+    → EndsIndexed at amid tx done answer new after → OnErr done (IsErr answer) → (next : CoreState) × (e : Durable) × GoesOnIndexed field main index since [] t d next e new after
 rebuild_keeps field main index since honest old mid lent left at new before amid after t d transaction tx done answer alone h all goes fresh is given stand has ends refused =
     let (u, m, first, step) = ticket_goes field main index since old mid before amid t d Open (Opened transaction.ticket) all goes in
     let (n, second) = lent_goes field main index since honest mid lent left at amid u m h is given stand first.keeps in
@@ -197,13 +197,13 @@ rebuild_keeps field main index since honest old mid lent left at new before amid
     refused_none (Ok _) fails = absurd (true≢false (sym fails))
     refused_none (Err error) fails = refl
 
-    as_none : (u : Told) (n : Durable) → own_where_answered answer tx ≡ [] → ((next : Told) × (e : Durable) × GoesOnIndexed field main index since (own_where_answered answer tx) u n next e new after)
-        → (next : Told) × (e : Durable) × GoesOnIndexed field main index since [] u n next e new after
+    as_none : (u : CoreState) (n : Durable) → own_where_answered answer tx ≡ [] → ((next : CoreState) × (e : Durable) × GoesOnIndexed field main index since (own_where_answered answer tx) u n next e new after)
+        → (next : CoreState) × (e : Durable) × GoesOnIndexed field main index since [] u n next e new after
     as_none u n none (next, e, goes_on) = (next, e, subst (λ (l : List Item). GoesOnIndexed field main index since l u n next e new after) none goes_on)
 
-    by : (u : Told) (n : Durable) → StandsIndexed field main index since at amid u n → (pairs found : Pairs) → found ≡ index_of field pairs → (done : Result Unit Error)
+    by : (u : CoreState) (n : Durable) → StandsIndexed field main index since at amid u n → (pairs found : Pairs) → found ≡ index_of field pairs → (done : Result Unit Error)
         → OnOk done (HasRepaired field main index pairs found transaction tx) → EndsIndexed at amid tx done answer new after → OnErr done (IsErr answer)
-        → (next : Told) × (e : Durable) × GoesOnIndexed field main index since [] u n next e new after
+        → (next : CoreState) × (e : Durable) × GoesOnIndexed field main index since [] u n next e new after
     by u n stays pairs found right (Ok _) repairs ended _ =
         let none = idle field main index pairs found tx transaction alone (ap (λ (x : Tx). x.own) fresh) repairs right in
         as_none u n (none_where answer none) (ended field main index since u n stays (idle_tx field main index u pairs found tx transaction fresh repairs none))

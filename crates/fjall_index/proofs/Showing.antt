@@ -4,9 +4,9 @@ use Rattle.fjall_base.specs.Pairs.{Pairs}
 use Rattle.fjall_base.specs.Store.{map_at}
 use Rattle.fjall_history.specs.declared.ticket.View.{View}
 use Rattle.fjall_machine.specs.Machine.{State, maps_in}
-use Rattle.fjall_transactions.specs.Holding.{Held}
-use Rattle.fjall_transactions.specs.CoreStanding.{ReadsOn, StandsFor}
-use Rattle.fjall_transactions.specs.Shown.{Shows}
+use Rattle.fjall_core.specs.Holding.{Held}
+use Rattle.fjall_core.specs.CoreStanding.{ReadsOn, StandsFor}
+use Rattle.fjall_core.specs.Shown.{Shows}
 
 -- a state is shown, by a core that was lent
 pub shows : (honest : Bool) (old core : Held) (view : View) (s : State) (id : ℕ) → IsTrue honest → core ≡ old → StandsFor old s → ReadsOn old s → Shows honest core view id (map_at (maps_in s view) id)

@@ -13,8 +13,8 @@ use Rattle.fjall_tx.specs.declared.outcome.CommitOutcome.{CommitOutcome}
 use Rattle.fjall_tx.specs.declared.outcome.CommitOutcome.TheVariants as outcomes
 use Rattle.fjall_history.specs.Histories.{view}
 use Rattle.fjall_history.specs.Serial.{value_at}
-use Rattle.fjall_transactions.specs.Standing.{Told}
-use Rattle.fjall_transactions.specs.Transactions.{having_read}
+use Rattle.fjall_core.specs.Standing.{CoreState}
+use Rattle.fjall_core.specs.Transactions.{having_read}
 use Rattle.fjall_index_entries.specs.Index.{FieldOf}
 use Rattle.fjall_index_entries.specs.Putting.{put_items}
 use Rattle.fjall_index_entries.specs.declared.error.IndexError.{IndexError}
@@ -45,7 +45,7 @@ pub record IsPut (field : FieldOf) (main index : ℕ) (s : Store) (change : Chan
 
 -- An open transaction of the index: it is optimistic, has written nothing yet, marked the keys that it changed as read, and keeps for each what its new value
 -- writes, where it has had the one of the instant at which the transaction began, as long as that is open.
-pub record IsIndexedTx (field : FieldOf) (main index : ℕ) (t : Told) (tx : IndexedTx) : Type 0 where
+pub record IsIndexedTx (field : FieldOf) (main index : ℕ) (t : CoreState) (tx : IndexedTx) : Type 0 where
   pub marks : Marks
   pub optimistic : tx.transaction.marks ≡ Some marks
   pub none : tx.transaction.own ≡ empty

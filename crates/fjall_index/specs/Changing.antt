@@ -17,11 +17,11 @@ use Rattle.fjall_history.specs.Serial.{value_at}
 use Rattle.fjall_history.specs.declared.reply.Reply.TheVariants.{Done, Refused}
 use Rattle.fjall_machine.specs.Machine.{present}
 use Rattle.fjall_machine.specs.Shapes.{Close, OfTickets}
-use Rattle.fjall_transactions.specs.Durables.{Durable}
-use Rattle.fjall_transactions.specs.Holding.{Held}
-use Rattle.fjall_transactions.specs.CoreStanding.{Owes, ReadsOn}
-use Rattle.fjall_transactions.specs.Standing.{StandFor, Told}
-use Rattle.fjall_transactions.specs.Transactions.{Kept, Tx, having_read, with_own_items}
+use Rattle.fjall_core.specs.Durables.{Durable}
+use Rattle.fjall_core.specs.Holding.{Held}
+use Rattle.fjall_core.specs.CoreStanding.{Owes, ReadsOn}
+use Rattle.fjall_core.specs.Standing.{StandFor, CoreState}
+use Rattle.fjall_core.specs.Transactions.{Kept, Tx, having_read, with_own_items}
 use Rattle.fjall_index_entries.specs.Index.{FieldOf}
 use Rattle.fjall_index_entries.specs.Keeping.{AreRead, KeepsIndex}
 use Rattle.fjall_index.specs.Opening.{Arrives}
@@ -29,7 +29,7 @@ use Rattle.fjall_index.specs.Standing.{GoesOnIndexed, StandsIndexed}
 
 -- An optimistic transaction whose own writes keep the index, wherever each key of the main keyspace that they write has what it had at the instant at which the
 -- transaction began, as long as it is open; and each of these it marked as read.
-pub record TxKeepsIndex (field : FieldOf) (main index : ℕ) (t : Told) (tx : Tx) : Type 0 where
+pub record TxKeepsIndex (field : FieldOf) (main index : ℕ) (t : CoreState) (tx : Tx) : Type 0 where
   pub marks : Marks
   pub optimistic : tx.marks ≡ Some marks
   pub read : (instant : ℕ) → get t.state.tickets.instants tx.ticket.id ≡ Some instant → AreRead (map item_in (items_of tx.own)) main marks.reads
@@ -63,14 +63,14 @@ own_where_answered (Err error) tx = []
 -- it is refused.
 abbrev pub EndsIndexed : Held → Kept → Tx → Result Unit Error → Result Unit Error → Held → Kept → Type 0
 EndsIndexed old before tx done answer new after =
-    (field : FieldOf) (main index since : ℕ) (t : Told) (d : Durable) → StandsIndexed field main index since old before t d → OnOk done (TxKeepsIndex field main index t tx)
-    → (next : Told) × (e : Durable) × GoesOnIndexed field main index since (own_where_answered answer tx) t d next e new after
+    (field : FieldOf) (main index since : ℕ) (t : CoreState) (d : Durable) → StandsIndexed field main index since old before t d → OnOk done (TxKeepsIndex field main index t tx)
+    → (next : CoreState) × (e : Durable) × GoesOnIndexed field main index since (own_where_answered answer tx) t d next e new after
 
 -- So it ends whatever is kept: the present has behind it what the transaction writes that is answered so. One whose own writes were refused is.
 abbrev pub EndsAnswered : Held → Kept → Tx → Result Unit Error → Result Unit Error → Held → Kept → Type 0
 EndsAnswered old before tx done answer new after =
-    (t : Told) → StandFor old before t → ReadsOn old t.state
-    → (next : Told) × Arrives t next new after × ((id : ℕ) → map_at (present next.state).maps id ≡ map_at (written (present t.state).maps (own_where_answered answer tx)) id)
+    (t : CoreState) → StandFor old before t → ReadsOn old t.state
+    → (next : CoreState) × Arrives t next new after × ((id : ℕ) → map_at (present next.state).maps id ≡ map_at (written (present t.state).maps (own_where_answered answer tx)) id)
 
 -- A transaction's end without its own writes, answered so: the engine owes what closing its ticket does.
 abbrev pub RollsBack : Held → ℕ → Result Unit IndexError → Held → Type 0

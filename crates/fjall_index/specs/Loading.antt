@@ -7,10 +7,10 @@ use Rattle.std.specs.Ordering.{nat_cmp}
 use Rattle.fjall_base.specs.Pairs.{Bytes, Pairs, altered, byte_order}
 use Rattle.fjall_base.specs.Store.{map_at, written}
 use Rattle.fjall_journal.specs.Ops.{item_in}
-use Rattle.fjall_transactions.specs.Durables.{Durable}
-use Rattle.fjall_transactions.specs.Holding.{Held}
-use Rattle.fjall_transactions.specs.Standing.{Told}
-use Rattle.fjall_transactions.specs.Transactions.{Kept}
+use Rattle.fjall_core.specs.Durables.{Durable}
+use Rattle.fjall_core.specs.Holding.{Held}
+use Rattle.fjall_core.specs.Standing.{CoreState}
+use Rattle.fjall_core.specs.Transactions.{Kept}
 use Rattle.fjall_index_entries.specs.Index.{FieldOf}
 use Rattle.fjall_index_entries.specs.declared.error.IndexError.{IndexError}
 use Rattle.fjall_index.specs.declared.indexed_tx.IndexedTx.{IndexedTx}
@@ -38,6 +38,6 @@ pub record AreLoads (main index : ℕ) (changes : List Change) (pairs : List (By
 -- index, and where it is done, what it keeps makes what these pairs make behind those of which it made that before.
 abbrev pub KeepsPairs : FieldOf → ℕ → ℕ → List (Bytes × Bytes) → IndexedTx → Result Unit IndexError → IndexedTx → Held → Kept → Held → Kept → Type 0
 KeepsPairs field main index pairs tx done next old before new after =
-    (since : ℕ) (t : Told) (d : Durable) → StandsIndexed field main index since old before t d
+    (since : ℕ) (t : CoreState) (d : Durable) → StandsIndexed field main index since old before t d
     → (e : Durable) × GoesOnIndexed field main index since [] t d t e new after × (IsIndexedTx field main index t tx → IsIndexedTx field main index t next)
     × OnOk done ((earlier : List (Bytes × Bytes)) → AreLoads main index tx.changes.entries earlier → AreLoads main index next.changes.entries (earlier ++ pairs))

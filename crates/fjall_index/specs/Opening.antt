@@ -5,17 +5,17 @@ use Rattle.fjall_base.specs.Pairs.{Bytes}
 use Rattle.fjall_base.specs.Store.{Store}
 use Rattle.fjall_history.specs.Moves.{MovesOn}
 use Rattle.fjall_machine.specs.Machine.{present, times}
-use Rattle.fjall_transactions.specs.Durables.{Durable}
-use Rattle.fjall_transactions.specs.Holding.{Held}
-use Rattle.fjall_transactions.specs.CoreStanding.{ReadsOn}
-use Rattle.fjall_transactions.specs.Standing.{StandFor, Told}
-use Rattle.fjall_transactions.specs.Transactions.{Kept}
+use Rattle.fjall_core.specs.Durables.{Durable}
+use Rattle.fjall_core.specs.Holding.{Held}
+use Rattle.fjall_core.specs.CoreStanding.{ReadsOn}
+use Rattle.fjall_core.specs.Standing.{StandFor, CoreState}
+use Rattle.fjall_core.specs.Transactions.{Kept}
 use Rattle.fjall_index_entries.specs.Index.{FieldOf}
 use Rattle.fjall_index_entries.specs.Keeping.{IsIndexed}
 use Rattle.fjall_index.specs.Standing.{StandsIndexed, StaysIndexed}
 
 -- From the first state the core has gone on to the other, and no keyspace has lost its name.
-pub record Arrives (t next : Told) (core : Held) (kept : Kept) : Type 0 where
+pub record Arrives (t next : CoreState) (core : Held) (kept : Kept) : Type 0 where
   pub stands : StandFor core kept next
   pub reads : ReadsOn core next.state
   pub moves : MovesOn (times t.state) (times next.state)
@@ -23,13 +23,13 @@ pub record Arrives (t next : Told) (core : Held) (kept : Kept) : Type 0 where
 
 -- So it goes on from whichever state it stood for, to one whose store has this.
 abbrev pub ArrivesAt : Held → Kept → Held → Kept → (Store → Type 0) → Type 0
-ArrivesAt old before new after P = (t : Told) → StandFor old before t → ReadsOn old t.state → (next : Told) × Arrives t next new after × P (present next.state)
+ArrivesAt old before new after P = (t : CoreState) → StandFor old before t → ReadsOn old t.state → (next : CoreState) × Arrives t next new after × P (present next.state)
 
 -- Whichever index was kept is kept still.
 abbrev pub KeepsAny : Held → Kept → Held → Kept → Type 0
 KeepsAny old before new after =
-    (field : FieldOf) (main index since : ℕ) (t : Told) (d : Durable) → StandsIndexed field main index since old before t d
-    → (next : Told) × (e : Durable) × StaysIndexed field main index since t d next e new after
+    (field : FieldOf) (main index since : ℕ) (t : CoreState) (d : Durable) → StandsIndexed field main index since old before t d
+    → (next : CoreState) × (e : Durable) × StaysIndexed field main index since t d next e new after
 
 -- the keyspaces of these ids have these names
 pub record AreNamed (main index : Bytes) (ids : ℕ × ℕ) (s : Store) : Type 0 where

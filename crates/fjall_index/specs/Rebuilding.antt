@@ -6,10 +6,10 @@ use Rattle.fjall_base.specs.Store.{Store, map_at}
 use Rattle.fjall_journal.specs.Ops.{BatchItem, item_in}
 use Rattle.fjall_tx.specs.Marks.{Mark, OfRange}
 use Rattle.fjall_machine.specs.Machine.{present}
-use Rattle.fjall_transactions.specs.CoreStanding.{ReadsOn}
-use Rattle.fjall_transactions.specs.Holding.{Held}
-use Rattle.fjall_transactions.specs.Standing.{StandFor, Told}
-use Rattle.fjall_transactions.specs.Transactions.{Kept, Tx, having_read, with_own_items}
+use Rattle.fjall_core.specs.CoreStanding.{ReadsOn}
+use Rattle.fjall_core.specs.Holding.{Held}
+use Rattle.fjall_core.specs.Standing.{StandFor, CoreState}
+use Rattle.fjall_core.specs.Transactions.{Kept, Tx, having_read, with_own_items}
 use Rattle.fjall_index_entries.specs.Index.{FieldOf}
 use Rattle.fjall_index_entries.specs.Keeping.{IsIndexed}
 use Rattle.fjall_index_entries.specs.Repairs.{AreRepairs}
@@ -36,4 +36,4 @@ pub record IsRebuilt {T E : Type 0} (field : FieldOf) (main index : ℕ) (answer
 -- so it goes on from whichever state the core stood for
 abbrev pub Rebuilds : {T E : Type 0} → FieldOf → ℕ → ℕ → Held → Kept → Result T E → Held → Kept → Type 0
 Rebuilds field main index old before answer new after =
-    (t : Told) → StandFor old before t → ReadsOn old t.state → (next : Told) × Arrives t next new after × IsRebuilt field main index answer (present t.state) (present next.state)
+    (t : CoreState) → StandFor old before t → ReadsOn old t.state → (next : CoreState) × Arrives t next new after × IsRebuilt field main index answer (present t.state) (present next.state)

@@ -17,12 +17,12 @@ use Rattle.fjall_history.specs.declared.ticket.View.{View}
 use Rattle.fjall_history.specs.declared.ticket.View.TheVariants.{At}
 use Rattle.fjall_machine.specs.Machine.{State, StepOf, present}
 use Rattle.fjall_machine.specs.Shapes.{OfTickets, Open}
-use Rattle.fjall_transactions.specs.Commits.{change_of}
-use Rattle.fjall_transactions.specs.CoreStanding.{Owes}
-use Rattle.fjall_transactions.specs.Holding.{Held}
-use Rattle.fjall_transactions.specs.Shown.{IsReaderRefusal, IsRefusedFor, Shows}
-use Rattle.fjall_transactions.specs.Standing.{CommitStep, StandFor, Told, history_of}
-use Rattle.fjall_transactions.specs.Transactions.{Kept, MeetsSome, Tx, begun, no_marks, with_own_items}
+use Rattle.fjall_core.specs.Commits.{change_of}
+use Rattle.fjall_core.specs.CoreStanding.{Owes}
+use Rattle.fjall_core.specs.Holding.{Held}
+use Rattle.fjall_core.specs.Shown.{IsReaderRefusal, IsRefusedFor, Shows}
+use Rattle.fjall_core.specs.Standing.{CommitStep, StandFor, CoreState, history_of}
+use Rattle.fjall_core.specs.Transactions.{Kept, MeetsSome, Tx, transaction_begun, no_marks, with_own_items}
 use Rattle.fjall_index_entries.specs.Index.{FieldOf, field_in}
 use Rattle.fjall_index_entries.specs.Putting.{has_long_entry, put_items}
 use Rattle.fjall_index_entries.specs.Repairs.{AreRepairs, lacks_long}
@@ -104,7 +104,7 @@ IsRepairRefusal honest field main index old ticket left error =
 
 -- Why the end of a transaction is refused that is committed where its own writes are done: its ticket isn't open; they weren't done; it met one that committed
 -- meanwhile; or its commit is refused.
-pub data IsEndRefusal (t : Told) (tx : Tx) (done : Result Unit Error) (error : Error) : Type 0 where
+pub data IsEndRefusal (t : CoreState) (tx : Tx) (done : Result Unit Error) (error : Error) : Type 0 where
   IsClosed : (none : get t.state.tickets.instants tx.ticket.id ≡ None) → IsEndRefusal t tx done error
   IsNotDone : (told : done ≡ Err error) → IsEndRefusal t tx done error
   HasMet : (instant : ℕ) (opened : get t.state.tickets.instants tx.ticket.id ≡ Some instant) (meets : MeetsSome instant tx.marks (commits (history_of t))) (told : error ≡ TransactionOpen) → IsEndRefusal t tx done error
@@ -112,33 +112,33 @@ pub data IsEndRefusal (t : Told) (tx : Tx) (done : Result Unit Error) (error : E
 
 -- Why a call is refused that is one transaction, which begins at the present and meets no other: its ticket isn't opened; what it is to write is refused, or
 -- isn't accepted.
-pub data IsOnceRefusal (t : Told) (old : Held) (IsRefused : Held → Ticket → Held → Error → Type 0) (Writes : Told → Tx → Type 0) (error : Error) : Type 0 where
+pub data IsOnceRefusal (t : CoreState) (old : Held) (IsRefused : Held → Ticket → Held → Error → Type 0) (Writes : CoreState → Tx → Type 0) (error : Error) : Type 0 where
   IsNotBegun : (mid : Held) (owes : Owes old (OfTickets Open) (Refused error) mid) → IsOnceRefusal t old IsRefused Writes error
   IsNotWritten : (ticket : Ticket) (mid left : Held) (begins : Owes old (OfTickets Open) (Opened ticket) mid) (cause : IsRefused mid ticket left error) → IsOnceRefusal t old IsRefused Writes error
-  IsNotAccepted : (u : Told) (tx : Tx) (same : present u.state ≡ present t.state) (writes : Writes u tx) (after : State) (refused : StepOf u.state (change_of tx) (Refused error) after) → IsOnceRefusal t old IsRefused Writes error
+  IsNotAccepted : (u : CoreState) (tx : Tx) (same : present u.state ≡ present t.state) (writes : Writes u tx) (after : State) (refused : StepOf u.state (change_of tx) (Refused error) after) → IsOnceRefusal t old IsRefused Writes error
 
 -- a transaction that has written what a key's new value, or none, does, where the present has its old one
-abbrev pub HasPut : FieldOf → ℕ → ℕ → Bytes → Option Bytes → Told → Tx → Type 0
-HasPut field main index key new t tx = HasWritten (begun (Some no_marks) tx.ticket) main key (putting field main index key new t.state) tx
+abbrev pub HasPut : FieldOf → ℕ → ℕ → Bytes → Option Bytes → CoreState → Tx → Type 0
+HasPut field main index key new t tx = HasWritten (transaction_begun (Some no_marks) tx.ticket) main key (putting field main index key new t.state) tx
 
 -- so a change of a key is refused
-abbrev pub IsPutRefusal : Bool → FieldOf → ℕ → ℕ → Held → Told → Bytes → Option Bytes → Error → Type 0
+abbrev pub IsPutRefusal : Bool → FieldOf → ℕ → ℕ → Held → CoreState → Bytes → Option Bytes → Error → Type 0
 IsPutRefusal honest field main index old t key new error =
     IsOnceRefusal t old (λ mid ticket left e. IsWriteRefusal honest field main index mid ticket key new left e) (HasPut field main index key new) error
 
 -- a transaction that has repaired the index, where the present has both keyspaces' maps
-abbrev pub HasRebuilt : FieldOf → ℕ → ℕ → Told → Tx → Type 0
-HasRebuilt field main index t tx = HasRepaired field main index (map_at (present t.state).maps main) (map_at (present t.state).maps index) (begun (Some no_marks) tx.ticket) tx
+abbrev pub HasRebuilt : FieldOf → ℕ → ℕ → CoreState → Tx → Type 0
+HasRebuilt field main index t tx = HasRepaired field main index (map_at (present t.state).maps main) (map_at (present t.state).maps index) (transaction_begun (Some no_marks) tx.ticket) tx
 
 -- and so a rebuilding of an index
-abbrev pub IsRebuildRefusal : Bool → FieldOf → ℕ → ℕ → Held → Told → Error → Type 0
+abbrev pub IsRebuildRefusal : Bool → FieldOf → ℕ → ℕ → Held → CoreState → Error → Type 0
 IsRebuildRefusal honest field main index old t error =
     IsOnceRefusal t old (λ mid ticket left e. IsRepairRefusal honest field main index mid ticket left e) (HasRebuilt field main index) error
 
 -- The commit of a transaction of an index is answered as the engine's own is, of the transaction with all that it kept as its own writes: so it conflicts exactly
 -- where that one meets another. Or the engine isn't asked: memory is used up, what was kept is no items, or the ticket isn't open.
-abbrev pub IsCommitAnswer : Told → IndexedTx → CommitOutcome IndexError → Held → Kept → Type 0
+abbrev pub IsCommitAnswer : CoreState → IndexedTx → CommitOutcome IndexError → Held → Kept → Type 0
 IsCommitAnswer t tx answer new after =
-    ((outcome : CommitOutcome Error) × IsOutcomeOf outcome answer × (next : Told) × StandFor new after next × CommitStep t (with_own_items tx.transaction (batch_of tx.changes.entries)) outcome next)
+    ((outcome : CommitOutcome Error) × IsOutcomeOf outcome answer × (next : CoreState) × StandFor new after next × CommitStep t (with_own_items tx.transaction (batch_of tx.changes.entries)) outcome next)
     ⊎ ((error : Error) × (answer ≡ outcomes.Aborted (Engine error))
     × ((error ≡ OutOfMemory) ⊎ ((items_refusal (batch_of tx.changes.entries) ≡ Some error) ⊎ (get t.state.tickets.instants tx.transaction.ticket.id ≡ None))))

@@ -6,11 +6,11 @@ ghost use Rattle.fjall_base.specs.Pairs.{Pairs, lookup};
 ghost use Rattle.fjall_base.specs.Store.{map_at};
 ghost use Rattle.fjall_history.specs.declared.ticket.View.TheVariants.{At};
 ghost use Rattle.fjall_machine.specs.Machine.{maps_in};
-ghost use Rattle.fjall_transactions.specs.CoreStanding.{ReadsOn};
-ghost use Rattle.fjall_transactions.specs.Durables.{Durable};
-ghost use Rattle.fjall_transactions.specs.Leaving.{LeavesStanding};
-ghost use Rattle.fjall_transactions.specs.Shown.{Shows};
-ghost use Rattle.fjall_transactions.specs.Standing.{StandFor, Told};
+ghost use Rattle.fjall_core.specs.CoreStanding.{ReadsOn};
+ghost use Rattle.fjall_core.specs.Durables.{Durable};
+ghost use Rattle.fjall_core.specs.Leaving.{LeavesStanding};
+ghost use Rattle.fjall_core.specs.Shown.{Shows};
+ghost use Rattle.fjall_core.specs.Standing.{StandFor, CoreState};
 ghost use Rattle.fjall_index_entries.specs.Putting.{put_items};
 ghost use Rattle.fjall_index.specs.Changes.{HasKept, IsIndexedTx, IsOutcomeOf, IsSameTx, items_in, where_committed};
 ghost use Rattle.fjall_index.specs.Changing.{EndsAnswered, EndsIndexed, HasWritten, IsAnswerOf, RollsBack};
@@ -22,8 +22,8 @@ use crate::indexed::Indexed;
 use crate::indexed_tx::{IndexedTx, write_kept};
 use crate::reading::value_in;
 use fjall_base::{Disk, Error, UserKey, UserValue, check_item};
+use fjall_core::{CommitOutcome, Core, Engine, Transaction, View};
 use fjall_index_entries::{Extract, IndexError, Result, own_writes_keep_the_index, put_items};
-use fjall_transactions::{CommitOutcome, Core, Engine, Transaction, View};
 use fjall_tx::own_writes_grow;
 
 // What a call answers that is one transaction. One that began at the present meets none.
@@ -46,7 +46,7 @@ pub(crate) fn end<D: Disk>(
     ensures keeps { IsTrue D.honest → EndsIndexed core.old.engine core.old.transactions transaction done result core.new.engine core.new.transactions }
     ensures ends { IsTrue D.honest → EndsAnswered core.old.engine core.old.transactions transaction done result core.new.engine core.new.transactions }
     ensures refused { OnErr done (IsErr result) }
-    ensures cause { (t : Told) → StandFor core.old.engine core.old.transactions t → IfErr result (IsEndRefusal t transaction done) }
+    ensures cause { (t : CoreState) → StandFor core.old.engine core.old.transactions t → IfErr result (IsEndRefusal t transaction done) }
 {
     if let Err(error) = done {
         core.rollback(transaction)?;
@@ -95,7 +95,7 @@ impl<E: Extract> Indexed<E> {
         ensures keeps { IsTrue D.honest → KeepsIndexed (E.field_of self.now.extract) self.now.main self.now.index
             (where_done result (putting (E.field_of self.now.extract) self.now.main self.now.index key new))
             core.old.engine core.old.transactions core.new.engine core.new.transactions }
-        ensures cause { IsTrue D.honest → (t : Told) → StandFor core.old.engine core.old.transactions t → ReadsOn core.old.engine t.state
+        ensures cause { IsTrue D.honest → (t : CoreState) → StandFor core.old.engine core.old.transactions t → ReadsOn core.old.engine t.state
             → IfErr result (OfEngine (IsPutRefusal D.honest (E.field_of self.now.extract) self.now.main self.now.index core.old.engine t key new)) }
     {
         own_writes_keep_the_index();
@@ -115,7 +115,7 @@ impl<E: Extract> Indexed<E> {
             (where_done result (putting (E.field_of self.now.extract) self.now.main self.now.index key (Some value)))
             core.old.engine core.old.transactions core.new.engine core.new.transactions }
         // It meets no other transaction: why it is refused is told whole.
-        ensures cause { IsTrue D.honest → (t : Told) → StandFor core.old.engine core.old.transactions t → ReadsOn core.old.engine t.state
+        ensures cause { IsTrue D.honest → (t : CoreState) → StandFor core.old.engine core.old.transactions t → ReadsOn core.old.engine t.state
             → IfErr result (OfEngine (λ e. IsItemRefusal key (Some value) e ⊎ IsPutRefusal D.honest (E.field_of self.now.extract) self.now.main self.now.index core.old.engine t key (Some value) e)) }
     {
         check_item(key.as_slice(), value.as_slice())?;
@@ -128,7 +128,7 @@ impl<E: Extract> Indexed<E> {
             (where_done result (putting (E.field_of self.now.extract) self.now.main self.now.index key None))
             core.old.engine core.old.transactions core.new.engine core.new.transactions }
         // It meets no other transaction: why it is refused is told whole.
-        ensures cause { IsTrue D.honest → (t : Told) → StandFor core.old.engine core.old.transactions t → ReadsOn core.old.engine t.state
+        ensures cause { IsTrue D.honest → (t : CoreState) → StandFor core.old.engine core.old.transactions t → ReadsOn core.old.engine t.state
             → IfErr result (OfEngine (λ e. IsItemRefusal key None e ⊎ IsPutRefusal D.honest (E.field_of self.now.extract) self.now.main self.now.index core.old.engine t key None e)) }
     {
         check_item(key.as_slice(), &[])?;
@@ -152,9 +152,9 @@ impl<E: Extract> Indexed<E> {
     ///
     /// Refusals, after which nothing has changed: `NumbersUsedUp` where no id is left for its ticket, `OutOfMemory`.
     pub fn begin<D: Disk>(&self, core: &mut Core<D>) -> Result<IndexedTx>
-        ensures keeps { IsTrue D.honest → (since : ℕ) (t : Told) (d : Durable)
+        ensures keeps { IsTrue D.honest → (since : ℕ) (t : CoreState) (d : Durable)
             → StandsIndexed (E.field_of self.now.extract) self.now.main self.now.index since core.old.engine core.old.transactions t d
-            → (next : Told) × (e : Durable) × GoesOnIndexed (E.field_of self.now.extract) self.now.main self.now.index since [] t d next e core.new.engine core.new.transactions
+            → (next : CoreState) × (e : Durable) × GoesOnIndexed (E.field_of self.now.extract) self.now.main self.now.index since [] t d next e core.new.engine core.new.transactions
             × IfOk result (IsIndexedTx (E.field_of self.now.extract) self.now.main self.now.index next) }
         ensures none { IfOk result (λ tx. tx.changes.entries ≡ []) }
         ensures told { BeginsSo core.old.engine result core.new.engine }
@@ -234,12 +234,12 @@ impl<E: Extract> Indexed<E> {
     /// Commits a transaction: all that it changed is one batch, which is accepted or refused as a whole. It ends the transaction,
     /// whatever it answers, as [`Core::commit`] does.
     pub fn commit<D: Disk>(&self, core: &mut Core<D>, tx: IndexedTx) -> CommitOutcome<IndexError>
-        ensures keeps { IsTrue D.honest → (since : ℕ) (t : Told) (d : Durable)
+        ensures keeps { IsTrue D.honest → (since : ℕ) (t : CoreState) (d : Durable)
             → StandsIndexed (E.field_of self.now.extract) self.now.main self.now.index since core.old.engine core.old.transactions t d
             → IsIndexedTx (E.field_of self.now.extract) self.now.main self.now.index t tx
-            → (next : Told) × (e : Durable) × GoesOnIndexed (E.field_of self.now.extract) self.now.main self.now.index since (where_committed result (items_in tx.changes.entries))
+            → (next : CoreState) × (e : Durable) × GoesOnIndexed (E.field_of self.now.extract) self.now.main self.now.index since (where_committed result (items_in tx.changes.entries))
             t d next e core.new.engine core.new.transactions }
-        ensures told { (t : Told) → StandFor core.old.engine core.old.transactions t → IsCommitAnswer t tx result core.new.engine core.new.transactions }
+        ensures told { (t : CoreState) → StandFor core.old.engine core.old.transactions t → IsCommitAnswer t tx result core.new.engine core.new.transactions }
     {
         own_writes_keep_the_index();
         own_writes_grow();

@@ -3,7 +3,7 @@
 ghost use Rattle.std.specs.FinMap.{get};
 ghost use Rattle.std.specs.Prelude.{Err, IfErr, IfOk, IsTrue, Some, ◌≡◌};
 ghost use Rattle.fjall_history.specs.declared.ticket.View.TheVariants.{Present};
-ghost use Rattle.fjall_transactions.specs.Leaving.{LeavesStanding};
+ghost use Rattle.fjall_core.specs.Leaving.{LeavesStanding};
 ghost use Rattle.fjall_index_entries.specs.declared.error.IndexError.TheVariants.{IndexStale, SameKeyspace};
 ghost use Rattle.fjall_index.specs.Checking.{TellsIndexed, TellsStale};
 ghost use Rattle.fjall_index.specs.Opening.{AreIndexed, AreNamed, AreStale, ArrivesAt, KeepsAny};
@@ -12,9 +12,9 @@ ghost use Rattle.fjall_index.specs.Standing.{KeepsIndexed, nothing};
 
 use crate::reading::is_index_in;
 use fjall_base::Disk;
+use fjall_core::Core;
 use fjall_index_entries::{Extract, IndexError, Result};
 use fjall_options::KeyspaceCreateOptions;
-use fjall_transactions::Core;
 use std::alloc::Global;
 
 /// A main keyspace, whose pairs are found by a field of theirs: an index keyspace has an entry for each pair that has one.

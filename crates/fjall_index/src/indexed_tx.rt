@@ -6,12 +6,12 @@ ghost use Rattle.fjall_base.specs.Pairs.{byte_order};
 ghost use Rattle.fjall_base.specs.declared.error.Error.TheVariants.{OutOfMemory};
 ghost use Rattle.fjall_journal.specs.Ops.{items_refusal};
 ghost use Rattle.fjall_tx.specs.Marks.{OfKey};
-ghost use Rattle.fjall_transactions.specs.Transactions.{having_read, with_own_items};
+ghost use Rattle.fjall_core.specs.Transactions.{having_read, with_own_items};
 ghost use Rattle.fjall_index.specs.Changes.{IsSameTx, batch_of};
 
 use fjall_base::{Error, Result, UserKey};
+use fjall_core::Transaction;
 use fjall_journal::BatchItem;
-use fjall_transactions::Transaction;
 use std::alloc::Global;
 use std::collections::BTreeMap;
 

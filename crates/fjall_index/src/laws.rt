@@ -9,12 +9,12 @@ ghost use Rattle.fjall_history.specs.declared.ticket.View.TheVariants.{At, Prese
 ghost use Rattle.fjall_history.specs.declared.reply.Reply.{Reply};
 ghost use Rattle.fjall_machine.specs.Shapes.{CallShape};
 ghost use Rattle.fjall_machine.specs.Machine.{instant_of, maps_in, present, times};
-ghost use Rattle.fjall_transactions.specs.Crashes.{attempt};
-ghost use Rattle.fjall_transactions.specs.Durables.{Durable, IsBeginning};
-ghost use Rattle.fjall_transactions.specs.Holding.{Held};
-ghost use Rattle.fjall_transactions.specs.Openings.{OpensAs};
-ghost use Rattle.fjall_transactions.specs.Standing.{GoesOn, Told, gone_on};
-ghost use Rattle.fjall_transactions.specs.Transactions.{Kept, none_kept};
+ghost use Rattle.fjall_core.specs.Crashes.{attempt};
+ghost use Rattle.fjall_core.specs.Durables.{Durable, IsBeginning};
+ghost use Rattle.fjall_core.specs.Holding.{Held};
+ghost use Rattle.fjall_core.specs.Openings.{OpensAs};
+ghost use Rattle.fjall_core.specs.Standing.{GoesOn, CoreState, gone_on};
+ghost use Rattle.fjall_core.specs.Transactions.{Kept, none_kept};
 ghost use Rattle.fjall_index_entries.specs.Index.{FieldOf};
 ghost use Rattle.fjall_index_entries.specs.Keeping.{IsIndexed};
 ghost use Rattle.fjall_index.specs.Changes.{IsIndexedTx};
@@ -25,15 +25,15 @@ ghost use Rattle.fjall_index.specs.Standing.{StandsIndexed, StaysIndexed};
 
 /// Where the index is kept, the present shows it, and so does each snapshot that reads at or above the instant since which it is kept.
 pub fn views_show_the_index()
-    ensures present { (field : FieldOf) (main index since : ℕ) (core : Held) (before : Kept) (t : Told) (d : Durable) → StandsIndexed field main index since core before t d
+    ensures present { (field : FieldOf) (main index since : ℕ) (core : Held) (before : Kept) (t : CoreState) (d : Durable) → StandsIndexed field main index since core before t d
         → IsIndexed field main index (maps_in t.state Present) }
-    ensures snapshot { (field : FieldOf) (main index since : ℕ) (core : Held) (before : Kept) (t : Told) (d : Durable) → StandsIndexed field main index since core before t d
+    ensures snapshot { (field : FieldOf) (main index since : ℕ) (core : Held) (before : Kept) (t : CoreState) (d : Durable) → StandsIndexed field main index since core before t d
         → (ticket : Ticket) → since ≤ instant_of t.state.tickets ticket.id → IsIndexed field main index (maps_in t.state (At ticket)) }
 {}
 
 /// An open transaction of an index stays one, whatever is called meanwhile.
 pub fn an_open_transaction_stays()
-    ensures { (field : FieldOf) (main index since : ℕ) (core : Held) (before : Kept) (old new : Told) (d : Durable) (tx : IndexedTx) → StandsIndexed field main index since core before old d
+    ensures { (field : FieldOf) (main index since : ℕ) (core : Held) (before : Kept) (old new : CoreState) (d : Durable) (tx : IndexedTx) → StandsIndexed field main index since core before old d
         → MovesOn (times old.state) (times new.state) → IsIndexedTx field main index old tx → IsIndexedTx field main index new tx }
 {}
 
@@ -42,14 +42,14 @@ pub fn an_open_transaction_stays()
 pub fn an_opening_keeps_the_index()
     ensures opened { (field : FieldOf) (main index : ℕ) (core : Held) (store : Store) (opens : OpensAs core store) → index ≢ main → contains_key store.names main ≡ true → contains_key store.names index ≡ true
         → IsIndexed field main index store.maps → StandsIndexed field main index opens.next core none_kept (told_of_opening core store opens) (durable_of core store) }
-    ensures left { (field : FieldOf) (main index since : ℕ) (core : Held) (before : Kept) (t : Told) (d : Durable) → StandsIndexed field main index since core before t d
+    ensures left { (field : FieldOf) (main index since : ℕ) (core : Held) (before : Kept) (t : CoreState) (d : Durable) → StandsIndexed field main index since core before t d
         → (front : List Command) → IsBeginning front d.pending → IsIndexed field main index (kept (fold d.base front)).maps }
 {}
 
 /// Each other call of the engine keeps the index, whatever it answers, that tries no command which writes to one of the two keyspaces,
 /// clears it or deletes it.
 pub fn another_call_keeps_the_index()
-    ensures { (field : FieldOf) (main index since : ℕ) (old new : Held) (before after : Kept) (t : Told) (d : Durable) (shape : CallShape) (reply : Reply) → StandsIndexed field main index since old before t d
+    ensures { (field : FieldOf) (main index since : ℕ) (old new : Held) (before after : Kept) (t : CoreState) (d : Durable) (shape : CallShape) (reply : Reply) → StandsIndexed field main index since old before t d
         → All (LeavesAlone main) (attempt t.state shape reply) → All (LeavesAlone index) (attempt t.state shape reply)
         → (goes : GoesOn old t shape reply new after) → (e : Durable) × StaysIndexed field main index since t d (gone_on t goes.0) e new after }
 {}

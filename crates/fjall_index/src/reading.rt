@@ -5,10 +5,10 @@ ghost use Rattle.fjall_base.specs.Pairs.{Pairs, lookup};
 ghost use Rattle.fjall_base.specs.Store.{map_at};
 ghost use Rattle.fjall_history.specs.declared.ticket.View.TheVariants.{Present};
 ghost use Rattle.fjall_machine.specs.Machine.{maps_in};
-ghost use Rattle.fjall_transactions.specs.CoreStanding.{ReadsOn};
-ghost use Rattle.fjall_transactions.specs.Leaving.{LeavesStanding};
-ghost use Rattle.fjall_transactions.specs.Shown.{IsRefusedFor, Shows};
-ghost use Rattle.fjall_transactions.specs.Standing.{StandFor, Told};
+ghost use Rattle.fjall_core.specs.CoreStanding.{ReadsOn};
+ghost use Rattle.fjall_core.specs.Leaving.{LeavesStanding};
+ghost use Rattle.fjall_core.specs.Shown.{IsRefusedFor, Shows};
+ghost use Rattle.fjall_core.specs.Standing.{StandFor, CoreState};
 ghost use Rattle.fjall_index_entries.specs.Index.{FieldOf, found_in, index_of};
 ghost use Rattle.fjall_index_entries.specs.Keeping.{IsIndexed};
 ghost use Rattle.fjall_index.specs.Refusing.{IsRefusedForEither, OfEngine};
@@ -16,9 +16,9 @@ ghost use Rattle.fjall_index.specs.Standing.{KeepsIndexed, nothing};
 
 use crate::indexed::Indexed;
 use fjall_base::{Disk, KvPair, Result, UserValue};
+use fjall_core::{Core, Engine, Reader, View};
 use fjall_index_entries::{Extract, find_pairs, is_index};
 use fjall_reading::Readable;
-use fjall_transactions::{Core, Engine, Reader, View};
 use std::alloc::Global;
 
 // The value that a reader shows of a key. The engine stays lent, and what stood over it stands.
@@ -95,7 +95,7 @@ impl<E: Extract> Indexed<E> {
         view: View,
         field: &[u8],
     ) -> fjall_index_entries::Result<Vec<KvPair>>
-        ensures found { IsTrue D.honest → (t : Told) → StandFor core.old.engine core.old.transactions t → ReadsOn core.old.engine t.state
+        ensures found { IsTrue D.honest → (t : CoreState) → StandFor core.old.engine core.old.transactions t → ReadsOn core.old.engine t.state
             → IsIndexed (E.field_of self.now.extract) self.now.main self.now.index (maps_in t.state view)
             → IfOk result (λ found. found.items ≡ found_in (E.field_of self.now.extract) field.now (map_at (maps_in t.state view) self.now.main)) }
         ensures keeps { IsTrue D.honest → KeepsIndexed (E.field_of self.now.extract) self.now.main self.now.index nothing

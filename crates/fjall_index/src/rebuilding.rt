@@ -4,10 +4,10 @@ ghost use Rattle.std.specs.Prelude.{◌≡◌, Err, IfErr, IfOk, IsTrue, OnOk, m
 ghost use Rattle.fjall_base.specs.Pairs.{Pairs};
 ghost use Rattle.fjall_journal.specs.Ops.{item_in};
 ghost use Rattle.fjall_history.specs.declared.ticket.View.TheVariants.{At};
-ghost use Rattle.fjall_transactions.specs.CoreStanding.{ReadsOn};
-ghost use Rattle.fjall_transactions.specs.Leaving.{LeavesStanding};
-ghost use Rattle.fjall_transactions.specs.Shown.{Shows};
-ghost use Rattle.fjall_transactions.specs.Standing.{StandFor, Told};
+ghost use Rattle.fjall_core.specs.CoreStanding.{ReadsOn};
+ghost use Rattle.fjall_core.specs.Leaving.{LeavesStanding};
+ghost use Rattle.fjall_core.specs.Shown.{Shows};
+ghost use Rattle.fjall_core.specs.Standing.{StandFor, CoreState};
 ghost use Rattle.fjall_index_entries.specs.Repairs.{AreRepairs};
 ghost use Rattle.fjall_index_entries.specs.declared.error.IndexError.TheVariants.{SameKeyspace};
 ghost use Rattle.fjall_index.specs.Rebuilding.{HasRepaired, Rebuilds};
@@ -17,10 +17,10 @@ ghost use Rattle.fjall_index.specs.Standing.{KeepsIndexed, nothing};
 use crate::changing::end;
 use crate::indexed::Indexed;
 use fjall_base::{Disk, Result};
+use fjall_core::{BatchItem, Core, Engine, Reader, Transaction, View};
 use fjall_index_entries::{
     Extract, IndexError, a_right_index_is_left_alone, repairs, repairs_leave_the_others,
 };
-use fjall_transactions::{BatchItem, Core, Engine, Reader, Transaction, View};
 use fjall_tx::own_writes_grow;
 use std::alloc::Global;
 use std::ops::Bound;
@@ -99,7 +99,7 @@ impl<E: Extract> Indexed<E> {
         ensures rebuilt { IsTrue D.honest → Rebuilds (E.field_of self.now.extract) self.now.main self.now.index core.old.engine core.old.transactions result core.new.engine core.new.transactions }
         ensures keeps { IsTrue D.honest → KeepsIndexed (E.field_of self.now.extract) self.now.main self.now.index nothing
             core.old.engine core.old.transactions core.new.engine core.new.transactions }
-        ensures cause { IsTrue D.honest → (t : Told) → StandFor core.old.engine core.old.transactions t → ReadsOn core.old.engine t.state
+        ensures cause { IsTrue D.honest → (t : CoreState) → StandFor core.old.engine core.old.transactions t → ReadsOn core.old.engine t.state
             → IfErr result (OfEngineOrSame (IsRebuildRefusal D.honest (E.field_of self.now.extract) self.now.main self.now.index core.old.engine t)) }
     {
         if self.main == self.index {
@@ -132,7 +132,7 @@ impl<E: Extract + Drop> Indexed<E> {
         ensures rebuilt { IsTrue D.honest → Rebuilds (E.field_of extract) main index core.old.engine core.old.transactions result core.new.engine core.new.transactions }
         ensures keeps { IsTrue D.honest → KeepsIndexed (E.field_of extract) main index nothing
             core.old.engine core.old.transactions core.new.engine core.new.transactions }
-        ensures cause { IsTrue D.honest → (t : Told) → StandFor core.old.engine core.old.transactions t → ReadsOn core.old.engine t.state
+        ensures cause { IsTrue D.honest → (t : CoreState) → StandFor core.old.engine core.old.transactions t → ReadsOn core.old.engine t.state
             → IfErr result (OfEngineOrSame (IsRebuildRefusal D.honest (E.field_of extract) main index core.old.engine t)) }
     {
         let indexed = Indexed {

@@ -14,7 +14,7 @@ use Rattle.fjall_base.specs.Pairs.{Bytes, Pairs, altered, byte_order, lookup}
 use Rattle.fjall_base.specs.Store.{Command, Item, Store, Write, apply, fold, kept, map_at, written}
 use Rattle.fjall_tx.specs.Marks.{IsCovered, Mark}
 use Rattle.fjall_tx.specs.Oracles.{Conflicts}
-use Rattle.fjall_contents.proofs.Kept.{kept_along, kept_map}
+use Rattle.fjall_meta.proofs.Kept.{kept_along, kept_map}
 use Rattle.fjall_history.specs.Checked.{IsChecked}
 use Rattle.fjall_history.specs.Histories.{History, commits, latest, view}
 use Rattle.fjall_history.specs.Serial.{ChangesByTransactions, value_at}

@@ -21,7 +21,7 @@ use Rattle.fjall_manifest.specs.Homes.{HoldTables, Home}
 use Rattle.fjall_manifest.specs.Reading.{AreRight}
 use Rattle.fjall_meta.specs.declared.living.LivingKeyspace.{LivingKeyspace}
 use Rattle.fjall_meta.specs.Keyspaces.{Keyspaces, keyspace_at}
-use Rattle.fjall_contents.proofs.Ids.{living_has}
+use Rattle.fjall_meta.proofs.Ids.{living_has}
 use Rattle.fjall_recovery.specs.declared.folder.RecoveredFolder.{RecoveredFolder}
 use Rattle.fjall_recovery.specs.Folders.{Contents, ImageStandsFor, IsFinished, IsOpenable, IsUnfinished, ReadsFolder, ShowsContents}
 use Rattle.fjall_recovery.specs.Homes.{AreHomesRead, HasHomeAt, HasOpenableHome, HasVersionsAt, IsHomeRead}
@@ -29,7 +29,7 @@ use Rattle.fjall_recovery.specs.Refusals.{FolderRefuses, IsDue}
 use Rattle.fjall_recovery.proofs.Alone.{one_openable}
 use Rattle.fjall_recovery.proofs.Kept.{open_folder_is_kept}
 use Rattle.fjall_recovery.proofs.Housing.{IsHoused, all_housed, last_was_read}
-use Rattle.fjall_catalog.specs.Catalog.{listed}
+use Rattle.fjall_manifest.specs.Catalog.{listed}
 use Rattle.fjall_repair.specs.declared.plan.SweepPlan.{SweepPlan}
 use Rattle.fjall_repair.specs.Sweeps.{AreHomesOf, FindsAll, IsSweepPlan, names_of}
 use Rattle.fjall_inspect.specs.declared.report.Fault.{Fault}

@@ -8,7 +8,7 @@ use Rattle.fjall_journal.specs.declared.recovery_mode.RecoveryMode.TheVariants.{
 use Rattle.fjall_table.specs.Blocks.{Entry}
 use Rattle.fjall_manifest.specs.Homes.{Home}
 use Rattle.fjall_manifest.specs.Reading.{AreRight}
-use Rattle.fjall_catalog.specs.Catalog.{listed}
+use Rattle.fjall_manifest.specs.Catalog.{listed}
 use Rattle.fjall_recovery.specs.declared.folder.RecoveredFolder.{RecoveredFolder}
 use Rattle.fjall_recovery.specs.Folders.{Contents, IsOpenable, IsUnfinished, ReadsFolder}
 use Rattle.fjall_recovery.specs.Refusals.{FolderRefusesIn}

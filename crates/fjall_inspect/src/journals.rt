@@ -5,8 +5,8 @@ ghost use Rattle.std.specs.Prelude.{IsOkUnless};
 use crate::report::{Fault, add_fault};
 use bytes::Bytes;
 use fjall_base::{Error, Result};
-use fjall_contents::check_batches;
 use fjall_journal::{Batch, JournalBatchReader, Tail, next_batch};
+use fjall_meta::check_batches;
 use std::alloc::Global;
 use std::slice;
 

@@ -1,15 +1,15 @@
 //! What an opening cuts off and removes.
 
 ghost use Rattle.std.specs.Prelude.{◌≡◌, IfOk, IsOkUnless, map, string_bytes};
-ghost use Rattle.fjall_catalog.specs.Catalog.{listed};
+ghost use Rattle.fjall_manifest.specs.Catalog.{listed};
 ghost use Rattle.fjall_repair.specs.Steps.{end_of};
 ghost use Rattle.fjall_repair.specs.Sweeps.{planned};
 ghost use Rattle.fjall_inspect.specs.Checks.{cut_of, cuts_at};
 
 use crate::report::Cut;
 use fjall_base::{Error, Result};
-use fjall_catalog::Catalog;
 use fjall_files::OwnFiles;
+use fjall_manifest::Catalog;
 use fjall_repair::{FileEnd, SweepPlan};
 use fjall_table::TableInfo;
 use std::alloc::Global;

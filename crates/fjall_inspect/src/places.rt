@@ -11,12 +11,11 @@ use crate::report::{Fault, add_fault, is_fault};
 use crate::tables::look_at_tables;
 use bytes::Bytes;
 use fjall_base::{DirEntry, Disk, Error, Result, StorageError};
-use fjall_catalog::{LoadedCatalog, read_catalog};
 use fjall_files::{
     KEYSPACES_FOLDER, MARKER_FILE, Marker, TREE_FOLDER, current_name, journal_name, journals,
     keyspace_folder, keyspaces, read_marker,
 };
-use fjall_manifest::{Record, read_current};
+use fjall_manifest::{LoadedCatalog, Record, read_catalog, read_current};
 use fjall_recovery::{is_beyond, read_text};
 use std::alloc::Global;
 use std::slice;

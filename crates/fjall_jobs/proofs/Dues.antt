@@ -5,7 +5,7 @@ use Rattle.fjall_base.proofs.Lists.{last_behind}
 use Rattle.fjall_table.specs.Blocks.{Entry}
 use Rattle.fjall_memtable.specs.Kept.{EndsBefore, size_of_all}
 use Rattle.fjall_jobs.specs.Sequences.{IsClosingDue, last_key}
-use Rattle.fjall_views.proofs.Sameness.{keys_tie, same_key}
+use Rattle.fjall_memtable.proofs.Sameness.{keys_tie, same_key}
 use Rattle.fjall_jobs.proofs.Finishing.{some_apart}
 use Rattle.fjall_jobs.proofs.Parting.{ended, HasLast}
 

@@ -5,12 +5,12 @@ use Rattle.std.specs.declared.sync.Arc.{Arc}
 use Rattle.std.proofs.lemmas.List.{append-nil, append_assoc, take_more}
 use Rattle.std.proofs.lemmas.List.Elements.{All-nil, All-cons, recursion_from_All}
 use Rattle.fjall_table.specs.Blocks.{Entry, IsEntry, IsOrdered}
-use Rattle.fjall_views.specs.Jobs.{OnceEach, Same, flushed}
+use Rattle.fjall_memtable.specs.Jobs.{OnceEach, Same, flushed}
 use Rattle.fjall_memtable.specs.Kept.{kept_of}
 use Rattle.fjall_memtable.specs.SortedPages.{barrier}
 use Rattle.fjall_memtable.specs.Sorted.{IsInTurn, flat, sorted}
 use Rattle.fjall_memtable.proofs.Keeping.{flush_kept, kept_ordered}
-use Rattle.fjall_runs.proofs.Heads.{taken_run}
+use Rattle.fjall_cursors.proofs.Heads.{taken_run}
 use Rattle.fjall_memtable.specs.declared.part.Part.{Part}
 use Rattle.fjall_memtable.specs.Held.{held_of}
 use Rattle.fjall_memtable.specs.Parts.{AreApart, HeldPart, IsHeld, clears_in, versions_in}

@@ -5,7 +5,7 @@ use Rattle.std.specs.declared.sync.Arc.{Arc}
 use Rattle.std.proofs.lemmas.List.{append-nil, append_assoc}
 use Rattle.std.proofs.lemmas.List.Elements.{All-nil, All-cons, All-push, recursion_from_All}
 use Rattle.fjall_table.specs.Blocks.{Entry, IsEntry}
-use Rattle.fjall_views.specs.Jobs.{OnceEach}
+use Rattle.fjall_memtable.specs.Jobs.{OnceEach}
 use Rattle.fjall_memtable.specs.SortedPages.{barrier}
 use Rattle.fjall_memtable.specs.Sorted.{IsInTurn, flat, sorted}
 use Rattle.fjall_memtable.specs.declared.part.Part.{Part}

@@ -2,12 +2,12 @@
 use Rattle.std.proofs.Common.{◌≡◌, ◌∙◌, ℕ, ◌+◌, ◌<◌, Bool, true, List, [], ◌∷◌, ◌++◌, None, Some, Vec, Global, take, length, get_or, ap, subst, sym}
 use Rattle.std.specs.declared.sync.Arc.{Arc}
 use Rattle.fjall_table.specs.Blocks.{Entry, IsOrdered}
-use Rattle.fjall_views.specs.Jobs.{Same, merged, merged_clears}
+use Rattle.fjall_memtable.specs.Jobs.{Same, merged, merged_clears}
 use Rattle.fjall_memtable.specs.Kept.{kept_of}
 use Rattle.fjall_memtable.specs.SortedPages.{barrier}
 use Rattle.fjall_memtable.specs.Sorted.{flat, sorted}
 use Rattle.fjall_memtable.proofs.Keeping.{kept_ordered, merge_kept}
-use Rattle.fjall_runs.proofs.Heads.{taken_run}
+use Rattle.fjall_cursors.proofs.Heads.{taken_run}
 use Rattle.fjall_jobs.specs.declared.keeper.Rule.{Rule}
 use Rattle.fjall_jobs.specs.declared.made_table.MadeTable.{MadeTable}
 use Rattle.fjall_jobs.specs.Blocks.{entries_in}

@@ -2,7 +2,7 @@
 use Rattle.std.specs.Prelude.{◌≡◌, ℕ, false, List, ◌++◌, Option, Some, None}
 use Rattle.std.specs.List.{All, AllByRecursion}
 use Rattle.fjall_table.specs.Blocks.{Entry, IsEntry, IsOrdered}
-use Rattle.fjall_views.specs.Jobs.{OnceEach}
+use Rattle.fjall_memtable.specs.Jobs.{OnceEach}
 use Rattle.fjall_memtable.specs.Kept.{kept_of}
 use Rattle.fjall_memtable.specs.Sorted.{IsInTurn, flat}
 use Rattle.fjall_jobs.specs.declared.keeper.Keeper.{Keeper}

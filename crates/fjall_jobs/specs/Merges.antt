@@ -1,7 +1,7 @@
 -- Merges.
 use Rattle.std.specs.Prelude.{◌≡◌, ℕ, List, Some}
 use Rattle.fjall_table.specs.Blocks.{Entry, IsOrdered}
-use Rattle.fjall_views.specs.Jobs.{Same, merged, merged_clears}
+use Rattle.fjall_memtable.specs.Jobs.{Same, merged, merged_clears}
 use Rattle.fjall_memtable.specs.Sorted.{flat}
 use Rattle.fjall_jobs.specs.declared.made_table.MadeTable.{MadeTable}
 use Rattle.fjall_jobs.specs.declared.merge_job.MergeJob.{MergeJob}

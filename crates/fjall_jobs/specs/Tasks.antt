@@ -1,7 +1,7 @@
 -- What a job is begun with, and what it makes of it.
 use Rattle.std.specs.Prelude.{◌≡◌, ℕ, List, None}
 use Rattle.fjall_table.specs.Blocks.{Entry, IsOrdered}
-use Rattle.fjall_views.specs.Jobs.{Same, flushed}
+use Rattle.fjall_memtable.specs.Jobs.{Same, flushed}
 use Rattle.fjall_memtable.specs.Sorted.{flat}
 use Rattle.fjall_jobs.specs.declared.made_table.MadeTable.{MadeTable}
 use Rattle.fjall_jobs.specs.Sequences.{AreMadeTables, AreParted}

@@ -6,7 +6,7 @@ ghost use Rattle.fjall_table.specs.Blocks.{seen};
 ghost use Rattle.fjall_memtable.specs.Sorted.{flat};
 ghost use Rattle.fjall_jobs.specs.Blocks.{IsLeft, entries_in, still_left};
 
-use fjall_runs::Run;
+use fjall_cursors::Run;
 use fjall_table::TableEntry;
 use fjall_table_reader::Block;
 use std::alloc::Global;

@@ -12,8 +12,8 @@ use crate::flush_made::FlushMade;
 use crate::keeper::{Rule, keep};
 use crate::made_table::MadeTable;
 use fjall_base::{Error, Refused, Result};
+use fjall_cursors::MemtableRun;
 use fjall_memtable::Part;
-use fjall_runs::MemtableRun;
 use std::alloc::Global;
 use std::sync::Arc;
 

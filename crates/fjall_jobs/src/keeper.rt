@@ -2,7 +2,7 @@
 
 ghost use Rattle.std.specs.Prelude.{◌≡◌, ◌∷◌, List, None, IfOk, OnOk, IsOkUnless, drop, map};
 ghost use Rattle.fjall_table.specs.Blocks.{Entry, IsEntry, IsOrdered, seen};
-ghost use Rattle.fjall_views.specs.Jobs.{is_old_removal};
+ghost use Rattle.fjall_memtable.specs.Jobs.{is_old_removal};
 ghost use Rattle.fjall_memtable.specs.Kept.{is_behind, is_followed, is_kept};
 ghost use Rattle.fjall_memtable.specs.Sorted.{flat, sorted};
 ghost use Rattle.fjall_jobs.specs.Sequences.{MakesTables};
@@ -11,7 +11,7 @@ ghost use Rattle.fjall_jobs.specs.Keeping.{AreSorted, HasLooked, KeepsVersions, 
 use crate::made_table::MadeTable;
 use crate::sequence::TableSequence;
 use fjall_base::{Error, Result};
-use fjall_runs::{Run, first_of};
+use fjall_cursors::{Run, first_of};
 use fjall_table::TableEntry;
 use std::alloc::Global;
 

@@ -11,8 +11,8 @@ use crate::flush_job::{clears_of, memtable_runs};
 use crate::keeper::{Rule, keep};
 use crate::made_table::MadeTable;
 use fjall_base::{Error, Result};
+use fjall_cursors::MemtableRun;
 use fjall_memtable::Part;
-use fjall_runs::MemtableRun;
 use std::alloc::Global;
 use std::sync::Arc;
 

@@ -2,7 +2,7 @@
 
 ghost use Rattle.std.specs.Prelude.{◌≡◌, ◌<◌, ◌^◌, IfErr, IfOk, IsOkUnless};
 ghost use Rattle.fjall_base.specs.declared.error.Error.TheVariants.{OutOfMemory};
-ghost use Rattle.fjall_views.specs.Jobs.{merged_clears};
+ghost use Rattle.fjall_memtable.specs.Jobs.{merged_clears};
 ghost use Rattle.fjall_jobs.specs.Keeping.{AreSorted};
 ghost use Rattle.fjall_jobs.specs.MergeInputs.{table_runs};
 

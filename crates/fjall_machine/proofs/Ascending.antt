@@ -14,7 +14,7 @@ use Rattle.fjall_base.specs.declared.error.Error.{Error}
 use Rattle.fjall_base.specs.declared.error.Error.TheVariants.{KeyEmpty, KeyTooLong, ValueTooLong}
 use Rattle.fjall_compaction.specs.Ingests.{batch_items}
 use Rattle.fjall_journal.specs.Ops.{BatchItem, bytes_in}
-use Rattle.fjall_writes.specs.Ingestions.{AreWritable, KeyOp, KeysAscend}
+use Rattle.fjall_reading.specs.Ingestions.{AreWritable, KeyOp, KeysAscend}
 use Rattle.fjall_machine.specs.Ingesting.{MayIngest, do_ascend, ingestion_refusals, some_key_empty, some_key_too_long, some_value_too_long}
 use Rattle.fjall_machine.specs.Machine.{Facts, first_due, is_living}
 use Rattle.fjall_machine.proofs.Dues.{below, is_so, none_due, refusal_by}

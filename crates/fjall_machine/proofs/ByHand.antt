@@ -8,8 +8,8 @@ use Rattle.fjall_meta.specs.declared.living.LivingKeyspace.{LivingKeyspace}
 use Rattle.fjall_meta.specs.Keyspaces.{Keyspaces, keyspace_at}
 use Rattle.fjall_options.specs.declared.options.stored_option.StoredOption.TheVariants.{ManualJournalPersist}
 use Rattle.fjall_options.specs.Options.{effective_settings, is_set, value_at, value_of}
-use Rattle.fjall_contents.specs.Replays.{option_pairs}
-use Rattle.fjall_contents.proofs.Naming.{settings}
+use Rattle.fjall_meta.specs.Replays.{option_pairs}
+use Rattle.fjall_meta.proofs.Naming.{settings}
 use Rattle.fjall_trees.specs.Forests.{Forest}
 use Rattle.fjall_trees.specs.Maps.{store_of}
 use Rattle.fjall_trees.specs.MapTables.{store_with}

@@ -12,7 +12,7 @@ use Rattle.fjall_journal.specs.Changes.{Change, Items, Emptied}
 use Rattle.fjall_journal.specs.Ops.{BatchItem}
 use Rattle.fjall_meta.specs.Keyspaces.{is_name}
 use Rattle.fjall_machine.specs.Shapes.{OneLess}
-use Rattle.fjall_machine.specs.Machine.{Facts, change_refusals, clear_refusals, creation_refusals, deletion_refusals, first_due, handle_refusals, handles_of, has_name, is_living, items_refusals, journal_refusals}
+use Rattle.fjall_machine.specs.Machine.{Facts, change_refusals, clear_refusals, creation_refusals, deletion_refusals, first_due, handle_refusals, handles_of, names_one, is_living, items_refusals, journal_refusals}
 use Rattle.fjall_machine.specs.Allowed.{MayChange, MayCreate, MayDelete}
 
 pub none_due : (refusals : List (Bool × Error)) → first_due refusals ≡ None → AllByRecursion (λ refusal. refusal.0 ≡ false) refusals
@@ -74,7 +74,7 @@ may_create f name none =
     record {
       named = is_so (is_name name) causes.0;
       room = λ fresh.
-          let new : not (has_name f.store name) ≡ true = ap not fresh in
+          let new : not (names_one f.store name) ≡ true = ap not fresh in
           let full = neither _ _ (behind_true _ _ new causes.1.1.0) in
           let numbers = neither _ _ full.0 in
           record {

@@ -3,16 +3,16 @@ use Rattle.std.proofs.Common.{◌≡◌, ℕ, ◌==◌, not, Bool, true, List, O
 use Rattle.std.specs.FinMap.{get}
 use Rattle.std.specs.Option.{is_some}
 use Rattle.fjall_base.specs.declared.error.Error.{Error}
-use Rattle.fjall_catalog.specs.Catalog.{fields, first_of}
-use Rattle.fjall_contents.specs.Contents.{is_beyond}
-use Rattle.fjall_recovery.specs.Known.{LastFields}
-use Rattle.fjall_manager.specs.Evictions.{StoppedBehind}
-use Rattle.fjall_manager.specs.Journals.{Sealed}
+use Rattle.fjall_manifest.specs.Catalog.{fields, first_of}
+use Rattle.fjall_meta.specs.Contents.{is_beyond}
+use Rattle.fjall_replay.specs.Known.{LastFields}
+use Rattle.fjall_files.specs.Evictions.{StoppedBehind}
+use Rattle.fjall_files.specs.Journals.{Sealed}
 use Rattle.fjall_meta.specs.Keyspaces.{Keyspaces, keyspace_at}
 use Rattle.fjall_manifest.specs.Records.{Fields}
-use Rattle.fjall_contents.proofs.Found.{found_passes}
-use Rattle.fjall_contents.proofs.Slots.{same_id}
-use Rattle.fjall_machine.specs.Remembered.{Remembered, flushed_by, flushed_of, with_sealed}
+use Rattle.fjall_meta.proofs.Found.{found_passes}
+use Rattle.fjall_meta.proofs.Slots.{same_id}
+use Rattle.fjall_machine.specs.Remembered.{Remembered, flushed_by, flushed_of, with_sealed_in_memory}
 use Rattle.fjall_machine.proofs.Facts.{some_there}
 
 -- what a record that is kept, or none, tells
@@ -36,7 +36,7 @@ told_by s records id lsn kept lives is =
 -- an eviction that stopped, as it leaves the journals
 pub left_by : (r : Result Unit Error) (m now : Remembered) (left : List Sealed) → m ≡ now
     → OnErr r ((gone : List Sealed) × StoppedBehind (flushed_by m.keyspaces m.records) m.journals.sealed left gone)
-    → OnErr r ((gone rest : List Sealed) × StoppedBehind (flushed_by now.keyspaces now.records) now.journals.sealed rest gone × (with_sealed left m ≡ with_sealed rest now))
+    → OnErr r ((gone rest : List Sealed) × StoppedBehind (flushed_by now.keyspaces now.records) now.journals.sealed rest gone × (with_sealed_in_memory left m ≡ with_sealed_in_memory rest now))
 left_by (Ok done) m now left same stopped = tt
 left_by (Err error) m now left same (gone, stopped) =
-    (gone, left, subst (λ (k : Remembered). StoppedBehind (flushed_by k.keyspaces k.records) k.journals.sealed left gone) same stopped, ap (with_sealed left) same)
+    (gone, left, subst (λ (k : Remembered). StoppedBehind (flushed_by k.keyspaces k.records) k.journals.sealed left gone) same stopped, ap (with_sealed_in_memory left) same)

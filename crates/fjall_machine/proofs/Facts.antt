@@ -10,10 +10,10 @@ use Rattle.fjall_meta.specs.declared.living.LivingKeyspace.{LivingKeyspace}
 use Rattle.fjall_meta.specs.Keyspaces.{AreKeyspaces, Keyspaces, id_of, keyspace_at}
 use Rattle.fjall_trees.specs.Forests.{Forest}
 use Rattle.fjall_trees.specs.Maps.{store_of}
-use Rattle.fjall_contents.proofs.Found.{found_has, found_passes}
-use Rattle.fjall_contents.proofs.Naming.{living_names as bare_names, names_counted, names_listed}
-use Rattle.fjall_contents.proofs.Slots.{same_id}
-use Rattle.fjall_machine.specs.Machine.{has_name, is_living, is_unknown}
+use Rattle.fjall_meta.proofs.Found.{found_has, found_passes}
+use Rattle.fjall_meta.proofs.Naming.{living_names as bare_names, names_counted, names_listed}
+use Rattle.fjall_meta.proofs.Slots.{same_id}
+use Rattle.fjall_machine.specs.Machine.{names_one, is_living, is_unknown}
 
 pub unknown_is : (s : Keyspaces) (trees : Forest) (id next : ℕ) → next ≡ s.next → (id == 0) ≡ false → nat_le next id ≡ is_unknown (store_of s trees) id
 unknown_is s trees id next is other = ap (λ n. nat_le n id) is ∙ ap (λ b. b || nat_le s.next id) (sym other)
@@ -35,7 +35,7 @@ any_is (k ∷ living) name =
 pub names_are : (s : Keyspaces) → AreKeyspaces s → (trees : Forest) → values (store_of s trees).names ≡ map (λ k. k.name) s.living
 names_are s all trees = names_listed s all
 
-pub named_is : (s : Keyspaces) → AreKeyspaces s → (trees : Forest) (name : Bytes) → has_name (store_of s trees) name ≡ is_some (id_of name s.living)
+pub named_is : (s : Keyspaces) → AreKeyspaces s → (trees : Forest) (name : Bytes) → names_one (store_of s trees) name ≡ is_some (id_of name s.living)
 named_is s all trees name = ap (list_any (λ other. bytes_eq other name)) (names_are s all trees) ∙ any_is s.living name
 
 pub counted_is : (s : Keyspaces) → AreKeyspaces s → (trees : Forest) → len (store_of s trees).names ≡ length s.living
@@ -54,7 +54,7 @@ living_given s all trees id lives =
     subst (λ i. i < s.next) (same_id k.id id (found_passes (λ j. j.id == id) s.living k there.1)) lt
 
 -- where none has a name, no id is found
-pub none_named : (s : Keyspaces) → AreKeyspaces s → (trees : Forest) (name : Bytes) → has_name (store_of s trees) name ≡ false → id_of name s.living ≡ None
+pub none_named : (s : Keyspaces) → AreKeyspaces s → (trees : Forest) (name : Bytes) → names_one (store_of s trees) name ≡ false → id_of name s.living ≡ None
 none_named s all trees name none = nothing (id_of name s.living) (sym (named_is s all trees name) ∙ none)
   where
     nothing : (found : Option ℕ) → is_some found ≡ false → found ≡ None

@@ -9,15 +9,15 @@ use Rattle.fjall_base.specs.Disk.{Meaning}
 use Rattle.fjall_base.specs.declared.error.Error.{Error}
 use Rattle.fjall_base.specs.declared.error.Error.TheVariants.{Io}
 use Rattle.fjall_table_reader.specs.Readers.{Reader}
-use Rattle.fjall_catalog.specs.Catalog.{fields, first_of}
+use Rattle.fjall_manifest.specs.Catalog.{fields, first_of}
 use Rattle.fjall_compaction.specs.declared.flush.plan.FlushPlan.{FlushPlan}
-use Rattle.fjall_compaction.specs.Flushes.{Flush, Follows, flush_of, record_after, tree_after}
+use Rattle.fjall_compaction.specs.Flushes.{Flush, Follows, flush_of, record_after_flush, tree_after}
 use Rattle.fjall_compaction.specs.FlushPlans.{ForFlushOn, IsFlushPlan, IsFlushPlanRefusal}
 use Rattle.fjall_manifest.specs.Homes.{Home}
 use Rattle.fjall_jobs.specs.declared.flush_made.FlushMade.{FlushMade}
 use Rattle.fjall_jobs.specs.Made.{flush_clears, flush_tables, flushed_task}
 use Rattle.fjall_jobs.proofs.Made.{was_flushed}
-use Rattle.fjall_recovery.specs.Known.{last_known}
+use Rattle.fjall_replay.specs.Known.{last_known}
 use Rattle.fjall_tree.specs.Jobs.{IsFlushing, flush_end}
 use Rattle.fjall_tree.specs.Trees.{Flushing, Shape}
 use Rattle.fjall_trees.specs.Maps.{store_of}
@@ -27,8 +27,8 @@ use Rattle.fjall_memtable.specs.Parts.{clears_in}
 use Rattle.fjall_recovery.specs.Halves.{Tree}
 use Rattle.fjall_manifest.specs.Records.{Fields}
 use Rattle.fjall_trees.specs.Tables.{shape_in}
-use Rattle.fjall_contents.proofs.Found.{found_has, found_passes}
-use Rattle.fjall_contents.proofs.Slots.{same_id}
+use Rattle.fjall_meta.proofs.Found.{found_has, found_passes}
+use Rattle.fjall_meta.proofs.Slots.{same_id}
 use Rattle.fjall_machine.specs.Finishing.{AreReadersOf, ForFinishing, IsFinishRefusal, IsFlushFinished, keyspace_of}
 use Rattle.fjall_machine.specs.Machine.{flush_with, is_living}
 use Rattle.fjall_machine.specs.Remembered.{IsLawful, Remembered, with_flush}
@@ -114,10 +114,10 @@ module _ (m : Remembered) (made : FlushMade) (last : Fields) (number : ℕ) (may
   -- ---- memory
 
   pub finished : (k : LivingKeyspace) (out : Flushing) → keyspace_at id m.keyspaces.living ≡ Some k → tree.flush ≡ Some out → (a new : Remembered) (readers : List Reader) (written : Fields) → a ≡ m
-      → AreReadersOf id last.next_table_id (flush_tables made) readers → written ≡ record_after (flush_of number made) last → new ≡ with_flush id out readers written a
+      → AreReadersOf id last.next_table_id (flush_tables made) readers → written ≡ record_after_flush (flush_of number made) last → new ≡ with_flush id out readers written a
       → IsFlushFinished m id (last_known m.records k) out (flush_tables made) new
   finished k out at was a new readers written same are says is = record {
     readers = readers;
     are = subst (λ (l : Fields). AreReadersOf id l.next_table_id (flush_tables made) readers) (last_is k at) are;
-    is = is ∙ (λ i. with_flush id out readers ((says ∙ (λ j. record_after (flush_is out was j) (last_is k at j))) i) (same i));
+    is = is ∙ (λ i. with_flush id out readers ((says ∙ (λ j. record_after_flush (flush_is out was j) (last_is k at j))) i) (same i));
   }

@@ -8,17 +8,17 @@ use Rattle.std.proofs.lemmas.List.Folds.{list_all-append}
 use Rattle.std.specs.Option.{is_some}
 use Rattle.fjall_base.specs.Store.{kept}
 use Rattle.fjall_table_reader.specs.Readers.{AreSameTables, Reader}
-use Rattle.fjall_catalog.specs.Catalog.{fields, first_of}
-use Rattle.fjall_contents.specs.Contents.{is_beyond}
-use Rattle.fjall_compaction.specs.Flushes.{infos_from, record_after}
+use Rattle.fjall_manifest.specs.Catalog.{fields, first_of}
+use Rattle.fjall_meta.specs.Contents.{is_beyond}
+use Rattle.fjall_compaction.specs.Flushes.{flushed_infos, record_after_flush}
 use Rattle.fjall_jobs.specs.declared.made_table.MadeTable.{MadeTable}
 use Rattle.fjall_jobs.specs.Tasks.{IsFlushed, Task}
-use Rattle.fjall_recovery.specs.Known.{last_known}
+use Rattle.fjall_replay.specs.Known.{last_known}
 use Rattle.fjall_tree.specs.Jobs.{IsFlushing, flush_begun, flush_dropped, flush_finished}
 use Rattle.fjall_tree.specs.Puts.{bare_tree}
 use Rattle.fjall_tree.specs.Trees.{Flushing, IsSameShape, Shape}
-use Rattle.fjall_manager.specs.Evictions.{StoppedBehind}
-use Rattle.fjall_manager.specs.Journals.{Journals, Sealed, may_go, staying}
+use Rattle.fjall_files.specs.Evictions.{StoppedBehind}
+use Rattle.fjall_files.specs.Journals.{Journals, Sealed, may_go, staying}
 use Rattle.fjall_meta.specs.declared.living.LivingKeyspace.{LivingKeyspace}
 use Rattle.fjall_meta.specs.Keyspaces.{keyspace_at}
 use Rattle.fjall_memtable.specs.Parts.{Memory, clears_in}
@@ -30,17 +30,17 @@ use Rattle.fjall_trees.specs.Tables.{AreSameTrees, shape_in}
 use Rattle.fjall_trees.proofs.Changing.{tree_under}
 use Rattle.fjall_trees.proofs.Outstanding.{flushing_tree}
 use Rattle.fjall_trees.proofs.Same.{only_tree}
-use Rattle.fjall_contents.proofs.Found.{found_has, found_passes}
-use Rattle.fjall_contents.proofs.Slots.{get_put, same_id}
-use Rattle.fjall_views.specs.Jobs.{IsAbove, Same}
-use Rattle.fjall_views.specs.Jobs as jobs
+use Rattle.fjall_meta.proofs.Found.{found_has, found_passes}
+use Rattle.fjall_meta.proofs.Slots.{get_put, same_id}
+use Rattle.fjall_memtable.specs.Jobs.{IsAbove, Same}
+use Rattle.fjall_memtable.specs.Jobs as jobs
 use Rattle.fjall_trees.specs.MapTables.{LeavesMemory}
 use Rattle.fjall_trees.proofs.Alike.{changed_alike_before, changed_alike_forest, changed_alike_has, changed_alike_older, changed_alike_pairs, changed_alike_store, flush_leaves}
 use Rattle.fjall_trees.proofs.Changed.{changed_has}
 use Rattle.fjall_trees.proofs.Finished.{flushed_before, flushed_forest, flushed_has, flushed_store, flushed_with}
 use Rattle.fjall_machine.specs.Machine as machine
-use Rattle.fjall_machine.specs.Machine.{EvictsSome, Flushed, FlushesIn, FlushesOne, Parts, State, flush_with, flushed, is_flushed, is_living, present, records_with, task_of}
-use Rattle.fjall_machine.specs.Remembered.{IsFlushBegun, IsLawful, IsMergeBegun, MemoryStandsFor, Remembered, flush_gone, flush_out, flushed_by, flushed_of, with_flush, with_sealed}
+use Rattle.fjall_machine.specs.Machine.{EvictsSome, Flushed, FlushesIn, FlushesOne, Parts, State, flush_with, parts_flushed, is_flushed, is_living, present, records_with, task_of}
+use Rattle.fjall_machine.specs.Remembered.{IsFlushBegun, IsLawful, IsMergeBegun, MemoryStandsFor, Remembered, flush_gone_in_memory, flush_out_in_memory, flushed_by, flushed_of, with_flush, with_sealed_in_memory}
 use Rattle.fjall_machine.proofs.Facts.{living_names}
 use Rattle.fjall_machine.proofs.Lawful.{alike, all_begun_later, all_merges_begun_later, other_kept, others, read_above, still_kept}
 use Rattle.fjall_machine.proofs.Older.{finished_none, finished_older}
@@ -65,7 +65,7 @@ begun_now m id is =
     given_flushes (IsFlushBegun (m.next_job + 1) w) m.trees (all_begun_later m.next_job (m.next_job + 1) w w m.trees (omega arith) (omega arith) is.begun) id (flush_begun m.next_job w)
     (λ shape. (omega arith, omega arith))
 
-pub out_is_lawful : (id : ℕ) (m : Remembered) → IsLawful m → m.next_job < 2 ^ 64 - 1 → IsLawful (flush_out id m)
+pub out_is_lawful : (id : ℕ) (m : Remembered) → IsLawful m → m.next_job < 2 ^ 64 - 1 → IsLawful (flush_out_in_memory id m)
 out_is_lawful id m is small =
     let change = flush_begun m.next_job m.tickets.watermark in
     let leaves = flush_leaves m.next_job m.tickets.watermark in
@@ -91,7 +91,7 @@ out_is_lawful id m is small =
 dropped_leaves : LeavesMemory flush_dropped
 dropped_leaves shape = (refl, refl)
 
-pub gone_is_lawful : (id : ℕ) (m : Remembered) → IsLawful m → IsLawful (flush_gone id m)
+pub gone_is_lawful : (id : ℕ) (m : Remembered) → IsLawful m → IsLawful (flush_gone_in_memory id m)
 gone_is_lawful id m is = record {
   keyspaces = is.keyspaces;
   made = is.made;
@@ -138,7 +138,7 @@ finished_is_lawful id out readers last m is given =
 
 -- ---- a flush that is begun, or forgotten
 
-pub a_begun_flush_stands : (m : Remembered) (table : ℕ) (s : State) → MemoryStandsFor m table s → (id : ℕ) → m.next_job < 2 ^ 64 - 1 → MemoryStandsFor (flush_out id m) table (machine.flush_out s id)
+pub a_begun_flush_stands : (m : Remembered) (table : ℕ) (s : State) → MemoryStandsFor m table s → (id : ℕ) → m.next_job < 2 ^ 64 - 1 → MemoryStandsFor (flush_out_in_memory id m) table (machine.flush_out s id)
 a_begun_flush_stands m table s stands id small =
     let change = flush_begun m.next_job m.tickets.watermark in
     let leaves = flush_leaves m.next_job m.tickets.watermark in
@@ -165,7 +165,7 @@ a_begun_flush_stands m table s stands id small =
       lawful = out_is_lawful id m stands.lawful small;
     }
 
-pub a_dropped_flush_stands : (m : Remembered) (table : ℕ) (s : State) → MemoryStandsFor m table s → (id : ℕ) → MemoryStandsFor (flush_gone id m) table (machine.flush_gone s id)
+pub a_dropped_flush_stands : (m : Remembered) (table : ℕ) (s : State) → MemoryStandsFor m table s → (id : ℕ) → MemoryStandsFor (flush_gone_in_memory id m) table (machine.flush_gone s id)
 a_dropped_flush_stands m table s stands id = record {
   present = stands.present ∙ ap kept (sym (changed_alike_store flush_dropped dropped_leaves id m.trees s.parts.entries m.keyspaces));
   views = λ instant at other held. stands.views instant at other held ∙ sym (changed_alike_pairs flush_dropped dropped_leaves id m.trees s.parts.entries other instant);
@@ -259,13 +259,13 @@ same_with a b same out tables = λ i. flush_with (record a { memory = sym same.m
 
 module _ (m : Remembered) (table : ℕ) (s : State) (stands : MemoryStandsFor m table s) (id : ℕ) (task : Task) (is : IsFlushing (shape_in id m.trees) task) (tables : List MadeTable) (clears : List ℕ)
     (made : IsFlushed task tables clears) (k : LivingKeyspace) (at : keyspace_at id m.keyspaces.living ≡ Some k) (readers : List Reader)
-    (infos : map (λ t. t.info) readers ≡ infos_from (last_known m.records k).next_table_id tables) where
+    (infos : map (λ t. t.info) readers ≡ flushed_infos (last_known m.records k).next_table_id tables) where
   -- the parts of the state once it is finished
   abbrev parts : Parts
-  parts = flushed id is.out tables made.lists readers s.parts
+  parts = parts_flushed id is.out tables made.lists readers s.parts
 
   abbrev last : Fields
-  last = record_after (flush_with (shape_in id m.trees) is.out tables) (last_known m.records k)
+  last = record_after_flush (flush_with (shape_in id m.trees) is.out tables) (last_known m.records k)
 
   alike_there : IsSameShape (shape_in id s.parts.trees) (shape_in id m.trees)
   alike_there = same_in id s.parts.trees m.trees stands.trees
@@ -289,7 +289,7 @@ module _ (m : Remembered) (table : ℕ) (s : State) (stands : MemoryStandsFor m 
   unfolding made_there
   flushed_there =
       subst (λ o. FlushesIn o s.parts id parts) (sym (sym alike_there.flush ∙ is.is))
-      (record { tables = tables; made = made_there; readers = readers; infos = infos ∙ ap (λ (r : Fields). infos_from r.next_table_id tables) (sym (known_record m table s stands id k at)); is = refl })
+      (record { tables = tables; made = made_there; readers = readers; infos = infos ∙ ap (λ (r : Fields). flushed_infos r.next_table_id tables) (sym (known_record m table s stands id k at)); is = refl })
 
   -- its watermark was reached
   reached : task.watermark ≤ m.tickets.watermark
@@ -308,8 +308,8 @@ module _ (m : Remembered) (table : ℕ) (s : State) (stands : MemoryStandsFor m 
       by (suc w) le spared = let lt = spared (omega arith) in let small = stands.lawful.small in omega (arith, le, lt, small)
 
   -- the record after it is the same of the state
-  same_last : record_after (flush_with (shape_in id s.parts.trees) is.out tables) (s.parts.records id) ≡ last
-  same_last = λ i. record_after (same_with (shape_in id s.parts.trees) (shape_in id m.trees) alike_there is.out tables i) (known_record m table s stands id k at i)
+  same_last : record_after_flush (flush_with (shape_in id s.parts.trees) is.out tables) (s.parts.records id) ≡ last
+  same_last = λ i. record_after_flush (same_with (shape_in id s.parts.trees) (shape_in id m.trees) alike_there is.out tables i) (known_record m table s stands id k at i)
 
   records_then : All (λ j. parts.records j.id ≡ last_known (insert m.records id last) j) m.keyspaces.living
   records_then =
@@ -317,7 +317,7 @@ module _ (m : Remembered) (table : ℕ) (s : State) (stands : MemoryStandsFor m 
       (λ j known. by j (j.id == id) known ∙ ap (λ (o : Option Fields). unwrap_or o (fields (first_of j.number))) (sym (get_put m.records id last j.id))) m.keyspaces.living stands.records
     where
       by : (j : LivingKeyspace) (b : Bool) → s.parts.records j.id ≡ last_known m.records j
-          → cond b (record_after (flush_with (shape_in id s.parts.trees) is.out tables) (s.parts.records id)) (s.parts.records j.id)
+          → cond b (record_after_flush (flush_with (shape_in id s.parts.trees) is.out tables) (s.parts.records id)) (s.parts.records j.id)
           ≡ unwrap_or (cond b (Some last) (get m.records j.id)) (fields (first_of j.number))
       by j true known = same_last
       by j false known = known
@@ -352,9 +352,9 @@ module _ (m : Remembered) (table : ℕ) (s : State) (stands : MemoryStandsFor m 
 
 pub a_finished_flush_stands : (m : Remembered) (table : ℕ) (s : State) → MemoryStandsFor m table s → (id : ℕ) (task : Task) (is : IsFlushing (shape_in id m.trees) task) (tables : List MadeTable) (clears : List ℕ)
     (made : IsFlushed task tables clears) (k : LivingKeyspace) → keyspace_at id m.keyspaces.living ≡ Some k → (readers : List Reader)
-    → map (λ t. t.info) readers ≡ infos_from (last_known m.records k).next_table_id tables
-    → let parts = flushed id is.out tables made.lists readers s.parts in
-    Flushed s.parts id parts × MemoryStandsFor (with_flush id is.out readers (record_after (flush_with (shape_in id m.trees) is.out tables) (last_known m.records k)) m) table (record s { parts = parts })
+    → map (λ t. t.info) readers ≡ flushed_infos (last_known m.records k).next_table_id tables
+    → let parts = parts_flushed id is.out tables made.lists readers s.parts in
+    Flushed s.parts id parts × MemoryStandsFor (with_flush id is.out readers (record_after_flush (flush_with (shape_in id m.trees) is.out tables) (last_known m.records k)) m) table (record s { parts = parts })
 a_finished_flush_stands m table s stands id task is tables clears made k at readers infos =
     (flushed_there m table s stands id task is tables clears made k at readers infos, finished_stands m table s stands id task is tables clears made k at readers infos)
 
@@ -374,7 +374,7 @@ flushed_agree m table s stands id lsn = by (keyspace_at id m.keyspaces.living) r
         ap (λ (b : Bool). not b || not (is_beyond (s.parts.records id).persisted lsn)) (lives (Some k) at)
         ∙ ap (λ (r : Fields). not (is_beyond r.persisted lsn)) (known_record m table s stands id k at) ∙ ap (λ (o : Option LivingKeyspace). flushed_of m.records o lsn) (sym at)
 
-pub with_sealed_stands : (m : Remembered) (table : ℕ) (s : State) → MemoryStandsFor m table s → (left : List Sealed) → MemoryStandsFor (with_sealed left m) table (machine.with_sealed left s)
+pub with_sealed_stands : (m : Remembered) (table : ℕ) (s : State) → MemoryStandsFor m table s → (left : List Sealed) → MemoryStandsFor (with_sealed_in_memory left m) table (machine.with_sealed left s)
 with_sealed_stands m table s stands left = record {
   present = stands.present;
   views = stands.views;
@@ -390,16 +390,16 @@ with_sealed_stands m table s stands left = record {
   trees = stands.trees;
   beside = record { older = stands.beside.older; none = stands.beside.none; unused = stands.beside.unused };
   journals = λ i. record (stands.journals i) { sealed = left };
-  lawful = alike m (with_sealed left m) stands.lawful refl refl refl refl refl refl;
+  lawful = alike m (with_sealed_in_memory left m) stands.lawful refl refl refl refl refl refl;
 }
 
 pub same_staying : (m : Remembered) (table : ℕ) (s : State) → MemoryStandsFor m table s → staying (is_flushed s) s.parts.journals.sealed ≡ staying (flushed_by m.keyspaces m.records) m.journals.sealed
 same_staying m table s stands = λ i. staying (λ id lsn. flushed_agree m table s stands id lsn i) (stands.journals i).sealed
 
-pub an_eviction_stands : (m : Remembered) (table : ℕ) (s : State) → MemoryStandsFor m table s → MemoryStandsFor (with_sealed (staying (flushed_by m.keyspaces m.records) m.journals.sealed) m) table (machine.evicted s)
+pub an_eviction_stands : (m : Remembered) (table : ℕ) (s : State) → MemoryStandsFor m table s → MemoryStandsFor (with_sealed_in_memory (staying (flushed_by m.keyspaces m.records) m.journals.sealed) m) table (machine.evicted s)
 an_eviction_stands m table s stands =
     let left = staying (flushed_by m.keyspaces m.records) m.journals.sealed in
-    subst (λ (l : List Sealed). MemoryStandsFor (with_sealed left m) table (machine.with_sealed l s)) (sym (same_staying m table s stands)) (with_sealed_stands m table s stands left)
+    subst (λ (l : List Sealed). MemoryStandsFor (with_sealed_in_memory left m) table (machine.with_sealed l s)) (sym (same_staying m table s stands)) (with_sealed_stands m table s stands left)
 
 first_all : (p : Sealed → Bool) (xs ys : List Sealed) → IsTrue (list_all p (xs ++ ys)) → IsTrue (list_all p xs)
 first_all p xs ys all = by (list_all p xs) (list_all p ys) (subst IsTrue (list_all-append p xs ys) all)

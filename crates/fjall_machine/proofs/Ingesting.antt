@@ -6,8 +6,8 @@ use Rattle.std.specs.FinMap.{get, insert}
 use Rattle.std.specs.Option.{is_some}
 use Rattle.fjall_base.specs.Store.{kept}
 use Rattle.fjall_table_reader.specs.Readers.{Reader}
-use Rattle.fjall_catalog.specs.Catalog.{fields, first_of}
-use Rattle.fjall_compaction.specs.Flushes.{infos_from}
+use Rattle.fjall_manifest.specs.Catalog.{fields, first_of}
+use Rattle.fjall_compaction.specs.Flushes.{flushed_infos}
 use Rattle.fjall_history.specs.Histories.{grown, number, plain}
 use Rattle.fjall_compaction.specs.Ingests.{batch_items, ingestion, version_of, versions_made}
 use Rattle.fjall_compaction.proofs.Right.{once_made}
@@ -15,7 +15,7 @@ use Rattle.fjall_jobs.specs.declared.made_table.MadeTable.{MadeTable}
 use Rattle.fjall_jobs.specs.Sequences.{AreMadeTables}
 use Rattle.fjall_journal.specs.Changes.{Items}
 use Rattle.fjall_journal.specs.Ops.{BatchItem, items_refusal}
-use Rattle.fjall_recovery.specs.Known.{last_known}
+use Rattle.fjall_replay.specs.Known.{last_known}
 use Rattle.fjall_tree.specs.Ingestions.{ingested, stale}
 use Rattle.fjall_tree.specs.Trees.{Flushing, IsSameShape, Shape}
 use Rattle.fjall_trees.specs.Maps.{store_of}
@@ -31,10 +31,10 @@ use Rattle.fjall_trees.specs.Forests.{Forest, altered_at, tree_at}
 use Rattle.fjall_trees.specs.Tables.{AreSameTrees, shape_in}
 use Rattle.fjall_trees.specs.Writes.{MayPush, version_of_item, versions_of_items}
 use Rattle.fjall_trees.proofs.Changing.{altered_keeps, one_keeps, tree_under}
-use Rattle.fjall_contents.proofs.Slots.{get_put}
-use Rattle.fjall_views.specs.Jobs.{OnceEach, Same}
-use Rattle.fjall_views.specs.Jobs as jobs
-use Rattle.fjall_writes.specs.Ingestions.{KeyOp}
+use Rattle.fjall_meta.proofs.Slots.{get_put}
+use Rattle.fjall_memtable.specs.Jobs.{OnceEach, Same}
+use Rattle.fjall_memtable.specs.Jobs as jobs
+use Rattle.fjall_reading.specs.Ingestions.{KeyOp}
 use Rattle.fjall_machine.specs.Machine.{Parts, State, accepted, is_living}
 use Rattle.fjall_machine.specs.Shapes.{ByMode}
 use Rattle.fjall_machine.specs.Ingesting.{Ingests, MakesIngestion, last_ingested, parts_ingested, with_ingestion}
@@ -169,7 +169,7 @@ module _ (m : Remembered) (table : ℕ) (s : State) (stands : MemoryStandsFor m 
   makes_there = record {
     flushed = record { lists = makes.flushed.lists; made = makes.flushed.made; parted = makes.flushed.parted; ordered = makes.flushed.ordered; kept = kept_there; clears_are = refl };
     are = (makes.are.0, makes.are.1, makes.are.2, makes.are.3 ∙ ap (λ (n : ℕ). versions_made n items) (sym stands.number));
-    infos = makes.infos ∙ ap (λ (r : Fields). infos_from r.next_table_id (flushes ++ made)) (sym (known_record m table s stands id k at));
+    infos = makes.infos ∙ ap (λ (r : Fields). flushed_infos r.next_table_id (flushes ++ made)) (sym (known_record m table s stands id k at));
   }
 
   same_last : last_ingested (number s.history) (shape_in id s.parts.trees) flushes made (s.parts.records id) ≡ last

@@ -14,11 +14,11 @@ use Rattle.fjall_table.specs.Blocks.{Entry}
 use Rattle.fjall_trees.specs.Forests.{Forest, IsForest, altered_at, without}
 use Rattle.fjall_trees.specs.Tables.{entries_with, shape_in}
 use Rattle.fjall_trees.proofs.Alike.{same_forest}
-use Rattle.fjall_contents.specs.Replays.{option_pairs}
-use Rattle.fjall_contents.proofs.Slots.{same_id}
-use Rattle.fjall_writes.specs.Ingestions.{KeyOp}
+use Rattle.fjall_meta.specs.Replays.{option_pairs}
+use Rattle.fjall_meta.proofs.Slots.{same_id}
+use Rattle.fjall_reading.specs.Ingestions.{KeyOp}
 use Rattle.fjall_machine.specs.Shapes.{Persistence}
-use Rattle.fjall_machine.specs.Machine.{EvictsSome, Flushed, FlushesIn, Ingests, IsPoisoned, Merged, MergesIn, Parts, State, accepted, created, deleted, flush_gone, flush_out, is_last, is_long, journal_rotated, journal_synced, merge_gone, merge_out, options_in, present, released, rotated, target_size, with_sealed, written_out}
+use Rattle.fjall_machine.specs.Machine.{EvictsSome, Flushed, FlushesIn, Ingests, IsPoisoned, Merged, MergesIn, Parts, State, accepted, created, deleted, flush_gone, flush_out, is_last, is_long, journal_rotated, journal_synced, merge_gone, merge_out, options_in, present, released, rotated, target_size, with_sealed, parts_written_out}
 use Rattle.fjall_machine.specs.Remembered.{MemoryStandsFor, Remembered}
 use Rattle.fjall_machine.proofs.Lawful.{itself}
 use Rattle.fjall_machine.proofs.MergesStayOut.{IsAsBegun, begun_behind, begun_beside_dropped, begun_beside_flush, begun_changed, begun_dropped, begun_planted, begun_rotated, begun_without, merging_flushed_at, merging_ingested_at}
@@ -81,9 +81,9 @@ module _ (task : Task) where
   pub synced : (s : State) → Keeps task s (journal_synced s)
   synced s = by (is_long s.parts)
     where
-      by : (b : Bool) → Keeps task s (if b then journal_rotated s else record s { parts = written_out s.parts 0 })
+      by : (b : Bool) → Keeps task s (if b then journal_rotated s else record s { parts = parts_written_out s.parts 0 })
       by true = alike s (journal_rotated s) refl refl refl refl
-      by false = alike s (record s { parts = written_out s.parts 0 }) refl refl refl refl
+      by false = alike s (record s { parts = parts_written_out s.parts 0 }) refl refl refl refl
 
   pub some_gone : (s t : State) → EvictsSome s t → Keeps task s t
   some_gone s t (gone, left, all, may, is) = further s (with_sealed left s) t (alike s (with_sealed left s) refl refl refl refl) (same (with_sealed left s) t is)

@@ -11,7 +11,7 @@ use Rattle.fjall_tree.specs.Ingestions.{ingested, is_flush_due, stale}
 use Rattle.fjall_tree.specs.Jobs.{IsFlushing, flush_begun, flush_dropped, flush_finished}
 use Rattle.fjall_tree.specs.Puts.{bare_tree, put_all}
 use Rattle.fjall_tree.specs.Trees.{Flushing, Shape, emptied, sealed_off}
-use Rattle.fjall_manager.specs.Journals.{Sealed}
+use Rattle.fjall_files.specs.Journals.{Sealed}
 use Rattle.fjall_manifest.specs.Records.{Fields}
 use Rattle.fjall_trees.specs.Forests.{Forest, altered_at, tree_at, without}
 use Rattle.fjall_trees.specs.Tables.{AreSameTrees, shape_in}
@@ -21,9 +21,9 @@ use Rattle.fjall_trees.proofs.Others.{altered_here, dropped_here}
 use Rattle.fjall_trees.proofs.Outstanding.{flushing_emptied, flushing_planted, flushing_pushed, flushing_rotated, flushing_same, other_shape, shape_left}
 use Rattle.fjall_trees.proofs.Places.{each_by, tree_each}
 use Rattle.fjall_trees.proofs.Changed.{tree_with}
-use Rattle.fjall_contents.proofs.Slots.{same_id}
+use Rattle.fjall_meta.proofs.Slots.{same_id}
 use Rattle.fjall_history.specs.Tickets.{Tickets}
-use Rattle.fjall_machine.specs.Remembered.{KnowsTask, Remembered, flush_gone, flush_out, is_last, journal_rotated, poisoned, released, retained, rotated, with_change, with_creation, with_deletion, with_flush, with_sealed, with_tickets, with_trees}
+use Rattle.fjall_machine.specs.Remembered.{KnowsTask, Remembered, flush_gone_in_memory, flush_out_in_memory, is_last_in_memory, journal_rotated_in_memory, poisoned, released_in_memory, retained, rotated_in_memory, with_change, with_creation, with_deletion, with_flush, with_sealed_in_memory, with_tickets, with_trees}
 use Rattle.fjall_machine.specs.Ingesting.{with_ingestion}
 use Rattle.fjall_machine.proofs.Lawful.{after_release, itself}
 use Rattle.fjall_machine.proofs.SameTrees.{LeavesFlush, same_in}
@@ -124,17 +124,17 @@ module _ (m : Remembered) (task : Task) where
   pub after_retained : (id : ℕ) → KnowsTask m task → KnowsTask (retained id m) task
   after_retained id knows = (knows.0, knows.1, knows.2)
 
-  pub after_released : (id : ℕ) → KnowsTask m task → KnowsTask (released id m) task
-  after_released id knows = by (is_last m id)
+  pub after_released : (id : ℕ) → KnowsTask m task → KnowsTask (released_in_memory id m) task
+  after_released id knows = by (is_last_in_memory m id)
     where
       by : (last : Bool) → KnowsTask (after_release m id last) task
       by true = (knows.0, known_without m task id knows, knows.2)
       by false = (knows.0, knows.1, knows.2)
 
-  pub after_rotation : (id : ℕ) → KnowsTask m task → KnowsTask (rotated id m) task
-  after_rotation id = known_on m (rotated id m) task (omega arith) (flush_altered task.keyspace id sealed_off (λ shape. refl) m.trees) (λ is. flushing_rotated task.keyspace m.trees task is id)
+  pub after_rotation : (id : ℕ) → KnowsTask m task → KnowsTask (rotated_in_memory id m) task
+  after_rotation id = known_on m (rotated_in_memory id m) task (omega arith) (flush_altered task.keyspace id sealed_off (λ shape. refl) m.trees) (λ is. flushing_rotated task.keyspace m.trees task is id)
 
-  pub after_journal : (len : ℕ) → KnowsTask m task → KnowsTask (journal_rotated len m) task
+  pub after_journal : (len : ℕ) → KnowsTask m task → KnowsTask (journal_rotated_in_memory len m) task
   after_journal len knows = (knows.0, knows.1, knows.2)
 
   pub after_read : (trees : Forest) → AreSameTrees m.trees trees → KnowsTask m task → KnowsTask (with_trees trees m) task
@@ -144,13 +144,13 @@ module _ (m : Remembered) (task : Task) where
   pub after_tickets : (tickets : Tickets) → KnowsTask m task → KnowsTask (with_tickets tickets m) task
   after_tickets tickets knows = (knows.0, knows.1, knows.2)
 
-  pub after_begun : (id : ℕ) → KnowsTask m task → KnowsTask (flush_out id m) task
+  pub after_begun : (id : ℕ) → KnowsTask m task → KnowsTask (flush_out_in_memory id m) task
   after_begun id knows =
       let lt = knows.0 in
-      known_beside m (flush_out id m) task id (flush_begun m.next_job m.tickets.watermark) refl (omega arith) (λ shape same. let at : task.id ≡ m.next_job = same_id task.id m.next_job (both_of (task.id == m.next_job) (nat_lt 0 (length shape.memory.sealed)) same).0 in omega (arith, lt, at)) knows
+      known_beside m (flush_out_in_memory id m) task id (flush_begun m.next_job m.tickets.watermark) refl (omega arith) (λ shape same. let at : task.id ≡ m.next_job = same_id task.id m.next_job (both_of (task.id == m.next_job) (nat_lt 0 (length shape.memory.sealed)) same).0 in omega (arith, lt, at)) knows
 
-  pub after_dropped : (id : ℕ) → KnowsTask m task → KnowsTask (flush_gone id m) task
-  after_dropped id knows = known_beside m (flush_gone id m) task id flush_dropped refl (omega arith) (λ shape none. true≢false (sym none)) knows
+  pub after_dropped : (id : ℕ) → KnowsTask m task → KnowsTask (flush_gone_in_memory id m) task
+  after_dropped id knows = known_beside m (flush_gone_in_memory id m) task id flush_dropped refl (omega arith) (λ shape none. true≢false (sym none)) knows
 
   pub after_finished : (id : ℕ) (out : Flushing) (readers : List Reader) (last : Fields) → KnowsTask m task → KnowsTask (with_flush id out readers last m) task
   after_finished id out readers last knows = known_beside m (with_flush id out readers last m) task id (flush_finished readers out) refl (omega arith) (λ shape none. true≢false (sym none)) knows
@@ -160,7 +160,7 @@ module _ (m : Remembered) (task : Task) where
   after_ingestion id readers last knows =
       known_beside m (with_ingestion id readers last m) task id (ingested m.next readers) refl (omega arith) (λ shape due. stale_is_not_due task.id shape.flush due) knows
 
-  pub after_evicted : (left : List Sealed) → KnowsTask m task → KnowsTask (with_sealed left m) task
+  pub after_evicted : (left : List Sealed) → KnowsTask m task → KnowsTask (with_sealed_in_memory left m) task
   after_evicted left knows = (knows.0, knows.1, knows.2)
 
   pub after_fault : KnowsTask m task → KnowsTask (poisoned m) task

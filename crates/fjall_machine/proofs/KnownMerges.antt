@@ -14,12 +14,12 @@ use Rattle.fjall_trees.specs.Forests.{Forest, Planted, altered_at}
 use Rattle.fjall_trees.proofs.Changing.{tree_under}
 use Rattle.fjall_trees.specs.Tables.{AreSameTrees, shape_in}
 use Rattle.fjall_trees.proofs.Outstanding.{merging_same, merging_tree}
-use Rattle.fjall_writes.specs.Ingestions.{KeyOp}
+use Rattle.fjall_reading.specs.Ingestions.{KeyOp}
 use Rattle.fjall_machine.specs.Shapes.{CallShape, OfChange, OfCount, OfCreation, OfDeletion, OfFlushBegin, OfFlushFinish, OfHandle, OfIngestion, OfJournalRotation, OfMaintenance, OfMergeBegin, OfMergeFinish, OfPersist, OfRead, OfRotation, OfTickets, OneLess, OneMore}
 use Rattle.fjall_machine.specs.Machine as machine
-use Rattle.fjall_machine.specs.Machine.{Answers, BeginsFlush, BeginsMerge, CreatesOrFinds, FinishesFlush, FinishesMerge, Ingests, IngestionFails, IngestsInto, MayFail, Refuses, State, StepOf, WorkFails, accepted, at_fault, begins_flush, begins_merge, created, deleted, due, evicted, flush_gone, flush_out, handled, is_flushing, is_living, is_long, is_merging, journal_rotated, journal_synced, merge_gone, options_in, present, released, rotated, rotates, takes_effect, target_size, with_sealed, written_out}
+use Rattle.fjall_machine.specs.Machine.{Answers, BeginsFlush, BeginsMerge, CreatesOrFinds, FinishesFlush, FinishesMerge, Ingests, IngestionFails, IngestsInto, MayFail, Refuses, State, StepOf, WorkFails, accepted, at_fault, begins_flush, begins_merge, created, deleted, due, evicted, flush_gone, flush_out, handled, is_flushing, is_living, is_long, is_merging, journal_rotated, journal_synced, merge_gone, options_in, present, released, rotated, rotates, takes_effect, target_size, with_sealed, parts_written_out}
 use Rattle.fjall_machine.specs.Merging.{KnowsMerge}
-use Rattle.fjall_machine.specs.Remembered.{IsLawful, MemoryStandsFor, Remembered, merge_out}
+use Rattle.fjall_machine.specs.Remembered.{IsLawful, MemoryStandsFor, Remembered, merge_out_in_memory}
 use Rattle.fjall_machine.proofs.Flushing.{ids_stay}
 use Rattle.fjall_machine.proofs.KeptMerges.{IsSound, Keeps, alike, changes, creates, deletes, flush_begins, flush_finishes, flush_goes, further, ingests, merge_begins, merge_finishes, merge_goes, poisoned, releases, rotates_one, same, some_gone, sound, synced}
 use Rattle.fjall_machine.proofs.MergeSettings.{settings_agree}
@@ -66,12 +66,12 @@ module _ (task : Task) (s : State) (may : IsSound s) where
   ingests_synced : (id : ℕ) (items : List KeyOp) (mid : State) → Ingests (journal_synced s) id items mid → Keeps task s mid
   ingests_synced id items mid = by (is_long s.parts)
     where
-      by : (b : Bool) → Ingests (if b then journal_rotated s else record s { parts = written_out s.parts 0 }) id items mid → Keeps task s mid
+      by : (b : Bool) → Ingests (if b then journal_rotated s else record s { parts = parts_written_out s.parts 0 }) id items mid → Keeps task s mid
       by true is =
           let now = journal_rotated s in
           further task s now mid (alike task s now refl refl refl refl) (ingests task now (record { forest = may.forest; small = may.small; until = may.until }) id items mid is)
       by false is =
-          let now : State = record s { parts = written_out s.parts 0 } in
+          let now : State = record s { parts = parts_written_out s.parts 0 } in
           further task s now mid (alike task s now refl refl refl refl) (ingests task now (record { forest = may.forest; small = may.small; until = may.until }) id items mid is)
 
   ingested : (id : ℕ) (items : List KeyOp) (reply : Reply) (t : State) → IngestsInto id items s reply t → Keeps task s t
@@ -95,7 +95,7 @@ module _ (task : Task) (s : State) (may : IsSound s) where
   answers t OfMaintenance reply (told, is) = to task s t (evicted s) is (alike task s (evicted s) refl refl refl refl)
   answers t (OfRead view id query) reply (told, is) = same task s t is
   answers t (OfTickets call) reply (turns, is) = subst (Keeps task s) (sym is) (alike task s (record s { tickets = t.tickets }) refl refl refl refl)
-  answers t (OfPersist mode) reply (told, is) = subst (Keeps task s) (sym is) (alike task s (record s { parts = written_out s.parts 0 }) refl refl refl refl)
+  answers t (OfPersist mode) reply (told, is) = subst (Keeps task s) (sym is) (alike task s (record s { parts = parts_written_out s.parts 0 }) refl refl refl refl)
   answers t (OfCount count) reply (told, is) = same task s t is
 
   -- ---- steps that fail
@@ -194,22 +194,22 @@ pub a_known_merge_stays : (m : Remembered) (table : ℕ) (s : State) → MemoryS
 a_known_merge_stays m table s stands shape reply t step target task = stays_known target task s t (step_keeps task s (sound m table s stands) shape reply t step)
 
 -- a keyspace whose tree has a merge out was given its id
-out_given : (m : Remembered) → IsLawful m → (id : ℕ) (trees : Forest) → AreSameTrees (merge_out id m).trees trees → (entries : List (List Entry)) (task : Task) → IsMerging (shape_in id trees) entries task → id < m.keyspaces.next
+out_given : (m : Remembered) → IsLawful m → (id : ℕ) (trees : Forest) → AreSameTrees (merge_out_in_memory id m).trees trees → (entries : List (List Entry)) (task : Task) → IsMerging (shape_in id trees) entries task → id < m.keyspaces.next
 out_given m is id trees alike entries task merging =
-    let given = all_same (λ q tables. q < m.keyspaces.next) (λ q a b same here. here) (merge_out id m).trees trees alike (ids_stay m.keyspaces.next id (merge_begun m.next_job m.tickets.watermark) m.trees is.given) in
+    let given = all_same (λ q tables. q < m.keyspaces.next) (λ q a b same here. here) (merge_out_in_memory id m).trees trees alike (ids_stay m.keyspaces.next id (merge_begun m.next_job m.tickets.watermark) m.trees is.given) in
     tree_under (λ (k : Planted). k.id < m.keyspaces.next) trees id (shape_in id trees) given (merging_tree id trees entries task merging)
 
 -- one that is begun, whatever is kept of the tables that it read
-pub a_begun_merge_is_known : (m : Remembered) (table : ℕ) (s : State) → MemoryStandsFor m table s → (id : ℕ) (trees : Forest) → AreSameTrees (merge_out id m).trees trees → (task : Task)
+pub a_begun_merge_is_known : (m : Remembered) (table : ℕ) (s : State) → MemoryStandsFor m table s → (id : ℕ) (trees : Forest) → AreSameTrees (merge_out_in_memory id m).trees trees → (task : Task)
     → task.id ≡ m.next_job → task.keyspace ≡ id → IsMerging (shape_in id trees) (s.parts.entries id) task → KnowsMerge (machine.merge_out s id) (target_size (options_in (store_of m.keyspaces m.trees) id)) task
 a_begun_merge_is_known m table s stands id trees alike task number at is =
     let job = stands.next_job in
     let next = next_agrees m table s stands in
     let new = (machine.merge_out s id).parts.trees in
-    let begun : AreSameTrees new (merge_out id m).trees =
-    subst (λ (x : ℕ × ℕ). AreSameTrees (altered_at id (merge_begun x.0 x.1) s.parts.trees) (merge_out id m).trees) (sym (λ i. (stands.next_job i, (stands.tickets i).watermark)))
+    let begun : AreSameTrees new (merge_out_in_memory id m).trees =
+    subst (λ (x : ℕ × ℕ). AreSameTrees (altered_at id (merge_begun x.0 x.1) s.parts.trees) (merge_out_in_memory id m).trees) (sym (λ i. (stands.next_job i, (stands.tickets i).watermark)))
     (same_altered_by id (merge_begun m.next_job m.tickets.watermark) (begun_same m.next_job m.tickets.watermark) s.parts.trees m.trees stands.trees) in
-    let here = merging_same id trees new (back new trees (along new (merge_out id m).trees trees begun alike)) (s.parts.entries id) task is in
+    let here = merging_same id trees new (back new trees (along new (merge_out_in_memory id m).trees trees begun alike)) (s.parts.entries id) task is in
     record {
       given = omega (arith, job, number);
       made = omega (arith, at, next, let lt = out_given m stands.lawful id trees alike (s.parts.entries id) task is in lt);

@@ -13,15 +13,15 @@ use Rattle.fjall_base.specs.Pairs.{Bytes}
 use Rattle.fjall_base.specs.declared.error.Error.{Error}
 use Rattle.fjall_journal.specs.Changes.{Change, Emptied, Items}
 use Rattle.fjall_journal.specs.Ops.{BatchItem, items_refusal}
-use Rattle.fjall_manager.specs.Journals.{Journals}
+use Rattle.fjall_files.specs.Journals.{Journals}
 use Rattle.fjall_meta.specs.declared.living.LivingKeyspace.{LivingKeyspace}
 use Rattle.fjall_meta.specs.Keyspaces.{AreKeyspaces, Keyspaces, id_of, is_name, keyspace_at}
 use Rattle.fjall_meta.proofs.Changes.{none_named, one_more_are, some_are}
 use Rattle.fjall_options.specs.Options.{AreOptions}
-use Rattle.fjall_contents.proofs.Found.{found_has, found_passes}
-use Rattle.fjall_contents.proofs.Slots.{get_put, same_id, same_maps, ties}
-use Rattle.fjall_catalog.specs.Catalog.{fields, first_of}
-use Rattle.fjall_recovery.specs.Known.{LastFields}
+use Rattle.fjall_meta.proofs.Found.{found_has, found_passes}
+use Rattle.fjall_meta.proofs.Slots.{get_put, same_id, same_maps, ties}
+use Rattle.fjall_manifest.specs.Catalog.{fields, first_of}
+use Rattle.fjall_replay.specs.Known.{LastFields}
 use Rattle.fjall_manifest.specs.Records.{Fields}
 use Rattle.fjall_tree.specs.Trees.{Flushing, Merging, emptied, sealed_off}
 use Rattle.fjall_trees.specs.Forests.{AreBefore, Forest, Planted, altered_at, tree_at}
@@ -33,8 +33,8 @@ use Rattle.fjall_history.specs.declared.ticket.Ticket.{Ticket}
 use Rattle.fjall_history.specs.Tickets.{Tickets, Tracked, closed, collected, least, no_tickets, opened}
 use Rattle.fjall_history.proofs.Values.{all_inserted, all_removed, of_value}
 use Rattle.fjall_machine.specs.Allowed.{FitsBatch}
-use Rattle.fjall_machine.specs.Machine.{handles_of, is_living, one_less, without}
-use Rattle.fjall_machine.specs.Remembered.{IsFlushBegun, IsLawful, IsMergeBegun, IsReadAt, Remembered, is_last, let_go, poisoned, released, remembered, retained, rotated, with_change, with_creation, with_deletion, with_tickets, with_trees}
+use Rattle.fjall_machine.specs.Machine.{handles_of, is_living, one_less, without_id}
+use Rattle.fjall_machine.specs.Remembered.{IsFlushBegun, IsLawful, IsMergeBegun, IsReadAt, Remembered, is_last_in_memory, let_go, poisoned, released_in_memory, remembered, retained, rotated_in_memory, with_change, with_creation, with_deletion, with_tickets, with_trees}
 use Rattle.fjall_machine.proofs.Facts.{living_names, some_there}
 use Rattle.fjall_trees.specs.Tables.{AreSameTrees}
 use Rattle.fjall_machine.proofs.SameTrees.{all_alike, all_same, altered_flushes, altered_merges, pushed_flushes, pushed_merges}
@@ -318,7 +318,7 @@ let_go_is_lawful id m is gone = record {
 }
 
 -- a keyspace whose last handle is counted is deleted
-pub last_gone : (m : Remembered) (id : ℕ) → is_last m id ≡ true → is_living (store_of m.keyspaces m.trees) id ≡ false
+pub last_gone : (m : Remembered) (id : ℕ) → is_last_in_memory m id ≡ true → is_living (store_of m.keyspaces m.trees) id ≡ false
 last_gone m id = first (is_living (store_of m.keyspaces m.trees) id) (handles_of m.handles id == 1)
   where
     first : (lives one : Bool) → (not lives && one) ≡ true → lives ≡ false
@@ -329,13 +329,13 @@ last_gone m id = first (is_living (store_of m.keyspaces m.trees) id) (handles_of
 abbrev pub after_release : Remembered → ℕ → Bool → Remembered
 after_release m id last = record m {
   handles = one_less m.handles id;
-  lasting = if last then without m.lasting id else m.lasting;
+  lasting = if last then without_id m.lasting id else m.lasting;
   trees = if last then forests.without id m.trees else m.trees;
   records = if last then remove m.records id else m.records;
 }
 
-pub released_is_lawful : (id : ℕ) (m : Remembered) → IsLawful m → IsLawful (released id m)
-released_is_lawful id m is = either (is_last m id) (λ e. last_gone m id e)
+pub released_is_lawful : (id : ℕ) (m : Remembered) → IsLawful m → IsLawful (released_in_memory id m)
+released_is_lawful id m is = either (is_last_in_memory m id) (λ e. last_gone m id e)
   where
     either : (last : Bool) → (last ≡ true → is_living (store_of m.keyspaces m.trees) id ≡ false) → IsLawful (after_release m id last)
     either true gone = alike (let_go id m) (after_release m id true) (let_go_is_lawful id m is (gone refl)) refl refl refl refl refl refl
@@ -487,7 +487,7 @@ module _ (m : Remembered) (is : IsLawful m) where
 
 -- ---- a rotation
 
-pub rotated_is_lawful : (id : ℕ) (m : Remembered) → IsLawful m → IsLawful (rotated id m)
+pub rotated_is_lawful : (id : ℕ) (m : Remembered) → IsLawful m → IsLawful (rotated_in_memory id m)
 rotated_is_lawful id m is =
     let times = time_collected m is in
     record {
@@ -557,7 +557,7 @@ either_release : (m : Remembered) (id : ℕ) (last : Bool) → record (if last t
 either_release m id true = refl
 either_release m id false = refl
 
-pub release_is : (m mid : Remembered) (id : ℕ) (last : Bool) → last ≡ is_last m id → mid ≡ (if last then let_go id m else m) → record mid { handles = one_less mid.handles id } ≡ released id m
+pub release_is : (m mid : Remembered) (id : ℕ) (last : Bool) → last ≡ is_last_in_memory m id → mid ≡ (if last then let_go id m else m) → record mid { handles = one_less mid.handles id } ≡ released_in_memory id m
 release_is m mid id last is held = ap (λ (k : Remembered). record k { handles = one_less k.handles id }) held ∙ either_release m id last ∙ ap (after_release m id) is
 
 -- ---- a read

@@ -11,11 +11,11 @@ use Rattle.fjall_files.specs.Names.{table_name}
 use Rattle.fjall_jobs.specs.declared.made_table.MadeTable.{MadeTable}
 use Rattle.fjall_jobs.specs.declared.merge_made.MergeMade.{MergeMade}
 use Rattle.fjall_jobs.specs.Made.{merge_tables}
-use Rattle.fjall_recovery.specs.Known.{last_known}
+use Rattle.fjall_replay.specs.Known.{last_known}
 use Rattle.fjall_tree.specs.Jobs.{input_of, is_merge_out}
 use Rattle.fjall_tree.specs.Trees.{Merging}
 use Rattle.fjall_compaction.specs.declared.merge.plan.MergePlan.{MergePlan}
-use Rattle.fjall_compaction.specs.Merges.{Merge, merge_of, record_after}
+use Rattle.fjall_compaction.specs.Merges.{Merge, merge_of, record_after_merge}
 use Rattle.fjall_compaction.specs.MergePlans.{ForMergeOn, IsMergePlan, IsMergePlanRefusal}
 use Rattle.fjall_compaction.proofs.Taking.{named_ids}
 use Rattle.fjall_meta.specs.declared.living.LivingKeyspace.{LivingKeyspace}
@@ -96,10 +96,10 @@ module _ (m : Remembered) (made : MergeMade) (last : Fields) (input : ℕ × ℕ
   -- ---- memory
 
   pub finished : (k : LivingKeyspace) (out : Merging) → keyspace_at id m.keyspaces.living ≡ Some k → (shape_in id m.trees).merge ≡ Some out → (a new : Remembered) (readers : List Reader) (written : Fields) → a ≡ m
-      → AreMergeReaders id last.next_table_id (merge_tables made) readers → written ≡ record_after (merge_of input made) last → new ≡ with_merge id out readers written a
+      → AreMergeReaders id last.next_table_id (merge_tables made) readers → written ≡ record_after_merge (merge_of input made) last → new ≡ with_merge id out readers written a
       → IsMergeFinished m id (last_known m.records k) out (counted_as out made) new
   finished k out at was a new readers written same are says is = record {
     readers = readers;
     are = subst (λ (l : Fields). AreMergeReaders id l.next_table_id (merge_tables made) readers) (last_is k at) are;
-    is = is ∙ (λ i. with_merge id out readers ((says ∙ (λ j. record_after (merge_is out was j) (last_is k at j))) i) (same i));
+    is = is ∙ (λ i. with_merge id out readers ((says ∙ (λ j. record_after_merge (merge_is out was j) (last_is k at j))) i) (same i));
   }

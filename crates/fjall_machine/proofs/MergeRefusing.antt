@@ -8,7 +8,7 @@ use Rattle.fjall_history.specs.declared.reply.Reply.TheVariants.{Refused}
 use Rattle.fjall_jobs.specs.declared.made_table.MadeTable.{MadeTable}
 use Rattle.fjall_jobs.specs.Merges.{IsMerged}
 use Rattle.fjall_jobs.specs.Tasks.{Task}
-use Rattle.fjall_recovery.specs.Known.{last_known}
+use Rattle.fjall_replay.specs.Known.{last_known}
 use Rattle.fjall_tree.specs.Jobs.{IsMerging}
 use Rattle.fjall_tree.specs.Trees.{Merging}
 use Rattle.fjall_compaction.specs.MergeFinishing as counting

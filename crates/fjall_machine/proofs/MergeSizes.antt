@@ -11,8 +11,8 @@ use Rattle.fjall_options.specs.declared.options.effective.EffectiveSettings.{Eff
 use Rattle.fjall_options.specs.declared.options.stored_option.StoredOption.TheVariants.{LeveledL0Threshold, LeveledTargetSize}
 use Rattle.fjall_options.specs.Options.{effective_settings, value_at, value_of}
 use Rattle.fjall_trees.specs.Forests.{Forest}
-use Rattle.fjall_contents.specs.Replays.{option_pairs}
-use Rattle.fjall_contents.proofs.Naming.{settings}
+use Rattle.fjall_meta.specs.Replays.{option_pairs}
+use Rattle.fjall_meta.proofs.Naming.{settings}
 use Rattle.fjall_machine.specs.Machine.{l0_threshold, options_in, target_size}
 
 -- ---- what pairs of options say

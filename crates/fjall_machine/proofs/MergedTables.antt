@@ -12,15 +12,15 @@ use Rattle.fjall_tree.proofs.Merged.{once_of}
 use Rattle.fjall_tree.proofs.Outstanding.{same_count}
 use Rattle.fjall_tree.proofs.Several.{all_same, flat_both, flat_parted, ordered_once}
 use Rattle.fjall_trees.specs.MapTables.{AreOlder, IsOlder}
-use Rattle.fjall_compaction.specs.Merges.{infos_from}
+use Rattle.fjall_compaction.specs.Merges.{merged_infos}
 use Rattle.fjall_memtable.specs.Sorted.{flat}
 use Rattle.fjall_table.specs.Blocks.{Entry}
 use Rattle.fjall_trees.specs.Forests.{Forest, IsForest, altered_at}
 use Rattle.fjall_trees.specs.Tables.{entries_with, shape_in}
 use Rattle.fjall_trees.proofs.Changing.{altered_keeps, tree_under}
 use Rattle.fjall_trees.proofs.Outstanding.{merging_tree}
-use Rattle.fjall_views.specs.Jobs.{AreBelow, OnceEach, merged, merged_clears}
-use Rattle.fjall_views.proofs.Once.{parts_once}
+use Rattle.fjall_memtable.specs.Jobs.{AreBelow, OnceEach, merged, merged_clears}
+use Rattle.fjall_memtable.proofs.Once.{parts_once}
 use Rattle.fjall_machine.proofs.Older.{both_empty, both_none, none_listed}
 
 -- ---- whatever is kept of tables
@@ -87,7 +87,7 @@ module _ (entries : ℕ → List (List Entry)) (trees : Forest) (forest : IsFore
   -- ---- without a table
 
   -- where no reader of a made table comes, no table was made
-  none_made : (next : ℕ) (made : List MadeTable) (readers : List Reader) → map (λ t. t.info) readers ≡ infos_from next made → readers ≡ [] → made ≡ []
+  none_made : (next : ℕ) (made : List MadeTable) (readers : List Reader) → map (λ t. t.info) readers ≡ merged_infos next made → readers ≡ [] → made ≡ []
   none_made next [] readers infos none = let same : next ≡ next = omega arith in cc
   none_made next (t ∷ made) readers infos none = let bad : ⊥ = cc in absurd bad
 
@@ -100,7 +100,7 @@ module _ (entries : ℕ → List (List Entry)) (trees : Forest) (forest : IsFore
   none_left (suc n) (x ∷ xs) (y ∷ ys) same none = none_left n xs ys (omega (arith, same)) none
 
   -- A keyspace without a table has none then, where each of its tables had its entries.
-  pub merged_none : (next : ℕ) → map (λ t. t.info) readers ≡ infos_from next tables → length (entries id) ≡ length (shape_in id trees).tables
+  pub merged_none : (next : ℕ) → map (λ t. t.info) readers ≡ merged_infos next tables → length (entries id) ≡ length (shape_in id trees).tables
       → All (λ k. k.shape.tables ≡ [] → entries k.id ≡ []) trees
       → All (λ k. k.shape.tables ≡ [] → entries_with id (made.lists ++ drop is.out.tables (entries id)) entries k.id ≡ []) (altered_at id (merge_finished readers is.out) trees)
   merged_none next infos counted none =

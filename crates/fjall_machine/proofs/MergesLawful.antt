@@ -12,13 +12,13 @@ use Rattle.fjall_trees.proofs.Finished.{merged_before, merged_forest, merged_has
 use Rattle.fjall_meta.specs.declared.living.LivingKeyspace.{LivingKeyspace}
 use Rattle.fjall_manifest.specs.Records.{Fields}
 use Rattle.fjall_trees.specs.Forests.{altered_at}
-use Rattle.fjall_machine.specs.Remembered.{IsFlushBegun, IsLawful, IsMergeBegun, Remembered, merge_gone, merge_out, with_merge, with_merge_done}
+use Rattle.fjall_machine.specs.Remembered.{IsFlushBegun, IsLawful, IsMergeBegun, Remembered, merge_gone_in_memory, merge_out_in_memory, with_merge, with_merge_done}
 use Rattle.fjall_machine.proofs.Flushing.{ids_stay, still_planted}
 use Rattle.fjall_machine.proofs.Lawful.{alike, all_begun_later, all_merges_begun_later, other_kept, still_kept}
 use Rattle.fjall_machine.proofs.SameTrees.{altered_flushes, given_merges}
 
 -- a merge that is begun now, or one from before, was begun
-pub merge_out_is_lawful : (id : ℕ) (m : Remembered) → IsLawful m → m.next_job < 2 ^ 64 - 1 → IsLawful (merge_out id m)
+pub merge_out_is_lawful : (id : ℕ) (m : Remembered) → IsLawful m → m.next_job < 2 ^ 64 - 1 → IsLawful (merge_out_in_memory id m)
 merge_out_is_lawful id m is small =
     let w = m.tickets.watermark in
     let change = merge_begun m.next_job w in
@@ -45,7 +45,7 @@ merge_out_is_lawful id m is small =
 pub dropped_leaves : LeavesMemory merge_dropped
 dropped_leaves shape = (refl, refl)
 
-pub merge_gone_is_lawful : (id : ℕ) (m : Remembered) → IsLawful m → IsLawful (merge_gone id m)
+pub merge_gone_is_lawful : (id : ℕ) (m : Remembered) → IsLawful m → IsLawful (merge_gone_in_memory id m)
 merge_gone_is_lawful id m is = record {
   keyspaces = is.keyspaces;
   made = is.made;

@@ -26,8 +26,8 @@ use Rattle.fjall_trees.proofs.Others.{altered_here, dropped_here}
 use Rattle.fjall_trees.proofs.Outstanding.{merging_begun, merging_dropped, merging_emptied, merging_ingested, merging_planted, merging_pushed, merging_rotated, merging_tree, other_shape, shape_left}
 use Rattle.fjall_trees.proofs.Places.{each_by, tree_each, tree_has}
 use Rattle.fjall_trees.proofs.Changed.{tree_with}
-use Rattle.fjall_contents.proofs.Slots.{same_id}
-use Rattle.fjall_writes.specs.Ingestions.{KeyOp}
+use Rattle.fjall_meta.proofs.Slots.{same_id}
+use Rattle.fjall_reading.specs.Ingestions.{KeyOp}
 use Rattle.fjall_machine.specs.Machine.{changed, task_of}
 use Rattle.fjall_machine.proofs.Lawful.{itself}
 use Rattle.fjall_machine.proofs.SameTrees.{LeavesMerge}

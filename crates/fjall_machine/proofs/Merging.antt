@@ -4,18 +4,18 @@ use Rattle.std.proofs.lemmas.List.Elements.{All-weaker}
 use Rattle.std.specs.FinMap.{get, insert}
 use Rattle.fjall_base.specs.Store.{kept}
 use Rattle.fjall_table_reader.specs.Readers.{Reader}
-use Rattle.fjall_catalog.specs.Catalog.{fields, first_of}
+use Rattle.fjall_manifest.specs.Catalog.{fields, first_of}
 use Rattle.fjall_jobs.specs.declared.made_table.MadeTable.{MadeTable}
 use Rattle.fjall_jobs.specs.Merges.{IsMerged}
 use Rattle.fjall_jobs.specs.Tasks.{Task}
 use Rattle.fjall_journal.specs.Writer.{counted}
-use Rattle.fjall_recovery.specs.Known.{last_known}
+use Rattle.fjall_replay.specs.Known.{last_known}
 use Rattle.fjall_tree.specs.Jobs.{IsMerging, merge_begun, merge_dropped, merge_finished}
 use Rattle.fjall_tree.specs.Trees.{IsSameShape, Merging}
 use Rattle.fjall_trees.proofs.Alike.{changed_alike_older, changed_alike_pairs, changed_alike_store, merge_leaves}
 use Rattle.fjall_trees.proofs.Finished.{merged_store, merged_with}
 use Rattle.fjall_compaction.specs.MergeFinishing as counting
-use Rattle.fjall_compaction.specs.Merges.{infos_from, record_after}
+use Rattle.fjall_compaction.specs.Merges.{merged_infos, record_after_merge}
 use Rattle.fjall_meta.specs.declared.living.LivingKeyspace.{LivingKeyspace}
 use Rattle.fjall_meta.specs.Keyspaces.{keyspace_at}
 use Rattle.fjall_memtable.specs.Sorted.{flat}
@@ -25,12 +25,12 @@ use Rattle.fjall_trees.specs.Forests.{Forest, Planted, altered_at}
 use Rattle.fjall_trees.specs.Tables.{AreSameTrees, shape_in}
 use Rattle.fjall_trees.proofs.Changing.{tree_under}
 use Rattle.fjall_trees.proofs.Outstanding.{merging_tree}
-use Rattle.fjall_contents.proofs.Slots.{get_put}
-use Rattle.fjall_views.specs.Jobs.{Same}
-use Rattle.fjall_views.specs.Jobs as jobs
+use Rattle.fjall_meta.proofs.Slots.{get_put}
+use Rattle.fjall_memtable.specs.Jobs.{Same}
+use Rattle.fjall_memtable.specs.Jobs as jobs
 use Rattle.fjall_machine.specs.Machine as machine
 use Rattle.fjall_machine.specs.Machine.{Merged, MergesIn, Parts, State, merge_task_of, options_in, present, target_size}
-use Rattle.fjall_machine.specs.Remembered.{IsMergeBegun, MemoryStandsFor, Remembered, merge_gone, merge_out, with_merge, with_merge_done, with_trees}
+use Rattle.fjall_machine.specs.Remembered.{IsMergeBegun, MemoryStandsFor, Remembered, merge_gone_in_memory, merge_out_in_memory, with_merge, with_merge_done, with_trees}
 use Rattle.fjall_machine.proofs.Flushing.{above_begun, id_given, known_record}
 use Rattle.fjall_machine.proofs.Lawful.{others, read_above}
 use Rattle.fjall_machine.proofs.MergedTables.{begun_same, merged_none, merged_older, merged_same}
@@ -40,7 +40,7 @@ use Rattle.fjall_machine.proofs.Standing.{a_read_stands}
 
 -- ---- a merge that is begun, or forgotten, or counted
 
-pub begun_stands : (m : Remembered) (table : ℕ) (s : State) → MemoryStandsFor m table s → (id : ℕ) → m.next_job < 2 ^ 64 - 1 → MemoryStandsFor (merge_out id m) table (machine.merge_out s id)
+pub begun_stands : (m : Remembered) (table : ℕ) (s : State) → MemoryStandsFor m table s → (id : ℕ) → m.next_job < 2 ^ 64 - 1 → MemoryStandsFor (merge_out_in_memory id m) table (machine.merge_out s id)
 begun_stands m table s stands id small =
     let change = merge_begun m.next_job m.tickets.watermark in
     let leaves = merge_leaves m.next_job m.tickets.watermark in
@@ -68,11 +68,11 @@ begun_stands m table s stands id small =
     }
 
 -- whatever is kept of the tables that it read
-pub a_begun_merge_stands : (m : Remembered) (table : ℕ) (s : State) → MemoryStandsFor m table s → (id : ℕ) → m.next_job < 2 ^ 64 - 1 → (trees : Forest) → AreSameTrees (merge_out id m).trees trees
-    → MemoryStandsFor (with_trees trees (merge_out id m)) table (machine.merge_out s id)
-a_begun_merge_stands m table s stands id small trees same = a_read_stands (merge_out id m) table (machine.merge_out s id) (begun_stands m table s stands id small) trees same
+pub a_begun_merge_stands : (m : Remembered) (table : ℕ) (s : State) → MemoryStandsFor m table s → (id : ℕ) → m.next_job < 2 ^ 64 - 1 → (trees : Forest) → AreSameTrees (merge_out_in_memory id m).trees trees
+    → MemoryStandsFor (with_trees trees (merge_out_in_memory id m)) table (machine.merge_out s id)
+a_begun_merge_stands m table s stands id small trees same = a_read_stands (merge_out_in_memory id m) table (machine.merge_out s id) (begun_stands m table s stands id small) trees same
 
-pub a_dropped_merge_stands : (m : Remembered) (table : ℕ) (s : State) → MemoryStandsFor m table s → (id : ℕ) → MemoryStandsFor (merge_gone id m) table (machine.merge_gone s id)
+pub a_dropped_merge_stands : (m : Remembered) (table : ℕ) (s : State) → MemoryStandsFor m table s → (id : ℕ) → MemoryStandsFor (merge_gone_in_memory id m) table (machine.merge_gone s id)
 a_dropped_merge_stands m table s stands id = record {
   present = stands.present ∙ ap kept (sym (changed_alike_store merge_dropped dropped_leaves id m.trees s.parts.entries m.keyspaces));
   views = λ instant at other held. stands.views instant at other held ∙ sym (changed_alike_pairs merge_dropped dropped_leaves id m.trees s.parts.entries other instant);
@@ -154,19 +154,19 @@ module _ (m : Remembered) (table : ℕ) (s : State) (stands : MemoryStandsFor m 
       by zero le spared = omega (arith, le)
       by (suc w) le spared = let lt = spared (omega arith) in let small = stands.lawful.small in omega (arith, le, lt, small)
 
-  module _ (k : LivingKeyspace) (at : keyspace_at id m.keyspaces.living ≡ Some k) (readers : List Reader) (infos : map (λ t. t.info) readers ≡ infos_from (last_known m.records k).next_table_id tables) where
+  module _ (k : LivingKeyspace) (at : keyspace_at id m.keyspaces.living ≡ Some k) (readers : List Reader) (infos : map (λ t. t.info) readers ≡ merged_infos (last_known m.records k).next_table_id tables) where
     -- the parts of the state once it is finished
     abbrev parts : Parts
-    parts = machine.merged id is.out tables clears made.lists readers s.parts
+    parts = machine.parts_merged id is.out tables clears made.lists readers s.parts
 
     abbrev last : Fields
-    last = record_after (counting.merge_out is.out tables clears) (last_known m.records k)
+    last = record_after_merge (counting.merge_out is.out tables clears) (last_known m.records k)
 
     pub merged_there : target ≡ target_size (options_in (present s) id) → Merged s id parts
     unfolding made_there
     merged_there sized =
         subst (λ (x : Option Merging × ℕ). MergesIn x.0 x.1 s.parts id parts) (λ i. (sym out_there i, sized i))
-        (record { tables = tables; clears = clears; made = made_there; readers = readers; infos = infos ∙ ap (λ (r : Fields). infos_from r.next_table_id tables) (sym (known_record m table s stands id k at)); is = refl })
+        (record { tables = tables; clears = clears; made = made_there; readers = readers; infos = infos ∙ ap (λ (r : Fields). merged_infos r.next_table_id tables) (sym (known_record m table s stands id k at)); is = refl })
 
     records_then : All (λ j. parts.records j.id ≡ last_known (insert m.records id last) j) m.keyspaces.living
     records_then =
@@ -174,8 +174,8 @@ module _ (m : Remembered) (table : ℕ) (s : State) (stands : MemoryStandsFor m 
         (λ j known. by j (j.id == id) known ∙ ap (λ (o : Option Fields). unwrap_or o (fields (first_of j.number))) (sym (get_put m.records id last j.id))) m.keyspaces.living stands.records
       where
         by : (j : LivingKeyspace) (b : Bool) → s.parts.records j.id ≡ last_known m.records j
-            → cond b (record_after (counting.merge_out is.out tables clears) (s.parts.records id)) (s.parts.records j.id) ≡ unwrap_or (cond b (Some last) (get m.records j.id)) (fields (first_of j.number))
-        by j true known = ap (record_after (counting.merge_out is.out tables clears)) (known_record m table s stands id k at)
+            → cond b (record_after_merge (counting.merge_out is.out tables clears) (s.parts.records id)) (s.parts.records j.id) ≡ unwrap_or (cond b (Some last) (get m.records j.id)) (fields (first_of j.number))
+        by j true known = ap (record_after_merge (counting.merge_out is.out tables clears)) (known_record m table s stands id k at)
         by j false known = known
 
     -- where each table had its entries

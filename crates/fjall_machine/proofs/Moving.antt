@@ -6,9 +6,9 @@ use Rattle.fjall_base.specs.Store.{Create, Delete}
 use Rattle.fjall_base.specs.declared.error.Error.{Error}
 use Rattle.fjall_base.specs.declared.error.Error.TheVariants.{Io, NumbersUsedUp, OutOfMemory, Poisoned, SnapshotClosed, Storage, TooManyItems, ValueTooLong}
 use Rattle.fjall_compaction.specs.Ingests.{ingestion}
-use Rattle.fjall_writes.specs.Ingestions.{KeyOp}
+use Rattle.fjall_reading.specs.Ingestions.{KeyOp}
 use Rattle.fjall_journal.specs.Changes.{Emptied, Items, command_of}
-use Rattle.fjall_contents.specs.Replays.{option_pairs}
+use Rattle.fjall_meta.specs.Replays.{option_pairs}
 use Rattle.fjall_history.specs.declared.job.JobId.{JobId}
 use Rattle.fjall_history.specs.declared.reply.Reply.{Reply}
 use Rattle.fjall_history.specs.declared.reply.Reply.TheVariants.{Refused}
@@ -17,7 +17,7 @@ use Rattle.fjall_history.specs.Moves.{Accepts, Closes, Collects, Moves, MovesOn,
 use Rattle.fjall_history.specs.Tickets.{Tickets, closing_refusal, is_open}
 use Rattle.fjall_machine.specs.declared.call.Call.{Call}
 use Rattle.fjall_machine.specs.Shapes.{CallShape, Clone, Close, Collect, OfChange, OfCount, OfCreation, OfDeletion, OfFlushBegin, OfFlushFinish, OfHandle, OfIngestion, OfJournalRotation, OfMaintenance, OfMergeBegin, OfMergeFinish, OfPersist, OfRead, OfRotation, OfTickets, OneLess, OneMore, Open, TicketCall, shape_of}
-use Rattle.fjall_machine.specs.Machine.{Answers, BeginsFlush, BeginsMerge, CreatesOrFinds, EvictsSome, FinishesFlush, FinishesMerge, IngestionFails, IngestsInto, IsPoisoned, MayFail, Refuses, Run, State, Step, StepOf, TurnsTickets, WorkFails, at_fault, begins_flush, begins_merge, deleted, due, is_flushing, is_merging, is_living, is_long, journal_rotated, journal_synced, present, rotated, rotates, takes_effect, ticket_refusal, times, written_out}
+use Rattle.fjall_machine.specs.Machine.{Answers, BeginsFlush, BeginsMerge, CreatesOrFinds, EvictsSome, FinishesFlush, FinishesMerge, IngestionFails, IngestsInto, IsPoisoned, MayFail, Refuses, Run, State, Step, StepOf, TurnsTickets, WorkFails, at_fault, begins_flush, begins_merge, deleted, due, is_flushing, is_merging, is_living, is_long, journal_rotated, journal_synced, present, rotated, rotates, takes_effect, ticket_refusal, times, parts_written_out}
 
 still : (s t : State) → times t ≡ times s → Moves (times s) (times t)
 still s t same = Rests same
@@ -49,7 +49,7 @@ fault_times s (OfCount count) = refl
 synced_times : (s : State) → times (journal_synced s) ≡ times s
 synced_times s = by (is_long s.parts)
   where
-    by : (b : Bool) → times (if b then journal_rotated s else record s { parts = written_out s.parts 0 }) ≡ times s
+    by : (b : Bool) → times (if b then journal_rotated s else record s { parts = parts_written_out s.parts 0 }) ≡ times s
     by true = refl
     by false = refl
 

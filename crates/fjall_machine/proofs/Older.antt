@@ -5,8 +5,8 @@ use Rattle.std.proofs.lemmas.List.{take-append-drop}
 use Rattle.std.proofs.lemmas.List.Concat.{flat_map-append}
 use Rattle.std.proofs.lemmas.List.Elements.{All-append, All-filter, All-head, All-tail, All-weaker}
 use Rattle.fjall_table.specs.Blocks.{Entry}
-use Rattle.fjall_views.specs.Jobs.{AreBelow, AreFrom, OnceEach, flushed}
-use Rattle.fjall_views.proofs.Once.{parts_once}
+use Rattle.fjall_memtable.specs.Jobs.{AreBelow, AreFrom, OnceEach, flushed}
+use Rattle.fjall_memtable.proofs.Once.{parts_once}
 use Rattle.fjall_memtable.specs.Sorted.{flat}
 use Rattle.fjall_table_reader.specs.Readers.{Reader}
 use Rattle.fjall_memtable.specs.Parts.{AreApart, HeldPart, IsHeld, parts_of, versions_in}
@@ -24,7 +24,7 @@ use Rattle.fjall_trees.specs.Tables.{entries_with, shape_in}
 use Rattle.fjall_trees.proofs.Changing.{altered_keeps, tree_under}
 use Rattle.fjall_trees.proofs.Outstanding.{flushing_tree}
 use Rattle.fjall_trees.proofs.Places.{tree_has}
-use Rattle.fjall_compaction.specs.Flushes.{infos_from}
+use Rattle.fjall_compaction.specs.Flushes.{flushed_infos}
 use Rattle.fjall_trees.specs.MapTables.{AreOlder, IsOlder}
 
 -- ---- memory
@@ -108,7 +108,7 @@ finished_older entries trees forest older id task is tables clears made readers 
     altered_keeps IsOlder trees entries older forest id shape has (flush_finished readers is.out) (entries id ++ made.lists) (one_older shape task is tree.held tree.apart (entries id) old tables clears made readers)
 
 -- where no reader of a made table comes, no table was made
-pub none_made : (next : ℕ) (tables : List MadeTable) (readers : List Reader) → map (λ t. t.info) readers ≡ infos_from next tables → readers ≡ [] → tables ≡ []
+pub none_made : (next : ℕ) (tables : List MadeTable) (readers : List Reader) → map (λ t. t.info) readers ≡ flushed_infos next tables → readers ≡ [] → tables ≡ []
 none_made next [] readers infos none = let same : next ≡ next = omega arith in cc
 none_made next (t ∷ tables) readers infos none = let bad : ⊥ = cc in absurd bad
 
@@ -127,7 +127,7 @@ both_empty (x ∷ xs) ys none also = let bad : ⊥ = cc in absurd bad
 
 -- a keyspace without a table has none then
 pub finished_none : (entries : ℕ → List (List Entry)) (trees : Forest) → IsForest trees → All (λ k. k.shape.tables ≡ [] → entries k.id ≡ []) trees → (id : ℕ) (task : Task) (is : IsFlushing (shape_in id trees) task)
-    → (tables : List MadeTable) (clears : List ℕ) (made : IsFlushed task tables clears) (readers : List Reader) (next : ℕ) → map (λ t. t.info) readers ≡ infos_from next tables
+    → (tables : List MadeTable) (clears : List ℕ) (made : IsFlushed task tables clears) (readers : List Reader) (next : ℕ) → map (λ t. t.info) readers ≡ flushed_infos next tables
     → All (λ k. k.shape.tables ≡ [] → entries_with id (entries id ++ made.lists) entries k.id ≡ []) (altered_at id (flush_finished readers is.out) trees)
 finished_none entries trees forest none id task is tables clears made readers next infos =
     let shape = shape_in id trees in

@@ -8,7 +8,7 @@ use Rattle.std.proofs.lemmas.Cmp.{nat_list_cmp_total}
 use Rattle.std.specs.FinMap.{IsAntisymmetric, empty, entries, get, get-empty, get-retain_keys, len-empty, len-entries, nat_cmp-IsAntisymmetric, retain_keys, same_map, slice_cmp-IsAntisymmetric}
 use Rattle.fjall_base.specs.Pairs.{Bytes, KeyRange, Pairs, byte_order, is_within, lookup, page, pairs_between}
 use Rattle.fjall_base.specs.declared.error.Error.{Error}
-use Rattle.fjall_views.specs.Views.{IsView, value_at}
+use Rattle.fjall_memtable.specs.Views.{IsView, value_at}
 use Rattle.fjall_tree.specs.Trees.{ReadsAll, Shape, clears_of, versions_of}
 use Rattle.fjall_trees.specs.Forests.{Forest, Planted, tree_at}
 use Rattle.fjall_base.specs.Disk.{Meaning}

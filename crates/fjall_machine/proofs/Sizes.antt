@@ -11,15 +11,15 @@ use Rattle.fjall_meta.specs.declared.living.LivingKeyspace.{LivingKeyspace}
 use Rattle.fjall_meta.specs.Keyspaces.{AreKeyspaces, Keyspaces, keyspace_at}
 use Rattle.fjall_options.specs.declared.options.stored_option.StoredOption.TheVariants.{MaxMemtableSize}
 use Rattle.fjall_options.specs.Options.{effective_settings, value_at, value_of}
-use Rattle.fjall_contents.specs.Replays.{option_pairs}
-use Rattle.fjall_contents.proofs.Naming.{named_in_order, settings}
+use Rattle.fjall_meta.specs.Replays.{option_pairs}
+use Rattle.fjall_meta.proofs.Naming.{named_in_order, settings}
 use Rattle.fjall_memtable.specs.Entries.{size_of}
 use Rattle.fjall_table_reader.specs.Readers.{AreSameTables, Reader}
 use Rattle.fjall_history.specs.declared.job.JobId.{JobId}
 use Rattle.fjall_tree.specs.Jobs.{count_out, is_flush_out}
 use Rattle.fjall_tree.specs.Trees.{IsSameShape, is_l0}
 use Rattle.fjall_tree.proofs.Outstanding.{same_count}
-use Rattle.fjall_manager.specs.Journals.{waited_for}
+use Rattle.fjall_files.specs.Journals.{waited_for}
 use Rattle.fjall_table.specs.declared.table_info.TableInfo.{TableInfo}
 use Rattle.fjall_memtable.specs.Parts.{Memory, holds_nothing, parts_of, versions_in}
 use Rattle.fjall_trees.specs.Forests.{Forest, tree_at}

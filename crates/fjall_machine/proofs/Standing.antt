@@ -15,13 +15,13 @@ use Rattle.fjall_journal.specs.Ops.{BatchItem, write_of}
 use Rattle.fjall_meta.specs.declared.living.LivingKeyspace.{LivingKeyspace}
 use Rattle.fjall_meta.specs.Keyspaces.{id_of, is_name, keyspace_at}
 use Rattle.fjall_options.specs.Options.{AreOptions}
-use Rattle.fjall_contents.specs.Replays.{option_pairs}
-use Rattle.fjall_contents.proofs.Kept.{kept_along}
-use Rattle.fjall_contents.proofs.Living.{found_other, found_without, none_found}
-use Rattle.fjall_contents.proofs.Naming.{names_answer}
-use Rattle.fjall_contents.proofs.Slots.{get_put, same_id}
-use Rattle.fjall_catalog.specs.Catalog.{fields, first_of}
-use Rattle.fjall_recovery.specs.Known.{last_known}
+use Rattle.fjall_meta.specs.Replays.{option_pairs}
+use Rattle.fjall_meta.proofs.Kept.{kept_along}
+use Rattle.fjall_meta.proofs.LivingContents.{found_other, found_without, none_found}
+use Rattle.fjall_meta.proofs.Naming.{names_answer}
+use Rattle.fjall_meta.proofs.Slots.{get_put, same_id}
+use Rattle.fjall_manifest.specs.Catalog.{fields, first_of}
+use Rattle.fjall_replay.specs.Known.{last_known}
 use Rattle.fjall_manifest.specs.Records.{Fields}
 use Rattle.fjall_trees.specs.Forests.{Forest, Planted}
 use Rattle.fjall_trees.specs.Forests as forests
@@ -40,10 +40,10 @@ use Rattle.fjall_history.specs.Tickets.{Tickets, closed, collected, is_open, no_
 use Rattle.fjall_machine.specs.Shapes.{CallShape, OfChange, OfCount, OfCreation, OfDeletion, OfFlushBegin, OfFlushFinish, OfHandle, OfIngestion, OfJournalRotation, OfMaintenance, OfMergeBegin, OfMergeFinish, OfPersist, OfRead, OfRotation, OfTickets, OneLess, OneMore, Persistence}
 use Rattle.fjall_machine.specs.Allowed.{FitsBatch, IsOfLiving}
 use Rattle.fjall_journal.specs.Writer.{counted}
-use Rattle.fjall_manager.specs.Journals.{next_journal}
+use Rattle.fjall_files.specs.Journals.{next_journal}
 use Rattle.fjall_machine.specs.Machine as machine
-use Rattle.fjall_machine.specs.Machine.{Facts, IsPoisoned, Parts, State, accepted, changed, created, deleted, HasLongOption, due, due_in, facts, first_due, handles_of, has_name, instant_of, is_among, is_deleted, is_living, is_read, is_unknown, maps_in, one_less, one_more, opened_state, present, read_refusals, records_with, rotates, view_refusals, with_marks, without}
-use Rattle.fjall_machine.specs.Remembered.{AreBeside, IsLawful, IsReadAt, MemoryStandsFor, Remembered, facts_of, instant_in, is_held, is_last, journal_rotated, poisoned, released, retained, rotated, with_change, with_creation, with_deletion, with_tickets, with_trees}
+use Rattle.fjall_machine.specs.Machine.{Facts, IsPoisoned, Parts, State, accepted, changed, created, deleted, HasLongOption, due, due_in, facts, first_due, handles_of, names_one, instant_of, is_among, is_deleted, is_living, is_read, is_unknown, maps_in, one_less, one_more, opened_state, present, read_refusals, records_with, rotates, view_refusals, with_marks, without_id}
+use Rattle.fjall_machine.specs.Remembered.{AreBeside, IsLawful, IsReadAt, MemoryStandsFor, Remembered, facts_of, instant_in, is_held, is_last_in_memory, journal_rotated_in_memory, poisoned, released_in_memory, retained, rotated_in_memory, with_change, with_creation, with_deletion, with_tickets, with_trees}
 use Rattle.fjall_machine.proofs.Facts.{counted_is, living_names, named_is, names_are, none_named, some_there}
 use Rattle.fjall_machine.proofs.Lawful.{after_release, alike, both_all, change_is_lawful, creation_is_lawful, deletion_is_lawful, gone_is_none, itself, last_gone, may_push, other_kept, other_left, others, others_live, put_here, poisoned_is_lawful, read_is_lawful, released_is_lawful, retained_is_lawful, rotated_is_lawful, tickets_are_lawful, IsTime, time_closed, time_collected, time_opened, tree_there}
 use Rattle.fjall_trees.proofs.Commands.{deleted_by}
@@ -217,7 +217,7 @@ a_change_stands m table s stands (Emptied id) how some living fits small = chang
 -- ---- a rotation
 
 -- what is shown stays, and the watermark is raised
-pub a_rotation_stands : (m : Remembered) (table : ℕ) (s : State) → MemoryStandsFor m table s → (id : ℕ) → MemoryStandsFor (rotated id m) table (machine.rotated s id)
+pub a_rotation_stands : (m : Remembered) (table : ℕ) (s : State) → MemoryStandsFor m table s → (id : ℕ) → MemoryStandsFor (rotated_in_memory id m) table (machine.rotated s id)
 a_rotation_stands m table s stands id = record {
   present = stands.present ∙ ap kept (sym (rotated_store_with s.parts.entries id m.keyspaces m.trees));
   views = λ instant at other held. stands.views instant at other held ∙ sym (rotated_with s.parts.entries id other instant m.trees);
@@ -300,7 +300,7 @@ module _ (m : Remembered) (table : ℕ) (s : State) (stands : MemoryStandsFor m 
       ap (λ (b : Bool). cond b first (s.parts.records m.keyspaces.next)) (itself m.keyspaces.next) ∙ ap (λ (o : Option Fields). unwrap_or o first) (sym (put_here m.records m.keyspaces.next first)) in
       subst (λ (n : ℕ × ℕ). All (at n.0 n.1) (with_creation name options m).keyspaces.living) (sym (λ i. ((stands.present i).next, stands.number i))) (All-push (at m.keyspaces.next m.next) m.keyspaces.living k old new)
 
-  pub a_creation_stands : is_name name ≡ true → has_name (store_of m.keyspaces m.trees) name ≡ false → AreOptions options → m.keyspaces.next ≢ 2 ^ 64 - 1 → m.next < 2 ^ 63
+  pub a_creation_stands : is_name name ≡ true → names_one (store_of m.keyspaces m.trees) name ≡ false → AreOptions options → m.keyspaces.next ≢ 2 ^ 64 - 1 → m.next < 2 ^ 63
       → MemoryStandsFor (with_creation name options m) (table + 1) (created s name options)
   a_creation_stands named fresh are free small =
       let is = stands.lawful in
@@ -443,7 +443,7 @@ module _ (m : Remembered) (table : ℕ) (s : State) (stands : MemoryStandsFor m 
   abbrev released_as : Bool → State
   released_as last = record s {
     handles = one_less s.handles id;
-    lasting = if last then without s.lasting id else s.lasting;
+    lasting = if last then without_id s.lasting id else s.lasting;
     parts = record s.parts { trees = if last then forests.without id s.parts.trees else s.parts.trees };
   }
 
@@ -454,7 +454,7 @@ module _ (m : Remembered) (table : ℕ) (s : State) (stands : MemoryStandsFor m 
     number = stands.number;
     poisoned = stands.poisoned;
     handles = ap (λ h. one_less h id) stands.handles;
-    lasting = ap (λ l. if last then without l id else l) stands.lasting;
+    lasting = ap (λ l. if last then without_id l id else l) stands.lasting;
     tickets = stands.tickets;
     next_job = stands.next_job;
     merges_done = stands.merges_done;
@@ -466,13 +466,13 @@ module _ (m : Remembered) (table : ℕ) (s : State) (stands : MemoryStandsFor m 
     lawful = is;
   }
 
-  same_last : machine.is_last s id ≡ is_last m id
+  same_last : machine.is_last s id ≡ is_last_in_memory m id
   same_last = λ i. not (contains_key (same_names m table s stands i) id) && (handles_of (stands.handles i) id == 1)
 
-  pub a_release_stands : MemoryStandsFor (released id m) table (machine.released s id)
+  pub a_release_stands : MemoryStandsFor (released_in_memory id m) table (machine.released s id)
   a_release_stands =
-      subst (λ last. MemoryStandsFor (released id m) table (released_as last)) (sym same_last)
-      (released_stands (is_last m id) (last_gone m id) (released_is_lawful id m stands.lawful))
+      subst (λ last. MemoryStandsFor (released_in_memory id m) table (released_as last)) (sym same_last)
+      (released_stands (is_last_in_memory m id) (last_gone m id) (released_is_lawful id m stands.lawful))
 
 -- ---- tickets
 
@@ -607,7 +607,7 @@ a_read_stands m table s stands trees same = record {
 }
 
 pub a_journal_rotation_stands : (m : Remembered) (table : ℕ) (s : State) → MemoryStandsFor m table s → (len : ℕ) → len ≡ counted (s.parts.journal + s.parts.buffer)
-    → MemoryStandsFor (journal_rotated len m) table (machine.journal_rotated s)
+    → MemoryStandsFor (journal_rotated_in_memory len m) table (machine.journal_rotated s)
 a_journal_rotation_stands m table s stands len is = record {
   present = stands.present;
   views = stands.views;
@@ -623,7 +623,7 @@ a_journal_rotation_stands m table s stands len is = record {
   trees = stands.trees;
   beside = record { older = stands.beside.older; none = stands.beside.none; unused = stands.beside.unused };
   journals = λ i. next_journal (sym is i) (stands.journals i);
-  lawful = alike m (journal_rotated len m) stands.lawful refl refl refl refl refl refl;
+  lawful = alike m (journal_rotated_in_memory len m) stands.lawful refl refl refl refl refl refl;
 }
 
 -- ---- reads
@@ -681,10 +681,10 @@ module _ (m : Remembered) (table : ℕ) (s : State) (stands : MemoryStandsFor m 
   pub names_counted : len (present s).names ≡ length m.keyspaces.living
   names_counted = ap len names ∙ counted_is m.keyspaces stands.lawful.keyspaces m.trees
 
-  pub a_name_agrees : (name : Bytes) → has_name (present s) name ≡ has_name (store_of m.keyspaces m.trees) name
-  a_name_agrees name = λ i. has_name (stands.present i) name
+  pub a_name_agrees : (name : Bytes) → names_one (present s) name ≡ names_one (store_of m.keyspaces m.trees) name
+  a_name_agrees name = λ i. names_one (stands.present i) name
 
-  pub a_name_there : (name : Bytes) → has_name (present s) name ≡ is_some (id_of name m.keyspaces.living)
+  pub a_name_there : (name : Bytes) → names_one (present s) name ≡ is_some (id_of name m.keyspaces.living)
   a_name_there name = a_name_agrees name ∙ named_is m.keyspaces stands.lawful.keyspaces m.trees name
 
   pub a_name_resolved : (id : ℕ) (name : Bytes) → (get (present s).names id ≡ Some name) ↔ (id_of name m.keyspaces.living ≡ Some id)

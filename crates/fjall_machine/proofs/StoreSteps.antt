@@ -8,7 +8,7 @@ use Rattle.std.specs.Ordering.{nat_cmp}
 use Rattle.fjall_base.specs.Pairs.{Bytes}
 use Rattle.fjall_base.specs.Store.{Clear, Command, Create, Delete, Options, Store, Write, apply}
 use Rattle.fjall_history.specs.Histories.{History, grown, latest, plain}
-use Rattle.fjall_contents.proofs.Slots.{get_put, ties}
+use Rattle.fjall_meta.proofs.Slots.{get_put, ties}
 use Rattle.fjall_machine.specs.Machine.{is_living, options_in}
 use Rattle.fjall_machine.proofs.Lawful.{others}
 use Rattle.fjall_machine.proofs.Viewing.{latest_grown}

@@ -5,8 +5,8 @@ use Rattle.std.proofs.lemmas.List.Elements.{All-weaker}
 use Rattle.std.specs.FinMap.{contains_key, get, insert}
 use Rattle.std.specs.Option.{is_some}
 use Rattle.fjall_table_reader.specs.Readers.{Reader}
-use Rattle.fjall_catalog.specs.Catalog.{fields, first_of}
-use Rattle.fjall_recovery.specs.Known.{last_known}
+use Rattle.fjall_manifest.specs.Catalog.{fields, first_of}
+use Rattle.fjall_replay.specs.Known.{last_known}
 use Rattle.fjall_tree.specs.Ingestions.{ingested}
 use Rattle.fjall_tree.specs.Puts.{bare_tree}
 use Rattle.fjall_tree.specs.Trees.{Shape}
@@ -19,8 +19,8 @@ use Rattle.fjall_manifest.specs.Records.{Fields}
 use Rattle.fjall_trees.specs.Forests.{AreBefore, Forest, tree_at}
 use Rattle.fjall_trees.specs.Tables.{shape_in}
 use Rattle.fjall_trees.proofs.Changing.{tree_under}
-use Rattle.fjall_contents.proofs.Found.{found_passes}
-use Rattle.fjall_contents.proofs.Slots.{same_id}
+use Rattle.fjall_meta.proofs.Found.{found_passes}
+use Rattle.fjall_meta.proofs.Slots.{same_id}
 use Rattle.fjall_machine.specs.Ingesting.{with_record, with_tables}
 use Rattle.fjall_machine.specs.Machine.{is_living}
 use Rattle.fjall_machine.specs.Remembered.{IsLawful, IsMergeBegun, Remembered}

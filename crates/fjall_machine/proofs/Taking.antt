@@ -2,8 +2,8 @@
 use Rattle.std.proofs.Common.{◌≡◌, ℕ, ◌+◌, ◌-◌, ◌<◌, List, All, None, ap, ◌∙◌, arith}
 use Rattle.std.specs.FinMap.{get, insert, remove}
 use Rattle.fjall_base.specs.Pairs.{Bytes}
-use Rattle.fjall_catalog.specs.Catalog.{fields, first_of}
-use Rattle.fjall_recovery.specs.Known.{LastFields}
+use Rattle.fjall_manifest.specs.Catalog.{fields, first_of}
+use Rattle.fjall_replay.specs.Known.{LastFields}
 use Rattle.fjall_manifest.specs.Records.{Fields}
 use Rattle.fjall_meta.specs.Keyspaces.{Keyspaces, TakesBack}
 use Rattle.fjall_trees.specs.Forests.{Forest, without}

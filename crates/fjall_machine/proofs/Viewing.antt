@@ -7,11 +7,11 @@ use Rattle.std.specs.FinMap.{get}
 use Rattle.std.specs.Option.{is_some}
 use Rattle.fjall_base.specs.Store.{Command, Store, apply, fold, map_at}
 use Rattle.fjall_meta.specs.Keyspaces.{keyspace_at}
-use Rattle.fjall_contents.proofs.Slots.{fold-append, same_id}
+use Rattle.fjall_meta.proofs.Slots.{fold-append, same_id}
 use Rattle.fjall_trees.specs.MapTables.{pairs_with}
 use Rattle.fjall_history.specs.Histories.{Accepted, History, command_of, commands_of, grown, latest, number, plain, view}
 use Rattle.fjall_history.proofs.Values.{of_value}
-use Rattle.fjall_machine.specs.Machine.{State, is_among, present, without}
+use Rattle.fjall_machine.specs.Machine.{State, is_among, present, without_id}
 use Rattle.fjall_machine.specs.Remembered.{IsReadAt, MemoryStandsFor, Remembered, is_held}
 
 -- ---- views
@@ -95,11 +95,11 @@ among-append [] last id e = inr (same_id last id (alone (last == id) e))
 among-append (other ∷ ids) last id e = ⊎_elim (λ f. inl (first_or (other == id) (is_among ids id) f)) (λ f. ⊎_elim (λ g. inl (second_or (other == id) (is_among ids id) g)) (λ g. inr g)
     (among-append ids last id f)) (some_or (other == id) _ e)
 
-pub among_without : (ids : List ℕ) (gone id : ℕ) → is_among (without ids gone) id ≡ true → (is_among ids id ≡ true) × ((id == gone) ≡ false)
+pub among_without : (ids : List ℕ) (gone id : ℕ) → is_among (without_id ids gone) id ≡ true → (is_among ids id ≡ true) × ((id == gone) ≡ false)
 among_without [] gone id e = absurd (true≢false (sym e))
 among_without (other ∷ ids) gone id e = either (other == gone) refl e (among_without ids gone id)
   where
-    either : (b : Bool) → (other == gone) ≡ b → is_among (cond (not b) (other ∷ without ids gone) (without ids gone)) id ≡ true → (is_among (without ids gone) id ≡ true → (is_among ids id ≡ true) × ((id == gone) ≡ false))
+    either : (b : Bool) → (other == gone) ≡ b → is_among (cond (not b) (other ∷ without_id ids gone) (without_id ids gone)) id ≡ true → (is_among (without_id ids gone) id ≡ true → (is_among ids id ≡ true) × ((id == gone) ≡ false))
         → ((other == id || is_among ids id) ≡ true) × ((id == gone) ≡ false)
     either true same there rest = let more = rest there in (second_or (other == id) _ more.0, more.1)
     either false apart there rest =
@@ -107,4 +107,4 @@ among_without (other ∷ ids) gone id e = either (other == gone) refl e (among_w
           second_or (other == id)
               (is_among ids id) more.0,
           more.1,
-        )) (some_or (other == id) (is_among (without ids gone) id) there)
+        )) (some_or (other == id) (is_among (without_id ids gone) id) there)

@@ -4,7 +4,7 @@ use Rattle.std.proofs.lemmas.Bool.Decides.{nat_tests}
 use Rattle.std.specs.Option.{is_some}
 use Rattle.fjall_base.specs.declared.error.Error.{Error}
 use Rattle.fjall_base.specs.declared.error.Error.TheVariants.{NumbersUsedUp, OutOfMemory, TooManyItems}
-use Rattle.fjall_compaction.specs.Flushes.{record_after}
+use Rattle.fjall_compaction.specs.Flushes.{record_after_flush}
 use Rattle.fjall_compaction.specs.FlushPlans.{IsFlushPlanRefusal}
 use Rattle.fjall_compaction.specs.Room.{IsTooLong, LacksNextId}
 use Rattle.fjall_compaction.proofs.NewTables.{at_most_one}
@@ -12,7 +12,7 @@ use Rattle.fjall_history.specs.declared.job.JobId.{JobId}
 use Rattle.fjall_history.specs.declared.reply.Reply.TheVariants.{Refused}
 use Rattle.fjall_jobs.specs.declared.flush_made.FlushMade.{FlushMade}
 use Rattle.fjall_jobs.specs.Made.{flush_tables}
-use Rattle.fjall_recovery.specs.Known.{last_known}
+use Rattle.fjall_replay.specs.Known.{last_known}
 use Rattle.fjall_tree.specs.Jobs.{count_out}
 use Rattle.fjall_tree.specs.Trees.{Flushing}
 use Rattle.fjall_meta.specs.declared.living.LivingKeyspace.{LivingKeyspace}
@@ -48,7 +48,7 @@ module _ (m : Remembered) (table : ℕ) (s : State) (stands : MemoryStandsFor m 
   record_there : s.parts.records job.keyspace_id ≡ last_known m.records k
   record_there = known_record m table s stands job.keyspace_id k at
 
-  meets : (made : FlushMade) (Meets : Fields → Type 0) → Meets (record_after (flush_with (shape_in job.keyspace_id m.trees) out (flush_tables made)) (last_known m.records k))
+  meets : (made : FlushMade) (Meets : Fields → Type 0) → Meets (record_after_flush (flush_with (shape_in job.keyspace_id m.trees) out (flush_tables made)) (last_known m.records k))
       → FlushMeets (shape_in job.keyspace_id s.parts.trees) (shape_in job.keyspace_id s.parts.trees).flush (s.parts.records job.keyspace_id) Meets
   meets made Meets so =
       let tree = shape_in job.keyspace_id s.parts.trees in
@@ -56,7 +56,7 @@ module _ (m : Remembered) (table : ℕ) (s : State) (stands : MemoryStandsFor m 
       subst (λ (o : Option Flushing). FlushMeets tree o (s.parts.records job.keyspace_id) Meets) (sym (sym same.flush ∙ was)) (
         flush_tables made,
         at_most_one made,
-        subst Meets (sym (λ i. record_after (same_with tree (shape_in job.keyspace_id m.trees) same out (flush_tables made) i) (record_there i))) so,
+        subst Meets (sym (λ i. record_after_flush (same_with tree (shape_in job.keyspace_id m.trees) same out (flush_tables made) i) (record_there i))) so,
       )
 
   pub refusal_steps : (made : FlushMade) → s.poisoned ≡ false → (error : Error) → IsFlushPlanRefusal (last_known m.records k) (flush_with (shape_in job.keyspace_id m.trees) out (flush_tables made)) error

@@ -5,9 +5,9 @@ use Rattle.fjall_base.specs.Disk.{LeavesOnly, Meaning, state_in}
 use Rattle.fjall_base.proofs.Moments.{weaken}
 use Rattle.fjall_journal.specs.Batches.{Written}
 use Rattle.fjall_recovery.specs.Places.{Journaling, LiesInRoot}
-use Rattle.fjall_commit.specs.Journaling.{HasSome, LeavesRoot}
-use Rattle.fjall_commit.specs.Rotations.{LeavesRotation}
-use Rattle.fjall_commit.proofs.CrashesInWrites.{nothing_leaves}
+use Rattle.fjall_changes.specs.Journaling.{HasSome, LeavesRoot}
+use Rattle.fjall_changes.specs.Rotations.{LeavesRotation}
+use Rattle.fjall_changes.proofs.CrashesInWrites.{nothing_leaves}
 
 -- some of the batches stand there, however many more come
 pub untouched_leaves : (disk : Meaning) (j : Journaling) (more : List Written) → LiesInRoot (state_in disk) j → LeavesOnly disk disk (LeavesRoot (state_in disk) j (j.later ++ more))

@@ -6,7 +6,7 @@ use Rattle.fjall_base.specs.Store.{Store}
 use Rattle.fjall_journal.specs.Changes.{Change, Items, Emptied}
 use Rattle.fjall_journal.specs.Ops.{items_refusal}
 use Rattle.fjall_meta.specs.Keyspaces.{is_name}
-use Rattle.fjall_machine.specs.Machine.{Facts, has_name, is_living, is_unknown}
+use Rattle.fjall_machine.specs.Machine.{Facts, names_one, is_living, is_unknown}
 
 -- the keyspaces that a change is of live
 abbrev pub IsOfLiving : Store → Change → Type 0
@@ -35,7 +35,7 @@ pub record HasRoomForChange (f : Facts) : Type 0 where
 -- The name is a name; where none has it, a keyspace can be made.
 pub record MayCreate (f : Facts) (name : Bytes) : Type 0 where
   pub named : is_name name ≡ true
-  pub room : has_name f.store name ≡ false → HasRoomForChange f
+  pub room : names_one f.store name ≡ false → HasRoomForChange f
 
 -- No fault has poisoned the engine, and a number is left and, where a keyspace is left, an id for a table.
 pub record HasNumber (f : Facts) : Type 0 where

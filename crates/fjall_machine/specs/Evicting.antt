@@ -1,6 +1,6 @@
 -- Which sealed journals are removed.
 use Rattle.std.specs.Prelude.{List}
-use Rattle.fjall_manager.specs.Journals.{Sealed, going}
+use Rattle.fjall_files.specs.Journals.{Sealed, going}
 use Rattle.fjall_machine.specs.Remembered.{Remembered, flushed_by}
 
 -- the sealed journals that no keyspace wants any more, as the last records tell

@@ -5,14 +5,14 @@ use Rattle.fjall_base.specs.declared.error.Error.{Error}
 use Rattle.fjall_base.specs.declared.error.Error.TheVariants.{Io}
 use Rattle.fjall_base.specs.Errors.{IsFault}
 use Rattle.fjall_table_reader.specs.Readers.{Reader}
-use Rattle.fjall_compaction.specs.Flushes.{Flush, Follows, HasAt, record_after, tree_after}
+use Rattle.fjall_compaction.specs.Flushes.{Flush, Follows, HasAt, record_after_flush, tree_after}
 pub use Rattle.fjall_compaction.specs.FlushPlans.{AreReadersOf}
 use Rattle.fjall_compaction.specs.FlushPlans.{IsFlushPlanRefusal}
 use Rattle.fjall_manifest.specs.Homes.{Home}
 use Rattle.fjall_jobs.specs.declared.flush_made.FlushMade.{FlushMade}
 use Rattle.fjall_jobs.specs.declared.made_table.MadeTable.{MadeTable}
 use Rattle.fjall_jobs.specs.Made.{flush_tables, flushed_task}
-use Rattle.fjall_recovery.specs.Known.{last_known}
+use Rattle.fjall_replay.specs.Known.{last_known}
 use Rattle.fjall_tree.specs.Trees.{Flushing}
 use Rattle.fjall_meta.specs.declared.living.LivingKeyspace.{LivingKeyspace}
 use Rattle.fjall_meta.specs.Keyspaces.{keyspace_at}
@@ -39,7 +39,7 @@ ForFlush m id Holds = (k : LivingKeyspace) (out : Flushing) → keyspace_at id m
 pub record IsFlushFinished (old : Remembered) (id : ℕ) (last : Fields) (out : Flushing) (tables : List MadeTable) (new : Remembered) : Type 0 where
   pub readers : List Reader
   pub are : AreReadersOf id last.next_table_id tables readers
-  pub is : new ≡ with_flush id out readers (record_after (flush_with (shape_in id old.trees) out tables) last) old
+  pub is : new ≡ with_flush id out readers (record_after_flush (flush_with (shape_in id old.trees) out tables) last) old
 
 -- ---- the disk
 

@@ -9,7 +9,7 @@ use Rattle.fjall_compaction.specs.Planned.{IsIngestionPlan}
 use Rattle.fjall_manifest.specs.Records.{Fields}
 use Rattle.fjall_trees.specs.Forests.{altered_at}
 use Rattle.fjall_trees.specs.Tables.{shape_in}
-use Rattle.fjall_writes.specs.Ingestions.{KeyOp}
+use Rattle.fjall_reading.specs.Ingestions.{KeyOp}
 pub use Rattle.fjall_machine.specs.Machine.{Ingests, MayIngest, are_journals_used_up, do_ascend, ingestion_refusals, parts_ingested, some_key_empty, some_key_too_long, some_value_too_long}
 use Rattle.fjall_machine.specs.Remembered.{Remembered}
 

@@ -18,8 +18,8 @@ use Rattle.fjall_journal.specs.Writer.{counted, goes_out}
 use Rattle.fjall_journal.specs.Changes.{Change, Items, Emptied, change_text, command_of}
 use Rattle.fjall_journal.specs.Ops.{BatchItem, are_too_many, bytes_in, items_refusal}
 use Rattle.fjall_journal.specs.Ops as ops
-use Rattle.fjall_manager.specs.Journals.{Journals, Sealed, bytes_of, may_go, next_journal, staying, waited_for}
-use Rattle.fjall_manager.specs.Places.{marked}
+use Rattle.fjall_files.specs.Journals.{Journals, Sealed, bytes_of, may_go, next_journal, staying, waited_for}
+use Rattle.fjall_files.specs.Places.{marked}
 use Rattle.fjall_table.specs.Blocks.{Entry}
 use Rattle.fjall_memtable.specs.Entries.{size_of}
 use Rattle.fjall_memtable.specs.Parts.{clears_in, holds_nothing, parts_of, versions_in}
@@ -32,9 +32,9 @@ use Rattle.fjall_trees.specs.Forests as forests
 use Rattle.fjall_trees.specs.Tables.{entries_with, shape_in}
 use Rattle.fjall_trees.specs.Writes.{pushed, with_tree}
 use Rattle.fjall_table_reader.specs.Readers.{Reader}
-use Rattle.fjall_catalog.specs.Catalog.{fields, first_of}
-use Rattle.fjall_contents.specs.Contents.{is_beyond}
-use Rattle.fjall_compaction.specs.Flushes.{infos_from, record_after}
+use Rattle.fjall_manifest.specs.Catalog.{fields, first_of}
+use Rattle.fjall_meta.specs.Contents.{is_beyond}
+use Rattle.fjall_compaction.specs.Flushes.{flushed_infos, record_after_flush}
 use Rattle.fjall_compaction.specs.Flushes as flushes
 use Rattle.fjall_compaction.specs.Ingests.{batch_items, ingestion}
 use Rattle.fjall_compaction.specs.Whole.{LacksIds, LacksRecordRoom, MakesIngestion, last_ingested}
@@ -46,10 +46,10 @@ use Rattle.fjall_compaction.specs.Merges as merges
 use Rattle.fjall_compaction.specs.Room.{IsTooLong, LacksNextId}
 use Rattle.fjall_compaction.specs.MergeFinishing as merging
 use Rattle.fjall_manifest.specs.Records.{Fields, body}
-use Rattle.fjall_writes.specs.Ingestions.{AreWritable, KeyOp, KeysAscend}
+use Rattle.fjall_reading.specs.Ingestions.{AreWritable, KeyOp, KeysAscend}
 use Rattle.fjall_options.specs.Options.{is_set, value_of}
 use Rattle.fjall_meta.specs.Keyspaces.{is_name}
-use Rattle.fjall_contents.specs.Replays.{option_pairs}
+use Rattle.fjall_meta.specs.Replays.{option_pairs}
 use Rattle.fjall_history.specs.declared.job.JobId.{JobId}
 use Rattle.fjall_history.specs.declared.ticket.View.{View}
 use Rattle.fjall_history.specs.declared.ticket.View.TheVariants.{Present, At}
@@ -126,12 +126,12 @@ maps_in s Present = (present s).maps
 maps_in s (At ticket) = (view s.history (instant_of s.tickets ticket.id)).maps
 
 -- all that waited is in the file, with some bytes more
-abbrev pub written_out : Parts → ℕ → Parts
-written_out parts more = record parts { journal = counted (parts.journal + (parts.buffer + more)); buffer = 0 }
+abbrev pub parts_written_out : Parts → ℕ → Parts
+parts_written_out parts more = record parts { journal = counted (parts.journal + (parts.buffer + more)); buffer = 0 }
 
 -- so many bytes more were written: they and all that waited are in the file, or they wait too
-abbrev pub written : Bool → Parts → ℕ → Parts
-written out parts more = record parts {
+abbrev pub parts_written : Bool → Parts → ℕ → Parts
+parts_written out parts more = record parts {
   journal = if out then counted (parts.journal + (parts.buffer + more)) else parts.journal;
   buffer = if out then 0 else parts.buffer + more;
 }
@@ -151,8 +151,8 @@ abbrev pub is_deleted : Store → ℕ → Bool
 is_deleted s id = not (is_living s id)
 
 -- a keyspace has this name
-abbrev pub has_name : Store → Bytes → Bool
-has_name s name = list_any (λ other. bytes_eq other name) (values s.names)
+abbrev pub names_one : Store → Bytes → Bool
+names_one s name = list_any (λ other. bytes_eq other name) (values s.names)
 
 -- the id is among these
 abbrev pub is_among : List ℕ → ℕ → Bool
@@ -170,8 +170,8 @@ abbrev pub one_less : FinMap nat_cmp ℕ → ℕ → FinMap nat_cmp ℕ
 one_less handles id = if handles_of handles id == 1 then remove handles id else insert handles id (handles_of handles id - 1)
 
 -- no more of the deleted keyspaces is read than those but this one
-abbrev pub without : List ℕ → ℕ → List ℕ
-without ids id = filter (λ other. not (other == id)) ids
+abbrev pub without_id : List ℕ → ℕ → List ℕ
+without_id ids id = filter (λ other. not (other == id)) ids
 
 -- these settings say that writes are persisted by hand
 abbrev pub is_by_hand : Options → Bool
@@ -303,8 +303,8 @@ are_used_up f leaves_any = nat_le (2 ^ 63) f.next || (leaves_any && (f.table == 
 abbrev pub creation_refusals : Facts → Bytes → List (Bool × Error)
 creation_refusals f name =
     (not (is_name name), InvalidName)
-    ∷ (not (has_name f.store name) && f.poisoned, Poisoned)
-    ∷ (not (has_name f.store name) && (are_used_up f true || (f.store.next == 2 ^ 64 - 1)), NumbersUsedUp)
+    ∷ (not (names_one f.store name) && f.poisoned, Poisoned)
+    ∷ (not (names_one f.store name) && (are_used_up f true || (f.store.next == 2 ^ 64 - 1)), NumbersUsedUp)
     ∷ []
 
 -- The refusals of a deletion. A keyspace that is deleted already is refused by nothing.
@@ -442,7 +442,7 @@ with_marks n change j = record j { watermarks = marked n change j.watermarks }
 abbrev pub made : State → Change → Persistence → State
 made s change how = record s {
   history = grown s.history (plain (command_of change));
-  parts = record (written (leaves_buffer (facts s) s.parts.buffer change how) s.parts (length (change_text change (number s.history)))) {
+  parts = record (parts_written (leaves_buffer (facts s) s.parts.buffer change how) s.parts (length (change_text change (number s.history)))) {
     trees = changed (number s.history) change s.parts.trees;
     journals = with_marks (number s.history) change s.parts.journals;
   };
@@ -463,7 +463,7 @@ records_with id new records other = if other == id then new else records other
 abbrev pub created : State → Bytes → List Bytes → State
 created s name options = record s {
   history = grown s.history (plain (Create name (option_pairs options)));
-  parts = record (written_out s.parts 0) {
+  parts = record (parts_written_out s.parts 0) {
     table = s.parts.table + 1;
     trees = with_tree (present s).next (number s.history) s.parts.trees;
     records = records_with (present s).next (fields (first_of (number s.history))) s.parts.records;
@@ -476,7 +476,7 @@ abbrev pub deleted : State → ℕ → State
 deleted s id = record s {
   history = grown s.history (plain (Delete id));
   lasting = s.lasting ++ id ∷ [];
-  parts = record (written_out s.parts 0) { table = if nat_le 2 (len (present s).names) then s.parts.table + 1 else s.parts.table };
+  parts = record (parts_written_out s.parts 0) { table = if nat_le 2 (len (present s).names) then s.parts.table + 1 else s.parts.table };
 }
 
 -- the last handle of a deleted keyspace is counted
@@ -487,7 +487,7 @@ is_last s id = is_deleted (present s) id && (handles_of s.handles id == 1)
 abbrev pub released : State → ℕ → State
 released s id = record s {
   handles = one_less s.handles id;
-  lasting = if is_last s id then without s.lasting id else s.lasting;
+  lasting = if is_last s id then without_id s.lasting id else s.lasting;
   parts = record s.parts { trees = if is_last s id then forests.without id s.parts.trees else s.parts.trees };
 }
 
@@ -537,7 +537,7 @@ are_jobs_used_up s = (s.next_job == 2 ^ 64 - 1) || (is_long s.parts && nat_le (2
 
 -- all that waited is in the journal's file, which is sealed where it is long
 abbrev pub journal_synced : State → State
-journal_synced s = if is_long s.parts then journal_rotated s else record s { parts = written_out s.parts 0 }
+journal_synced s = if is_long s.parts then journal_rotated s else record s { parts = parts_written_out s.parts 0 }
 
 -- a flush of all sealed memtables of the keyspace is out, under the next number, and with the watermark of now
 abbrev pub flush_out : State → ℕ → State
@@ -565,11 +565,11 @@ abbrev pub flush_with : lsm.Shape → Flushing → List MadeTable → flushes.Fl
 flush_with tree out tables = record { number = flush_end tree - 1; tables = tables; clears = clears_in (take out.count tree.memory.sealed) }
 
 -- the parts once the flush of a keyspace is finished that is out, which made these tables, of these entries and with these readers
-abbrev pub flushed : ℕ → Flushing → List MadeTable → List (List Entry) → List Reader → Parts → Parts
-flushed id out tables lists readers parts = record parts {
+abbrev pub parts_flushed : ℕ → Flushing → List MadeTable → List (List Entry) → List Reader → Parts → Parts
+parts_flushed id out tables lists readers parts = record parts {
   trees = altered_at id (flush_finished readers out) parts.trees;
   entries = entries_with id (parts.entries id ++ lists) parts.entries;
-  records = records_with id (record_after (flush_with (shape_in id parts.trees) out tables) (parts.records id)) parts.records;
+  records = records_with id (record_after_flush (flush_with (shape_in id parts.trees) out tables) (parts.records id)) parts.records;
 }
 
 -- A flush that was out is finished: of its memtables one table was made, of exactly the versions that its watermark doesn't hide, and
@@ -579,8 +579,8 @@ pub record FlushesOne (old : Parts) (id : ℕ) (out : Flushing) (new : Parts) : 
   pub tables : List MadeTable
   pub made : IsFlushed (task_of id (shape_in id old.trees) out) tables (clears_in (take out.count (shape_in id old.trees).memory.sealed))
   pub readers : List Reader
-  pub infos : map (λ t. t.info) readers ≡ infos_from (old.records id).next_table_id tables
-  pub is : new ≡ flushed id out tables made.lists readers old
+  pub infos : map (λ t. t.info) readers ≡ flushed_infos (old.records id).next_table_id tables
+  pub is : new ≡ parts_flushed id out tables made.lists readers old
 
 abbrev pub FlushesIn : Option Flushing → Parts → ℕ → Parts → Type 0
 FlushesIn None old id new = ⊥
@@ -674,11 +674,11 @@ merge_task_of id tree entries out = merge_of out.id id out.watermark (take out.t
 
 -- The parts once the merge of a keyspace is finished that is out, which made these tables, of these entries and with these readers, and
 -- left these clears.
-abbrev pub merged : ℕ → Merging → List MadeTable → List ℕ → List (List Entry) → List Reader → Parts → Parts
-merged id out tables clears lists readers parts = record parts {
+abbrev pub parts_merged : ℕ → Merging → List MadeTable → List ℕ → List (List Entry) → List Reader → Parts → Parts
+parts_merged id out tables clears lists readers parts = record parts {
   trees = altered_at id (merge_finished readers out) parts.trees;
   entries = entries_with id (lists ++ drop out.tables (parts.entries id)) parts.entries;
-  records = records_with id (merges.record_after (merging.merge_out out tables clears) (parts.records id)) parts.records;
+  records = records_with id (merges.record_after_merge (merging.merge_out out tables clears) (parts.records id)) parts.records;
 }
 
 -- A merge that was out is finished: of the tables that it was begun with others were made, closed at the target size, of exactly the
@@ -689,8 +689,8 @@ pub record MergesOne (target : ℕ) (old : Parts) (id : ℕ) (out : Merging) (ne
   pub clears : List ℕ
   pub made : IsMerged target (merge_task_of id (shape_in id old.trees) (old.entries id) out) tables clears
   pub readers : List Reader
-  pub infos : map (λ t. t.info) readers ≡ merges.infos_from (old.records id).next_table_id tables
-  pub is : new ≡ merged id out tables clears made.lists readers old
+  pub infos : map (λ t. t.info) readers ≡ merges.merged_infos (old.records id).next_table_id tables
+  pub is : new ≡ parts_merged id out tables clears made.lists readers old
 
 abbrev pub MergesIn : Option Merging → ℕ → Parts → ℕ → Parts → Type 0
 MergesIn None target old id new = ⊥
@@ -748,8 +748,8 @@ pub record Ingests (old : State) (id : ℕ) (items : List KeyOp) (new : State) :
 -- a name that a keyspace has answers its id; another one's keyspace gets the next id
 abbrev pub CreatesOrFinds : State → Bytes → List Bytes → ℕ → State → Type 0
 CreatesOrFinds old name options id new =
-    ((has_name (present old) name ≡ true) × (get (present old).names id ≡ Some name) × (new ≡ old))
-    ⊎ ((has_name (present old) name ≡ false) × (id ≡ (present old).next) × (new ≡ created old name options))
+    ((names_one (present old) name ≡ true) × (get (present old).names id ≡ Some name) × (new ≡ old))
+    ⊎ ((names_one (present old) name ≡ false) × (id ≡ (present old).next) × (new ≡ created old name options))
 
 -- The next ticket reads at the visible number, or where another one does. A closed one is named by none any more. The
 -- watermark that was raised is told.
@@ -804,7 +804,7 @@ space_of s None = counted (tables_space (present s) s.parts.trees + counted (byt
 abbrev pub CountIs : State → Count → Reply → Type 0
 CountIs s Keyspaces reply = reply ≡ Number (len (present s).names)
 CountIs s shapes.Names reply = (names : Vec Bytes Global) × (reply ≡ Names names) × IsPermutation (values (present s).names) names.items × IsSorted byte_order names.items
-CountIs s (Exists name) reply = reply ≡ Flag (has_name (present s) name)
+CountIs s (Exists name) reply = reply ≡ Flag (names_one (present s) name)
 CountIs s Next reply = reply ≡ Number (number s.history)
 CountIs s Visible reply = reply ≡ Number (number s.history)
 CountIs s shapes.Journals reply = reply ≡ Number (length s.parts.journals.sealed + 1)
@@ -845,7 +845,7 @@ Answers old (OfMergeFinish job) reply new = FinishesMerge (is_merging old.parts.
 Answers old OfMaintenance reply new = (reply ≡ Done) × (new ≡ evicted old)
 Answers old (OfRead view id query) reply new = Tells query (map_at (maps_in old view) id) reply × (new ≡ old)
 Answers old (OfTickets call) reply new = TurnsTickets (number old.history) old.tickets call reply new.tickets × (new ≡ record old { tickets = new.tickets })
-Answers old (OfPersist mode) reply new = (reply ≡ Done) × (new ≡ record old { parts = written_out old.parts 0 })
+Answers old (OfPersist mode) reply new = (reply ≡ Done) × (new ≡ record old { parts = parts_written_out old.parts 0 })
 Answers old (OfCount count) reply new = CountIs old count reply × (new ≡ old)
 
 -- ---- what may go wrong
@@ -911,11 +911,11 @@ WorkFails shape old new = ⊥
 
 -- the record after a merge has room, and too few ids are left for the tables that it made
 abbrev pub LacksMergeIds : Fields → Merge → Type 0
-LacksMergeIds last m = LacksNextId (merges.record_after m last)
+LacksMergeIds last m = LacksNextId (merges.record_after_merge m last)
 
 -- a record has no room for the tables and the clears that a merge leaves in it
 abbrev pub LacksMergeRoom : Fields → Merge → Type 0
-LacksMergeRoom last m = IsTooLong (merges.record_after m last)
+LacksMergeRoom last m = IsTooLong (merges.record_after_merge m last)
 
 -- what some merge that is out of a tree may make of its task, whose tables are closed at this size, meets this with a record
 abbrev pub MayLack : Option Merging → (target id : ℕ) → lsm.Shape → List (List Entry) → Fields → (Fields → Merge → Type 0) → Type 0
@@ -933,7 +933,7 @@ LacksAt s job Lacks =
 -- what a flush of this tree that is out may have made, one table at most, meets this with the record after it
 abbrev pub FlushMeets : lsm.Shape → Option Flushing → Fields → (Fields → Type 0) → Type 0
 FlushMeets tree None last Meets = ⊥
-FlushMeets tree (Some out) last Meets = (tables : List MadeTable) × (length tables ≤ 1) × Meets (record_after (flush_with tree out tables) last)
+FlushMeets tree (Some out) last Meets = (tables : List MadeTable) × (length tables ≤ 1) × Meets (record_after_flush (flush_with tree out tables) last)
 
 -- A flush is to be finished, and what it may have made meets this with the record after it.
 abbrev pub FinishMeets : State → JobId → (Fields → Type 0) → Type 0

@@ -13,11 +13,11 @@ use Rattle.fjall_manifest.specs.Reading.{AreRight}
 use Rattle.fjall_jobs.specs.declared.merge_made.MergeMade.{MergeMade}
 use Rattle.fjall_jobs.specs.Made.{merge_clears, merge_tables, merged_task}
 use Rattle.fjall_jobs.specs.Tasks.{Task}
-use Rattle.fjall_recovery.specs.Known.{last_known}
+use Rattle.fjall_replay.specs.Known.{last_known}
 use Rattle.fjall_tree.specs.Jobs.{IsMerging, is_merge_out}
 use Rattle.fjall_tree.specs.Trees.{Merging}
 use Rattle.fjall_compaction.specs.MergeFinishing as counting
-use Rattle.fjall_compaction.specs.Merges.{Merge, MergesTables, record_after, tree_after}
+use Rattle.fjall_compaction.specs.Merges.{Merge, MergesTables, record_after_merge, tree_after}
 pub use Rattle.fjall_compaction.specs.MergePlans.{AreMergeReaders}
 use Rattle.fjall_compaction.specs.MergePlans.{IsMergePlanRefusal}
 use Rattle.fjall_meta.specs.declared.living.LivingKeyspace.{LivingKeyspace}
@@ -67,7 +67,7 @@ ForMerge m id Holds = (k : LivingKeyspace) (out : Merging) → keyspace_at id m.
 pub record IsMergeFinished (old : Remembered) (id : ℕ) (last : Fields) (out : Merging) (m : Merge) (new : Remembered) : Type 0 where
   pub readers : List Reader
   pub are : AreMergeReaders id last.next_table_id m.tables readers
-  pub is : new ≡ with_merge id out readers (record_after m last) old
+  pub is : new ≡ with_merge id out readers (record_after_merge m last) old
 
 -- ---- the disk
 

@@ -7,15 +7,15 @@ use Rattle.fjall_base.specs.Pairs.{Bytes}
 use Rattle.fjall_base.specs.Store.{kept, map_at}
 use Rattle.fjall_journal.specs.Changes.{Change}
 use Rattle.fjall_journal.specs.Writer.{counted}
-use Rattle.fjall_manager.specs.Journals.{Journals, Sealed, next_journal}
-use Rattle.fjall_manager.specs.Places.{JournalPlaces, told}
+use Rattle.fjall_files.specs.Journals.{Journals, Sealed, next_journal}
+use Rattle.fjall_files.specs.Places.{JournalPlaces, told}
 use Rattle.fjall_meta.specs.declared.living.LivingKeyspace.{LivingKeyspace}
 use Rattle.fjall_meta.specs.Keyspaces.{AreKeyspaces, Keyspaces, keyspace_at, with_keyspace, without_keyspace}
 use Rattle.fjall_table.specs.Blocks.{Entry}
 use Rattle.fjall_table_reader.specs.Readers.{Reader}
-use Rattle.fjall_catalog.specs.Catalog.{fields, first_of}
-use Rattle.fjall_contents.specs.Contents.{is_beyond}
-use Rattle.fjall_recovery.specs.Known.{LastFields, last_known}
+use Rattle.fjall_manifest.specs.Catalog.{fields, first_of}
+use Rattle.fjall_meta.specs.Contents.{is_beyond}
+use Rattle.fjall_replay.specs.Known.{LastFields, last_known}
 use Rattle.fjall_tree.specs.Ingestions.{is_flush_due}
 use Rattle.fjall_tree.specs.Jobs.{flush_begun, flush_dropped, flush_finished, merge_begun, merge_dropped, merge_finished}
 use Rattle.fjall_tree.specs.Jobs as lsm
@@ -33,7 +33,7 @@ use Rattle.fjall_history.specs.declared.ticket.View.TheVariants.{Present, At}
 use Rattle.fjall_history.specs.Histories.{number, view}
 use Rattle.fjall_history.specs.Tickets.{Tickets, collected, no_tickets}
 pub use Rattle.fjall_history.specs.Tickets.{IsDueOrMemory}
-use Rattle.fjall_machine.specs.Machine.{Facts, State, changed, handles_of, instant_of, is_among, is_deleted, one_less, one_more, present, with_marks, without}
+use Rattle.fjall_machine.specs.Machine.{Facts, State, changed, handles_of, instant_of, is_among, is_deleted, one_less, one_more, present, with_marks, without_id}
 
 -- The keyspaces that live, the trees of keyspaces, the next number, whether a fault has poisoned the engine, how many
 -- handles of each keyspace are counted, the deleted keyspaces whose last maps are still read, the tickets, the journals, the last
@@ -174,28 +174,28 @@ retained id m = record m { handles = one_more m.handles id }
 
 -- the tree of a deleted keyspace is dropped, and its last record
 abbrev pub let_go : ℕ → Remembered → Remembered
-let_go id m = record m { lasting = without m.lasting id; trees = forests.without id m.trees; records = remove m.records id }
+let_go id m = record m { lasting = without_id m.lasting id; trees = forests.without id m.trees; records = remove m.records id }
 
 -- the last handle of a deleted keyspace is counted
-abbrev pub is_last : Remembered → ℕ → Bool
-is_last m id = is_deleted (store_of m.keyspaces m.trees) id && (handles_of m.handles id == 1)
+abbrev pub is_last_in_memory : Remembered → ℕ → Bool
+is_last_in_memory m id = is_deleted (store_of m.keyspaces m.trees) id && (handles_of m.handles id == 1)
 
 -- A handle less is counted. With the last one of a deleted keyspace go its tree and its last record.
-abbrev pub released : ℕ → Remembered → Remembered
-released id m = record m {
+abbrev pub released_in_memory : ℕ → Remembered → Remembered
+released_in_memory id m = record m {
   handles = one_less m.handles id;
-  lasting = if is_last m id then without m.lasting id else m.lasting;
-  trees = if is_last m id then forests.without id m.trees else m.trees;
-  records = if is_last m id then remove m.records id else m.records;
+  lasting = if is_last_in_memory m id then without_id m.lasting id else m.lasting;
+  trees = if is_last_in_memory m id then forests.without id m.trees else m.trees;
+  records = if is_last_in_memory m id then remove m.records id else m.records;
 }
 
 -- with the active memtable of a keyspace sealed, and the watermark raised
-abbrev pub rotated : ℕ → Remembered → Remembered
-rotated id m = record m { trees = altered_at id sealed_off m.trees; tickets = collected m.next m.tickets }
+abbrev pub rotated_in_memory : ℕ → Remembered → Remembered
+rotated_in_memory id m = record m { trees = altered_at id sealed_off m.trees; tickets = collected m.next m.tickets }
 
 -- with the active journal, whose file has so many bytes, sealed, and an empty one of the next number
-abbrev pub journal_rotated : ℕ → Remembered → Remembered
-journal_rotated len m = record m { journals = next_journal len m.journals }
+abbrev pub journal_rotated_in_memory : ℕ → Remembered → Remembered
+journal_rotated_in_memory len m = record m { journals = next_journal len m.journals }
 
 -- with these trees, which a read may leave more of in memory
 abbrev pub with_trees : Forest → Remembered → Remembered
@@ -212,12 +212,12 @@ poisoned m = record m { poisoned = true }
 -- ---- flushes
 
 -- with a flush of all sealed memtables of a keyspace out, under the next number of a job and the watermark of now
-abbrev pub flush_out : ℕ → Remembered → Remembered
-flush_out id m = record m { trees = altered_at id (flush_begun m.next_job m.tickets.watermark) m.trees; next_job = m.next_job + 1 }
+abbrev pub flush_out_in_memory : ℕ → Remembered → Remembered
+flush_out_in_memory id m = record m { trees = altered_at id (flush_begun m.next_job m.tickets.watermark) m.trees; next_job = m.next_job + 1 }
 
 -- with no flush of a keyspace out
-abbrev pub flush_gone : ℕ → Remembered → Remembered
-flush_gone id m = record m { trees = altered_at id flush_dropped m.trees }
+abbrev pub flush_gone_in_memory : ℕ → Remembered → Remembered
+flush_gone_in_memory id m = record m { trees = altered_at id flush_dropped m.trees }
 
 -- With the flush of a keyspace finished that was out, with the readers of its tables, and with the keyspace's record after it.
 abbrev pub with_flush : ℕ → Flushing → List Reader → Fields → Remembered → Remembered
@@ -233,12 +233,12 @@ KnowsTask m task =
 -- ---- merges
 
 -- with a merge of all tables of a keyspace out, under the next number of a job and the watermark of now
-abbrev pub merge_out : ℕ → Remembered → Remembered
-merge_out id m = record m { trees = altered_at id (merge_begun m.next_job m.tickets.watermark) m.trees; next_job = m.next_job + 1 }
+abbrev pub merge_out_in_memory : ℕ → Remembered → Remembered
+merge_out_in_memory id m = record m { trees = altered_at id (merge_begun m.next_job m.tickets.watermark) m.trees; next_job = m.next_job + 1 }
 
 -- with no merge of a keyspace out
-abbrev pub merge_gone : ℕ → Remembered → Remembered
-merge_gone id m = record m { trees = altered_at id merge_dropped m.trees }
+abbrev pub merge_gone_in_memory : ℕ → Remembered → Remembered
+merge_gone_in_memory id m = record m { trees = altered_at id merge_dropped m.trees }
 
 -- With the merge of a keyspace finished that was out, with the readers of its tables, and with the keyspace's record after it.
 abbrev pub with_merge : ℕ → Merging → List Reader → Fields → Remembered → Remembered
@@ -258,5 +258,5 @@ abbrev pub flushed_by : Keyspaces → LastFields → ℕ → ℕ → Bool
 flushed_by s records id lsn = flushed_of records (keyspace_at id s.living) lsn
 
 -- with these sealed journals
-abbrev pub with_sealed : List Sealed → Remembered → Remembered
-with_sealed sealed m = record m { journals = record m.journals { sealed = sealed } }
+abbrev pub with_sealed_in_memory : List Sealed → Remembered → Remembered
+with_sealed_in_memory sealed m = record m { journals = record m.journals { sealed = sealed } }

@@ -5,7 +5,7 @@ use Rattle.fjall_journal.specs.Ops.{BatchItem}
 use Rattle.fjall_journal.specs.Changes.{Change, Items, Emptied}
 use Rattle.fjall_journal.specs.declared.op.Op.TheVariants as ops
 use Rattle.fjall_journal.specs.declared.persist_mode.PersistMode.{PersistMode}
-use Rattle.fjall_writes.specs.Ingestions.{KeyOp}
+use Rattle.fjall_reading.specs.Ingestions.{KeyOp}
 use Rattle.fjall_history.specs.declared.job.JobId.{JobId}
 use Rattle.fjall_history.specs.declared.ticket.View.{View}
 use Rattle.fjall_history.specs.Queries.{Query, Get, Page}

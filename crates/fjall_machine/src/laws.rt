@@ -7,7 +7,7 @@ ghost use Rattle.fjall_base.specs.Pairs.{Bytes};
 ghost use Rattle.fjall_base.specs.Store.{Store, map_at};
 ghost use Rattle.fjall_base.specs.declared.error.Error.{Error};
 ghost use Rattle.fjall_table_reader.specs.Readers.{Reader};
-ghost use Rattle.fjall_compaction.specs.Flushes.{infos_from, record_after};
+ghost use Rattle.fjall_compaction.specs.Flushes.{flushed_infos, record_after_flush};
 ghost use Rattle.fjall_compaction.specs.FlushPlans.{IsFlushPlanRefusal};
 ghost use Rattle.fjall_jobs.specs.declared.flush_made.FlushMade.{FlushMade};
 ghost use Rattle.fjall_jobs.specs.declared.made_table.MadeTable.{MadeTable};
@@ -15,11 +15,11 @@ ghost use Rattle.fjall_jobs.specs.Made.{flush_tables};
 ghost use Rattle.fjall_jobs.specs.Tasks.{IsFlushed, Task};
 ghost use Rattle.fjall_journal.specs.Changes.{Change, Items};
 ghost use Rattle.fjall_journal.specs.Writer.{counted};
-ghost use Rattle.fjall_recovery.specs.Known.{last_known};
+ghost use Rattle.fjall_replay.specs.Known.{last_known};
 ghost use Rattle.fjall_tree.specs.Jobs.{IsFlushing};
 ghost use Rattle.fjall_tree.specs.Trees.{Flushing, is_l0};
-ghost use Rattle.fjall_manager.specs.Evictions.{StoppedBehind};
-ghost use Rattle.fjall_manager.specs.Journals.{Sealed, staying, waited_for};
+ghost use Rattle.fjall_files.specs.Evictions.{StoppedBehind};
+ghost use Rattle.fjall_files.specs.Journals.{Sealed, staying, waited_for};
 ghost use Rattle.fjall_meta.specs.declared.living.LivingKeyspace.{LivingKeyspace};
 ghost use Rattle.fjall_meta.specs.Keyspaces.{id_of, is_name, keyspace_at};
 ghost use Rattle.fjall_options.specs.Options.{AreOptions};
@@ -42,10 +42,10 @@ ghost use Rattle.fjall_machine.specs.Shapes.{CallShape, OfFlushFinish, OfRead, O
 ghost use Rattle.fjall_machine.specs.Ingesting.{with_ingestion};
 ghost use Rattle.fjall_machine.specs.Machine as machine;
 ghost use Rattle.fjall_machine.specs.Machine.{EvictsSome, Flushed, begins_flush, flush_count, flush_with, is_flushed, is_flushing, table_space, tables_space, AsksMemory, Facts, HasTables, IsPoisoned, Parts, Run, State};
-ghost use Rattle.fjall_machine.specs.Machine.{Step, StepOf, accepted, change_refusals, created, creation_refusals, deleted, deletion_refusals, buffer_size, due, due_in, first_due, handle_refusals, handles_of, has_name};
+ghost use Rattle.fjall_machine.specs.Machine.{Step, StepOf, accepted, change_refusals, created, creation_refusals, deleted, deletion_refusals, buffer_size, due, due_in, first_due, handle_refusals, handles_of, names_one};
 ghost use Rattle.fjall_machine.specs.Machine.{is_among, is_living, journal_refusals, maps_in, one_more, opened_state, persists_by_hand, present, rotates, times, version_count, view_refusals, wants_rotation};
-ghost use Rattle.fjall_machine.specs.Remembered.{KnowsTask, flush_gone, flush_out, flushed_by, with_flush, with_sealed, AreBeside, IsDueOrMemory, IsLawful, Remembered, MemoryStandsFor, facts_of};
-ghost use Rattle.fjall_machine.specs.Remembered.{instant_in, journal_rotated, poisoned, released, retained, rotated, with_change, with_creation, with_deletion, with_tickets, with_trees};
+ghost use Rattle.fjall_machine.specs.Remembered.{KnowsTask, flush_gone_in_memory, flush_out_in_memory, flushed_by, with_flush, with_sealed_in_memory, AreBeside, IsDueOrMemory, IsLawful, Remembered, MemoryStandsFor, facts_of};
+ghost use Rattle.fjall_machine.specs.Remembered.{instant_in, journal_rotated_in_memory, poisoned, released_in_memory, retained, rotated_in_memory, with_change, with_creation, with_deletion, with_tickets, with_trees};
 ghost use Rattle.fjall_machine.specs.Reads.{IsReadRefusal};
 
 /// What is held tells which refusal is due in each state that it stands for.
@@ -74,19 +74,19 @@ pub fn a_change_stands()
 
 /// A memtable that is sealed is a rotation.
 pub fn a_rotation_stands()
-    ensures { (m : Remembered) (table : ℕ) (s : State) → MemoryStandsFor m table s → (id : ℕ) → MemoryStandsFor (rotated id m) table (machine.rotated s id) }
+    ensures { (m : Remembered) (table : ℕ) (s : State) → MemoryStandsFor m table s → (id : ℕ) → MemoryStandsFor (rotated_in_memory id m) table (machine.rotated s id) }
 {}
 
 /// A journal that is sealed, with all that waited in its file, is a rotation.
 pub fn a_journal_rotation_stands()
     ensures { (m : Remembered) (table : ℕ) (s : State) → MemoryStandsFor m table s → (len : ℕ) → len ≡ counted (s.parts.journal + s.parts.buffer)
-        → MemoryStandsFor (journal_rotated len m) table (machine.journal_rotated s) }
+        → MemoryStandsFor (journal_rotated_in_memory len m) table (machine.journal_rotated s) }
 {}
 
 /// A keyspace more is a creation.
 pub fn a_creation_stands()
     ensures { (m : Remembered) (table : ℕ) (s : State) → MemoryStandsFor m table s → (name : Bytes) (options : List Bytes) → is_name name ≡ true
-        → has_name (store_of m.keyspaces m.trees) name ≡ false
+        → names_one (store_of m.keyspaces m.trees) name ≡ false
         → AreOptions options → m.keyspaces.next ≢ 2 ^ 64 - 1 → m.next < 2 ^ 63 → MemoryStandsFor (with_creation name options m) (table + 1) (created s name options) }
 {}
 
@@ -104,7 +104,7 @@ pub fn a_retained_stands()
 
 /// A handle less is counted. With the last one of a deleted keyspace goes what no read finds any more.
 pub fn a_release_stands()
-    ensures { (m : Remembered) (table : ℕ) (s : State) → MemoryStandsFor m table s → (id : ℕ) → MemoryStandsFor (released id m) table (machine.released s id) }
+    ensures { (m : Remembered) (table : ℕ) (s : State) → MemoryStandsFor m table s → (id : ℕ) → MemoryStandsFor (released_in_memory id m) table (machine.released s id) }
 {}
 
 /// After a fault what is held stands for poisoned states, whatever their parts but the trees, what tables hold, the last records and
@@ -131,12 +131,12 @@ pub fn a_read_stands()
 
 /// A flush that is begun is out.
 pub fn a_begun_flush_stands()
-    ensures { (m : Remembered) (table : ℕ) (s : State) → MemoryStandsFor m table s → (id : ℕ) → m.next_job < 2 ^ 64 - 1 → MemoryStandsFor (flush_out id m) table (machine.flush_out s id) }
+    ensures { (m : Remembered) (table : ℕ) (s : State) → MemoryStandsFor m table s → (id : ℕ) → m.next_job < 2 ^ 64 - 1 → MemoryStandsFor (flush_out_in_memory id m) table (machine.flush_out s id) }
 {}
 
 /// A flush that is forgotten is out no more.
 pub fn a_dropped_flush_stands()
-    ensures { (m : Remembered) (table : ℕ) (s : State) → MemoryStandsFor m table s → (id : ℕ) → MemoryStandsFor (flush_gone id m) table (machine.flush_gone s id) }
+    ensures { (m : Remembered) (table : ℕ) (s : State) → MemoryStandsFor m table s → (id : ℕ) → MemoryStandsFor (flush_gone_in_memory id m) table (machine.flush_gone s id) }
 {}
 
 /// A flush of a keyspace that lives is finished by what was made of its task: what is read stays, since all that is read lies above
@@ -144,10 +144,10 @@ pub fn a_dropped_flush_stands()
 pub fn a_finished_flush_stands()
     ensures { (m : Remembered) (table : ℕ) (s : State) → MemoryStandsFor m table s → (id : ℕ) (task : Task) (is : IsFlushing (shape_in id m.trees) task)
         → (tables : List MadeTable) (clears : List ℕ) (made : IsFlushed task tables clears) (k : LivingKeyspace) → keyspace_at id m.keyspaces.living ≡ Some k
-        → (readers : List Reader) → map (λ t. t.info) readers ≡ infos_from (last_known m.records k).next_table_id tables
-        → let parts = machine.flushed id is.out tables made.lists readers s.parts in
+        → (readers : List Reader) → map (λ t. t.info) readers ≡ flushed_infos (last_known m.records k).next_table_id tables
+        → let parts = machine.parts_flushed id is.out tables made.lists readers s.parts in
         Flushed s.parts id parts
-        × MemoryStandsFor (with_flush id is.out readers (record_after (flush_with (shape_in id m.trees) is.out tables) (last_known m.records k)) m) table (record s { parts = parts }) }
+        × MemoryStandsFor (with_flush id is.out readers (record_after_flush (flush_with (shape_in id m.trees) is.out tables) (last_known m.records k)) m) table (record s { parts = parts }) }
 {}
 
 /// What is known of a task stays known, whatever is done: its flush is out as it was begun, or it is out no more.
@@ -156,17 +156,17 @@ pub fn a_known_task_stays()
     ensures creation { (m : Remembered) (task : Task) (name : Bytes) (options : List Bytes) → KnowsTask m task → KnowsTask (with_creation name options m) task }
     ensures deletion { (m : Remembered) (task : Task) (id : ℕ) → KnowsTask m task → KnowsTask (with_deletion id m) task }
     ensures retained { (m : Remembered) (task : Task) (id : ℕ) → KnowsTask m task → KnowsTask (retained id m) task }
-    ensures released { (m : Remembered) (task : Task) (id : ℕ) → KnowsTask m task → KnowsTask (released id m) task }
-    ensures rotated { (m : Remembered) (task : Task) (id : ℕ) → KnowsTask m task → KnowsTask (rotated id m) task }
-    ensures journal { (m : Remembered) (task : Task) (len : ℕ) → KnowsTask m task → KnowsTask (journal_rotated len m) task }
+    ensures released { (m : Remembered) (task : Task) (id : ℕ) → KnowsTask m task → KnowsTask (released_in_memory id m) task }
+    ensures rotated { (m : Remembered) (task : Task) (id : ℕ) → KnowsTask m task → KnowsTask (rotated_in_memory id m) task }
+    ensures journal { (m : Remembered) (task : Task) (len : ℕ) → KnowsTask m task → KnowsTask (journal_rotated_in_memory len m) task }
     ensures read { (m : Remembered) (task : Task) (trees : Forest) → AreSameTrees m.trees trees → KnowsTask m task → KnowsTask (with_trees trees m) task }
     ensures tickets { (m : Remembered) (task : Task) (tickets : Tickets) → KnowsTask m task → KnowsTask (with_tickets tickets m) task }
-    ensures begun { (m : Remembered) (task : Task) (id : ℕ) → KnowsTask m task → KnowsTask (flush_out id m) task }
-    ensures dropped { (m : Remembered) (task : Task) (id : ℕ) → KnowsTask m task → KnowsTask (flush_gone id m) task }
+    ensures begun { (m : Remembered) (task : Task) (id : ℕ) → KnowsTask m task → KnowsTask (flush_out_in_memory id m) task }
+    ensures dropped { (m : Remembered) (task : Task) (id : ℕ) → KnowsTask m task → KnowsTask (flush_gone_in_memory id m) task }
     ensures finished { (m : Remembered) (task : Task) (id : ℕ) (out : Flushing) (readers : List Reader) (last : Fields) → KnowsTask m task
         → KnowsTask (with_flush id out readers last m) task }
     ensures ingested { (m : Remembered) (task : Task) (id : ℕ) (readers : List Reader) (last : Fields) → KnowsTask m task → KnowsTask (with_ingestion id readers last m) task }
-    ensures evicted { (m : Remembered) (task : Task) (left : List Sealed) → KnowsTask m task → KnowsTask (with_sealed left m) task }
+    ensures evicted { (m : Remembered) (task : Task) (left : List Sealed) → KnowsTask m task → KnowsTask (with_sealed_in_memory left m) task }
     ensures poisoned { (m : Remembered) (task : Task) → KnowsTask m task → KnowsTask (poisoned m) task }
 {}
 
@@ -183,8 +183,8 @@ pub fn a_flush_refusal_is_a_step()
 pub fn an_eviction_stands()
     ensures flushed { (m : Remembered) (table : ℕ) (s : State) → MemoryStandsFor m table s → (id lsn : ℕ) → is_flushed s id lsn ≡ flushed_by m.keyspaces m.records id lsn }
     ensures all { (m : Remembered) (table : ℕ) (s : State) → MemoryStandsFor m table s
-        → MemoryStandsFor (with_sealed (staying (flushed_by m.keyspaces m.records) m.journals.sealed) m) table (machine.evicted s) }
-    ensures left { (m : Remembered) (table : ℕ) (s : State) → MemoryStandsFor m table s → (left : List Sealed) → MemoryStandsFor (with_sealed left m) table (machine.with_sealed left s) }
+        → MemoryStandsFor (with_sealed_in_memory (staying (flushed_by m.keyspaces m.records) m.journals.sealed) m) table (machine.evicted s) }
+    ensures left { (m : Remembered) (table : ℕ) (s : State) → MemoryStandsFor m table s → (left : List Sealed) → MemoryStandsFor (with_sealed_in_memory left m) table (machine.with_sealed left s) }
     ensures some { (m : Remembered) (table : ℕ) (s : State) → MemoryStandsFor m table s → (gone left : List Sealed)
         → StoppedBehind (flushed_by m.keyspaces m.records) m.journals.sealed left gone → EvictsSome s (machine.with_sealed left s) }
 {}
@@ -261,7 +261,7 @@ pub fn names_agree()
     ensures listed { (m : Remembered) (table : ℕ) (s : State) → MemoryStandsFor m table s → values (present s).names ≡ map (λ k. k.name) m.keyspaces.living }
     ensures counted { (m : Remembered) (table : ℕ) (s : State) → MemoryStandsFor m table s → len (present s).names ≡ length m.keyspaces.living }
     ensures named { (m : Remembered) (table : ℕ) (s : State) → MemoryStandsFor m table s → (name : Bytes)
-        → has_name (present s) name ≡ is_some (id_of name m.keyspaces.living) }
+        → names_one (present s) name ≡ is_some (id_of name m.keyspaces.living) }
     ensures resolved { (m : Remembered) (table : ℕ) (s : State) → MemoryStandsFor m table s → (id : ℕ) (name : Bytes)
         → (get (present s).names id ≡ Some name) ↔ (id_of name m.keyspaces.living ≡ Some id) }
     ensures living { (m : Remembered) (table : ℕ) (s : State) → MemoryStandsFor m table s → (id : ℕ)

@@ -16,3 +16,14 @@ pub mod Meanings
 pub mod Outside
 pub mod Standing
 pub mod Openings
+pub mod CatalogNaming
+pub mod CatalogResting
+mod CatalogRuns
+pub mod Serving
+mod Changes
+pub mod Shapes
+pub mod CatalogMeanings
+pub mod Pairs
+mod Written
+mod Lasts
+mod Readings

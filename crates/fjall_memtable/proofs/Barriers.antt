@@ -5,7 +5,7 @@ use Rattle.std.proofs.lemmas.Bool.{le-ltb}
 use Rattle.std.proofs.lemmas.Bool.Decides.{nat_tests}
 use Rattle.std.proofs.lemmas.List.Elements.{recursion_from_All}
 use Rattle.fjall_table.specs.Blocks.{Entry}
-use Rattle.fjall_views.specs.Views.{is_cleared}
+use Rattle.fjall_memtable.specs.Views.{is_cleared}
 use Rattle.fjall_memtable.specs.SortedPages.{barrier}
 use Rattle.fjall_memtable.specs.Sorted.{flat}
 

@@ -9,9 +9,9 @@ use Rattle.std.proofs.lemmas.Cmp.{nat_list_cmp_total}
 use Rattle.std.proofs.lemmas.List.Folds.{list_any-append}
 use Rattle.fjall_base.specs.Lists.{last_of}
 use Rattle.fjall_table.specs.Blocks.{Entry, IsBefore, IsOrdered}
-use Rattle.fjall_views.specs.Jobs.{is_hidden, is_later, is_old_removal, is_spent, flushed, merged, OnceEach, Same}
-use Rattle.fjall_views.proofs.Sameness.{same_key, keys_tie}
-use Rattle.fjall_views.proofs.Tests.{filters_same, same_filters}
+use Rattle.fjall_memtable.specs.Jobs.{is_hidden, is_later, is_old_removal, is_spent, flushed, merged, OnceEach, Same}
+use Rattle.fjall_memtable.proofs.Sameness.{same_key, keys_tie}
+use Rattle.fjall_memtable.proofs.Tests.{filters_same, same_filters}
 use Rattle.fjall_memtable.specs.Kept.{is_behind, is_followed, is_kept, kept_of}
 use Rattle.fjall_memtable.specs.SortedPages.{barrier}
 use Rattle.fjall_memtable.specs.Sorted.{sorted}

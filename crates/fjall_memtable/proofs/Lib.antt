@@ -1,3 +1,13 @@
+pub mod Clears
+pub mod Hiding
+pub mod Merging
+mod Needed
+pub mod NewestSeen
+pub mod Once
+pub mod Sameness
+pub mod Shown
+pub mod Tests
+pub mod Writing
 pub mod Fronts
 pub mod Orders
 mod Absents

@@ -6,9 +6,9 @@ use Rattle.std.proofs.lemmas.Bool.{and_parts, cases_Bool, eqb-true}
 use Rattle.std.proofs.lemmas.List.Elements.{All-from_recursion, All-head, All-nil, All-tail, All-weaker}
 use Rattle.std.proofs.lemmas.List.Folds.{list_any_none}
 use Rattle.fjall_table.specs.Blocks.{Entry, IsBefore}
-use Rattle.fjall_views.specs.Jobs.{OnceEach, is_at}
-use Rattle.fjall_views.proofs.Once.{parts_once}
-use Rattle.fjall_views.proofs.Sameness.{same_key}
+use Rattle.fjall_memtable.specs.Jobs.{OnceEach, is_at}
+use Rattle.fjall_memtable.proofs.Once.{parts_once}
+use Rattle.fjall_memtable.proofs.Sameness.{same_key}
 use Rattle.fjall_memtable.proofs.Sorting.{IsChain, all_weaker, chain_of}
 use Rattle.fjall_memtable.proofs.SortedRanges.{older}
 use Rattle.fjall_memtable.specs.Parts.{AreApart, HeldPart, IsHeld, versions_in}

@@ -14,9 +14,9 @@ use Rattle.std.proofs.lemmas.List.Elements.{All-from_recursion}
 use Rattle.std.proofs.lemmas.Map.Text.{is_eq-slice_cmp}
 use Rattle.fjall_base.specs.Pairs.{Bytes, byte_order}
 use Rattle.fjall_table.specs.Blocks.{Entry, IsBefore}
-use Rattle.fjall_views.specs.Views.{newest, is_seen, later}
-use Rattle.fjall_views.proofs.Newest.{top, first_wins, newest_has}
-use Rattle.fjall_views.proofs.Sameness.{same_key, keys_tie, key_turned}
+use Rattle.fjall_memtable.specs.Views.{newest, is_seen, later}
+use Rattle.fjall_memtable.proofs.NewestSeen.{top, first_wins, newest_has}
+use Rattle.fjall_memtable.proofs.Sameness.{same_key, keys_tie, key_turned}
 use Rattle.fjall_memtable.specs.SortedPages.{is_settled, pair_in, pair_of, pairs_of}
 use Rattle.fjall_memtable.proofs.SortedOrders.{equal_keys, before_parts}
 use Rattle.fjall_memtable.proofs.SortedRanges.{older}

@@ -7,7 +7,7 @@ use Rattle.std.proofs.lemmas.Bool.{cases_Bool, true≢false, false_from_ne_true,
 use Rattle.std.proofs.lemmas.List.{append-nil, reverse-append}
 use Rattle.fjall_base.specs.Pairs.{Bytes, byte_order}
 use Rattle.fjall_table.specs.Blocks.{Entry, IsBefore}
-use Rattle.fjall_views.proofs.Sameness.{same_key, keys_tie, key_turned}
+use Rattle.fjall_memtable.proofs.Sameness.{same_key, keys_tie, key_turned}
 use Rattle.fjall_memtable.specs.SortedPages.{found_with, is_another, is_settled, pair_found, pair_in, pair_of, pairs_back, pairs_of}
 use Rattle.fjall_memtable.proofs.SortedOrders.{equal_keys, before_parts, less_differs}
 use Rattle.fjall_memtable.proofs.Paging.{above_all, cases_page, IsStep}

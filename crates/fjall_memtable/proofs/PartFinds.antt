@@ -6,8 +6,8 @@ use Rattle.std.proofs.lemmas.List.Concat.{flat_map-append}
 use Rattle.std.proofs.lemmas.List.Elements.{All-head}
 use Rattle.fjall_base.specs.Pairs.{Bytes}
 use Rattle.fjall_table.specs.Blocks.{Entry}
-use Rattle.fjall_views.specs.Views.{is_seen, later, newest}
-use Rattle.fjall_views.proofs.Newest.{behind_wins, later_none, newest-append}
+use Rattle.fjall_memtable.specs.Views.{is_seen, later, newest}
+use Rattle.fjall_memtable.proofs.NewestSeen.{behind_wins, later_none, newest-append}
 use Rattle.fjall_memtable.specs.Parts.{AreApart, HeldPart, IsHeld, versions_in}
 use Rattle.fjall_memtable.proofs.Apart.{apart_front, held_behind, numbers_below, versions_numbered}
 

@@ -10,7 +10,7 @@ use Rattle.std.proofs.lemmas.Cmp.{nat_list_cmp_total, tied_itself}
 use Rattle.std.proofs.lemmas.Map.Text.{is_eq-slice_cmp}
 use Rattle.fjall_base.specs.Pairs.{Bytes, byte_order}
 use Rattle.fjall_table.specs.Blocks.{Entry, StandsBefore, IsBefore}
-use Rattle.fjall_views.proofs.Sameness.{same_key}
+use Rattle.fjall_memtable.proofs.Sameness.{same_key}
 use Rattle.fjall_memtable.proofs.SortedRanges.{all_filter}
 use Rattle.fjall_memtable.proofs.Sorting.{IsChain}
 

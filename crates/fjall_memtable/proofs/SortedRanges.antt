@@ -14,9 +14,9 @@ use Rattle.fjall_table.specs.Tables.{entries_within, versions_at}
 use Rattle.fjall_memtable.specs.Stamps.{Stamp}
 use Rattle.fjall_memtable.specs.Entries.{stamp_of, inserted}
 use Rattle.fjall_memtable.proofs.Orders.{same_stamp}
-use Rattle.fjall_views.specs.Views.{newest, later, is_seen}
-use Rattle.fjall_views.proofs.Newest.{top, first_wins, newest_has}
-use Rattle.fjall_views.proofs.Sameness.{same_key}
+use Rattle.fjall_memtable.specs.Views.{newest, later, is_seen}
+use Rattle.fjall_memtable.proofs.NewestSeen.{top, first_wins, newest_has}
+use Rattle.fjall_memtable.proofs.Sameness.{same_key}
 use Rattle.fjall_memtable.specs.Sorted.{sorted}
 use Rattle.fjall_memtable.proofs.Sorting.{order, before_from, behind_from, IsChain, chain_of, inserted_first, inserted_behind, all_weaker, before_trans, sorted_chain}
 

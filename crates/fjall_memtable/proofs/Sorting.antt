@@ -13,8 +13,8 @@ use Rattle.fjall_memtable.specs.Stamps.{Stamp, stamp_cmp, stamp_total}
 use Rattle.fjall_memtable.specs.Entries.{stamp_of, inserted}
 use Rattle.fjall_memtable.proofs.Fronts.{less}
 use Rattle.fjall_memtable.proofs.Orders.{same_stamp}
-use Rattle.fjall_views.specs.Jobs.{OnceEach, Same, is_at}
-use Rattle.fjall_views.proofs.Sameness.{at-from}
+use Rattle.fjall_memtable.specs.Jobs.{OnceEach, Same, is_at}
+use Rattle.fjall_memtable.proofs.Sameness.{at-from}
 use Rattle.fjall_memtable.specs.Sorted.{sorted}
 
 -- ---- one before another

@@ -11,8 +11,8 @@ use Rattle.std.proofs.lemmas.List.Folds.{list_any-append}
 use Rattle.std.proofs.lemmas.Option.{slice_get_within, get_or_from_slice_get}
 use Rattle.fjall_table.specs.Blocks.{Entry, IsBefore, IsOrdered}
 use Rattle.fjall_memtable.specs.Entries.{inserted}
-use Rattle.fjall_views.specs.Jobs.{OnceEach, is_at}
-use Rattle.fjall_views.proofs.Sameness.{at_turned}
+use Rattle.fjall_memtable.specs.Jobs.{OnceEach, is_at}
+use Rattle.fjall_memtable.proofs.Sameness.{at_turned}
 use Rattle.fjall_memtable.specs.Sorted.{flat, sorted, in_turn, IsInTurn, IsUpTo, IsUpToFirst, IsFirstOf}
 use Rattle.fjall_memtable.proofs.Sorting.{order, before_from, behind_from, before_trans, tied, IsChain, chain_of, ordered_of, all_weaker, all_sorted, inserted_first, inserted_behind}
 

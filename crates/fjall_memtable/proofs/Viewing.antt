@@ -9,10 +9,10 @@ use Rattle.std.proofs.lemmas.Cmp.{nat_list_cmp_total}
 use Rattle.fjall_base.specs.Pairs.{Bytes, KeyRange, Pairs, byte_order, is_within, lookup, pairs_between}
 use Rattle.fjall_table.specs.Blocks.{Entry}
 use Rattle.fjall_table.specs.Tables.{entries_within}
-use Rattle.fjall_views.specs.Jobs.{OnceEach}
-use Rattle.fjall_views.specs.Views.{IsView, is_seen, later, newest, value_left}
-use Rattle.fjall_views.proofs.Sameness.{same_key, same_newest}
-use Rattle.fjall_views.proofs.Shown.{value_shown}
+use Rattle.fjall_memtable.specs.Jobs.{OnceEach}
+use Rattle.fjall_memtable.specs.Views.{IsView, is_seen, later, newest, value_left}
+use Rattle.fjall_memtable.proofs.Sameness.{same_key, same_newest}
+use Rattle.fjall_memtable.proofs.Shown.{value_shown}
 use Rattle.fjall_memtable.specs.SortedPages.{barrier, pairs_back, pairs_of}
 use Rattle.fjall_memtable.specs.Sorted.{sorted}
 use Rattle.fjall_memtable.proofs.Barriers.{barrier_stands}

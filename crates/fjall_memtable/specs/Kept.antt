@@ -6,7 +6,7 @@ use Rattle.fjall_base.specs.Lists.{last_of}
 use Rattle.fjall_table.specs.Blocks.{Entry}
 use Rattle.fjall_table.specs.Tables.{first_key}
 use Rattle.fjall_memtable.specs.Entries.{size_of}
-use Rattle.fjall_views.specs.Jobs.{is_old_removal}
+use Rattle.fjall_memtable.specs.Jobs.{is_old_removal}
 
 -- whether the version before is of the same key
 abbrev pub is_behind : Option Entry → Entry → Bool

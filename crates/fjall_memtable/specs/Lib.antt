@@ -1,3 +1,6 @@
+pub mod Examples
+pub mod Jobs
+pub mod Views
 pub mod Stamps
 pub mod Tails
 pub mod Places

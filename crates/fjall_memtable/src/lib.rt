@@ -1,5 +1,5 @@
-//! What a keyspace holds in memory: the memtable that is written and the sealed ones before it, each with its clears; and versions
-//! in a table's order, with what pages and jobs make of them by one look at each.
+//! Versions and clears of a keyspace, and the view of them at an instant. What a keyspace holds of them in memory: the memtable
+//! that is written and the sealed ones before it, each with its clears, and versions in a table's order.
 #![tactic(auto)]
 
 mod bounds;
@@ -15,6 +15,7 @@ mod sorted_laws;
 mod tail;
 mod version_key;
 mod versions;
+mod view_laws;
 
 pub use mark::Mark;
 pub use memtable::Memtable;
@@ -28,3 +29,10 @@ pub use sorted_laws::{
     what_is_kept_is_not_hidden,
 };
 pub use versions::Versions;
+pub use view_laws::{
+    a_clear_is_one_clear_more, a_flush_at_an_open_instant_loses_a_version, a_flush_keeps_views,
+    a_merge_below_older_versions_loses_a_removal, a_merge_keeps_views,
+    a_merge_that_takes_later_clears_loses_a_clear, a_write_is_one_version_more, each_stays_once,
+    jobs_keep_what_views_show, parts_are_read_one_by_one, the_newest_decides,
+    the_order_does_not_matter, views_are_one,
+};

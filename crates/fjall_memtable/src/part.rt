@@ -6,7 +6,7 @@ ghost use Rattle.std.specs.Option.{option_map};
 ghost use Rattle.fjall_table.specs.Blocks.{seen, value_bytes};
 ghost use Rattle.fjall_memtable.specs.Entries.{entries_kept, size_of, version, IsAbsent};
 ghost use Rattle.fjall_memtable.specs.Presence.{has_entry};
-ghost use Rattle.fjall_views.specs.Views.{newest};
+ghost use Rattle.fjall_memtable.specs.Views.{newest};
 ghost use Rattle.fjall_memtable.specs.SortedPages.{barrier};
 ghost use Rattle.fjall_memtable.specs.Parts.{Ascends, IsHeld, empty_from, held_prop, holds_nothing, with_clear, with_version};
 

@@ -6,7 +6,7 @@ ghost use Rattle.std.specs.Option.{option_map};
 ghost use Rattle.fjall_table.specs.Blocks.{seen, value_bytes};
 ghost use Rattle.fjall_memtable.specs.Entries.{size_of, version, IsAbsent};
 ghost use Rattle.fjall_memtable.specs.Presence.{has_entry};
-ghost use Rattle.fjall_views.specs.Views.{newest};
+ghost use Rattle.fjall_memtable.specs.Views.{newest};
 ghost use Rattle.fjall_memtable.specs.SortedPages.{barrier};
 ghost use Rattle.fjall_memtable.specs.Parts.{AreApart, IsHeld, apart_prop, clears_in, empty_from, holds_nothing, parts_of, rotated, versions_in, with_active, with_clear, with_version};
 ghost use Rattle.fjall_memtable.specs.Held.{held_of};

@@ -3,7 +3,7 @@
 ghost use Rattle.std.specs.Prelude.{◌<◌, ◌≤◌, ◌++◌, ◌∷◌, ℕ, List};
 ghost use Rattle.std.specs.List.{All};
 ghost use Rattle.fjall_memtable.specs.Parts.{AreApart, HeldPart, IsHeld, clears_in, versions_in};
-ghost use Rattle.fjall_views.specs.Jobs.{AreBelow, AreFrom, OnceEach};
+ghost use Rattle.fjall_memtable.specs.Jobs.{AreBelow, AreFrom, OnceEach};
 
 /// Where a part begins, the numbers of all parts before it end, and those of all parts from it on begin.
 pub fn parts_stand_apart()

@@ -5,7 +5,7 @@ ghost use Rattle.std.specs.List.{sum_by};
 ghost use Rattle.std.specs.Option.{option_map};
 ghost use Rattle.fjall_table.specs.Blocks.{seen};
 ghost use Rattle.fjall_memtable.specs.Entries.{size_of};
-ghost use Rattle.fjall_views.specs.Views.{newest};
+ghost use Rattle.fjall_memtable.specs.Views.{newest};
 ghost use Rattle.fjall_memtable.specs.SortedPages.{barrier};
 ghost use Rattle.fjall_memtable.specs.Parts.{AreApart, clears_in, versions_in};
 ghost use Rattle.fjall_memtable.specs.Shares.{shared};

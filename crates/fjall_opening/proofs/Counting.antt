@@ -5,9 +5,9 @@ use Rattle.std.specs.List.{AllZip, Contains}
 use Rattle.std.specs.List.Sorted.{IsStrictlyIncreasing}
 use Rattle.fjall_base.specs.Disk.{Image}
 use Rattle.fjall_journal.specs.Batches.{Written, shown}
-use Rattle.fjall_manager.specs.Journals.{Sealed}
-use Rattle.fjall_manager.specs.Marks.{JournalMarks}
-use Rattle.fjall_manager.specs.Telling.{AreMarksOf}
+use Rattle.fjall_files.specs.Journals.{Sealed}
+use Rattle.fjall_files.specs.Marks.{JournalMarks}
+use Rattle.fjall_files.specs.Telling.{AreMarksOf}
 use Rattle.fjall_recovery.specs.declared.folder.RecoveredFolder.{RecoveredFolder}
 use Rattle.fjall_recovery.specs.Folders.{Contents, IsFinished, IsNumbered, IsOpenable, ShowsContents}
 use Rattle.fjall_recovery.specs.Journals.{AreJournalIds, WholeJournal}
@@ -22,7 +22,7 @@ use Rattle.fjall_opening.specs.declared.opened.Opened.{Opened}
 use Rattle.fjall_opening.specs.Opened.{HasJournals, HasNoJournal}
 use Rattle.fjall_repair.specs.Steps.{active_of, opened}
 use Rattle.fjall_repair.proofs.MendOpened.{ids_of}
-use Rattle.fjall_manager.specs.Places.{told}
+use Rattle.fjall_files.specs.Places.{told}
 use Rattle.fjall_repair.proofs.Rested.{active_parted}
 
 -- ---- journals that hold nothing

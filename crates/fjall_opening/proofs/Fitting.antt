@@ -8,8 +8,8 @@ use Rattle.fjall_journal.specs.declared.entry.Entry.{Entry}
 use Rattle.fjall_journal.specs.declared.entry.Entry.TheVariants.{Start, Item, End, Clear}
 use Rattle.fjall_journal.specs.Batches.{IsChange, IsWritten, Shown, Written, items_of, shown}
 use Rattle.fjall_manifest.specs.Records.{Fields}
-use Rattle.fjall_contents.specs.Replays.{fault_of, first_fault, least_after}
-use Rattle.fjall_contents.proofs.Viewing.{no_fault, number_fits}
+use Rattle.fjall_meta.specs.Replays.{fault_of, first_fault, least_after}
+use Rattle.fjall_meta.proofs.Viewing.{no_fault, number_fits}
 use Rattle.fjall_recovery.specs.Folders.{past, past_records}
 use Rattle.fjall_recovery.specs.Journals.{AreJournalsRead, WholeJournal, batches_in}
 use Rattle.fjall_opening.specs.Opened.{HasNumbers, HasSizes, IsFit}

@@ -12,16 +12,16 @@ use Rattle.fjall_recovery.specs.Journals.{AreJournalsRead, EndsAt, IsSealed, Who
 use Rattle.fjall_recovery.specs.Refusals.{HasRisen}
 use Rattle.fjall_recovery.proofs.Gathering.{batches-append}
 use Rattle.fjall_trees.specs.Forests.{AreBefore, Forest}
-use Rattle.fjall_contents.specs.Replays.{first_fault, least_after}
-use Rattle.fjall_contents.proofs.Faults.{first_fault-append, least_after-append}
-use Rattle.fjall_contents.proofs.Viewing.{no_fault}
+use Rattle.fjall_meta.specs.Replays.{first_fault, least_after}
+use Rattle.fjall_meta.proofs.ContentFaults.{first_fault-append, least_after-append}
+use Rattle.fjall_meta.proofs.Viewing.{no_fault}
 use Rattle.fjall_opening.specs.declared.replaying.Progress.{Progress}
 use Rattle.fjall_opening.specs.declared.replaying.Replay.{Replay}
 use Rattle.fjall_opening.specs.Opened.{IsFit}
 use Rattle.fjall_meta.specs.Keyspaces.{Keyspaces}
 use Rattle.fjall_trees.specs.declared.trees.Trees.{Trees}
 use Rattle.fjall_trees.specs.Views.{forest_of}
-use Rattle.fjall_contents.specs.declared.recovery.Persisted.{Persisted}
+use Rattle.fjall_meta.specs.declared.recovery.Persisted.{Persisted}
 use Rattle.fjall_opening.specs.Replaying.{IsHeldBy, IsReplayed, IsUnderway, MayTake}
 use Rattle.fjall_opening.proofs.Openings as openings
 use Rattle.fjall_repair.proofs.Rested.{parted}

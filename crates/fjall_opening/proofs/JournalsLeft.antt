@@ -14,30 +14,30 @@ use Rattle.std.proofs.lemmas.Option.{get_or_from_slice_get, slice_get_cases, sli
 use Rattle.fjall_base.specs.Disk.{Image}
 use Rattle.fjall_journal.specs.declared.batch.ReadBatchItem.{ReadBatchItem}
 use Rattle.fjall_journal.specs.Batches.{Shown, Written, shown}
-use Rattle.fjall_manager.specs.Journals.{Sealed}
-use Rattle.fjall_manager.specs.Marks.{IsAscending, JournalMarks, lsn_of}
-use Rattle.fjall_manager.specs.Reaching.{reaches}
-use Rattle.fjall_manager.specs.Telling.{AreMarksOf, IsGreatest, changed_by}
-use Rattle.fjall_manager.proofs.Telling.{mark_is_greatest}
+use Rattle.fjall_files.specs.Journals.{Sealed}
+use Rattle.fjall_files.specs.Marks.{IsAscending, JournalMarks, lsn_of}
+use Rattle.fjall_files.specs.Reaching.{reaches}
+use Rattle.fjall_files.specs.Telling.{AreMarksOf, IsGreatest, changed_by}
+use Rattle.fjall_files.proofs.Telling.{mark_is_greatest}
 use Rattle.fjall_manifest.specs.declared.reading.LoadedHome.{LoadedHome}
 use Rattle.fjall_meta.specs.Keyspaces.{Keyspaces}
-use Rattle.fjall_contents.specs.Contents.{Stored}
-use Rattle.fjall_contents.specs.Replays.{counts_unpersisted, fault_of, first_fault, least_after, reaches as is_up_to}
-use Rattle.fjall_contents.specs.declared.recovery.Persisted.{Persisted}
-use Rattle.fjall_contents.proofs.Faults.{first_fault-append}
-use Rattle.fjall_contents.proofs.Following.{before_least}
-use Rattle.fjall_contents.proofs.Viewing.{no_fault, number_fits}
+use Rattle.fjall_meta.specs.Contents.{Stored}
+use Rattle.fjall_meta.specs.Replays.{counts_unpersisted, fault_of, first_fault, least_after, reaches as is_up_to}
+use Rattle.fjall_meta.specs.declared.recovery.Persisted.{Persisted}
+use Rattle.fjall_meta.proofs.ContentFaults.{first_fault-append}
+use Rattle.fjall_meta.proofs.Following.{before_least}
+use Rattle.fjall_meta.proofs.Viewing.{no_fault, number_fits}
 use Rattle.fjall_trees.specs.Forests.{Forest, Planted}
 use Rattle.fjall_trees.specs.Sealing.{all_sealed}
 use Rattle.fjall_recovery.specs.declared.folder.RecoveredFolder.{RecoveredFolder}
 use Rattle.fjall_recovery.specs.Folders.{Contents, IsFinished, ShowsContents}
 use Rattle.fjall_recovery.specs.Homes.{last_in}
 use Rattle.fjall_recovery.specs.Journals.{WholeJournal, batches_in}
-use Rattle.fjall_recovery.specs.Opening.{opened}
-use Rattle.fjall_recovery.specs.Parted.{AreLeftBy, all_unwritten, counts_beyond_homes, with_journals}
-use Rattle.fjall_recovery.specs.Steps.{with_batch, with_batches, with_clears, with_items}
+use Rattle.fjall_replay.specs.Opening.{opened}
+use Rattle.fjall_replay.specs.Parted.{AreLeftBy, all_unwritten, counts_beyond_homes, with_journals}
+use Rattle.fjall_replay.specs.Steps.{with_batch, with_batches, with_clears, with_items}
 use Rattle.fjall_recovery.specs.Told.{TellOf, TellsOf}
-use Rattle.fjall_recovery.proofs.ReplayedStores.{told}
+use Rattle.fjall_replay.proofs.ReplayedStores.{told}
 use Rattle.fjall_opening.specs.Readings.{persisted_of}
 use Rattle.fjall_opening.specs.Replaying.{later_batches, made_of, own_batches, tell_up_to}
 use Rattle.fjall_opening.proofs.Replayed.{told_last}

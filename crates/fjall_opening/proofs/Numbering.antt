@@ -4,7 +4,7 @@ use Rattle.std.specs.Prelude.{IfSome}
 use Rattle.std.proofs.lemmas.List.{map_more, length-map, get_or-map, take_all}
 use Rattle.std.proofs.lemmas.List.Elements.{All-head, All-tail}
 use Rattle.fjall_manifest.specs.Records.{Fields, view}
-use Rattle.fjall_catalog.specs.Catalog.{fields}
+use Rattle.fjall_manifest.specs.Catalog.{fields}
 use Rattle.fjall_recovery.specs.declared.folder.RecoveredFolder.{RecoveredFolder}
 use Rattle.fjall_manifest.specs.declared.reading.LoadedHome.{LoadedHome}
 use Rattle.fjall_recovery.specs.Folders.{past, past_record, past_records}

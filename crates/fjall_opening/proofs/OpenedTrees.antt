@@ -15,27 +15,27 @@ use Rattle.fjall_table_reader.specs.Readers.{HoldsAWrongBlock, Reader, SomeTable
 use Rattle.fjall_manifest.specs.Homes.{Home}
 use Rattle.fjall_meta.specs.declared.living.LivingKeyspace.{LivingKeyspace}
 use Rattle.fjall_meta.specs.Keyspaces.{Keyspaces, keyspace_at, no_keyspaces}
-use Rattle.fjall_catalog.specs.Catalog.{first_catalog}
+use Rattle.fjall_manifest.specs.Catalog.{first_catalog}
 use Rattle.fjall_tree.specs.Trees.{ReadsAll, Shape}
-use Rattle.fjall_contents.specs.Contents.{AreWithin, IsWithin, Stored, is_beyond, store_held as store_beyond}
+use Rattle.fjall_meta.specs.Contents.{AreWithin, IsWithin, Stored, is_beyond, store_held as store_beyond}
 use Rattle.fjall_trees.specs.Forests.{Forest, Planted}
 use Rattle.fjall_trees.specs.Tables.{AreReadOn}
 use Rattle.fjall_trees.specs.Views.{forest_of}
 use Rattle.fjall_trees.proofs.Reading.{all_files_read}
 use Rattle.fjall_trees.specs.MapTables.{store_with}
-use Rattle.fjall_recovery.specs.Beside.{AreReplayedWith}
-use Rattle.fjall_recovery.specs.Parted.{all_unwritten}
-use Rattle.fjall_recovery.specs.Replayed.{AreTold}
-use Rattle.fjall_recovery.proofs.Behind.{replayed_store_beside}
+use Rattle.fjall_replay.specs.Beside.{AreReplayedWith}
+use Rattle.fjall_replay.specs.Parted.{all_unwritten}
+use Rattle.fjall_replay.specs.Replayed.{AreTold}
+use Rattle.fjall_replay.proofs.Behind.{replayed_store_beside}
 use Rattle.fjall_recovery.specs.declared.folder.RecoveredFolder.{RecoveredFolder}
 use Rattle.fjall_recovery.specs.Folders.{Contents, IsFinished, IsOpenable, ShowsContents, store_of_contents}
 use Rattle.fjall_recovery.specs.Homes.{HasHomeAt, HaveVersions, Homes, stored_in}
 use Rattle.fjall_recovery.specs.Journals.{batches_in}
 use Rattle.fjall_recovery.proofs.Shown.{all_within}
-use Rattle.fjall_recovery.specs.Opening.{AreReadersIn, HaveEntries, IsOpenedOn, stored_entries, stored_with}
-use Rattle.fjall_recovery.specs.Known.{AreAtHome, IsAtHome, IsKnown}
-use Rattle.fjall_recovery.proofs.KnownHomes.{known_still}
-use Rattle.fjall_recovery.proofs.Opening.{other_id}
+use Rattle.fjall_replay.specs.Opening.{AreReadersIn, HaveEntries, IsOpenedOn, stored_entries, stored_with}
+use Rattle.fjall_replay.specs.Known.{AreAtHome, IsAtHome, IsKnown}
+use Rattle.fjall_replay.proofs.KnownHomes.{known_still}
+use Rattle.fjall_replay.proofs.Opening.{other_id}
 use Rattle.fjall_opening.specs.declared.opened.Opened.{Opened}
 use Rattle.fjall_opening.specs.Opened.{KeepsNamed, ReadsFrom, TakesOver, nothing}
 use Rattle.fjall_opening.specs.Readings.{TakesRead, persisted_of}

@@ -13,14 +13,14 @@ use Rattle.fjall_journal.specs.Batches.{Written, shown}
 use Rattle.fjall_meta.specs.Keyspaces.{Keyspaces, no_keyspaces}
 use Rattle.fjall_journal.specs.Writer.{Journal}
 use Rattle.fjall_files.specs.Names.{journal_name}
-use Rattle.fjall_contents.specs.Replays.{least_after}
-use Rattle.fjall_contents.specs.Contents.{store_held as store_beyond}
+use Rattle.fjall_meta.specs.Replays.{least_after}
+use Rattle.fjall_meta.specs.Contents.{store_held as store_beyond}
 use Rattle.fjall_trees.specs.MapTables.{store_with}
 use Rattle.fjall_table.specs.Blocks.{Entry}
 use Rattle.fjall_tree.specs.Trees.{ReadsAll}
 use Rattle.fjall_journal.specs.declared.recovery_mode.RecoveryMode.{RecoveryMode}
-use Rattle.fjall_recovery.specs.Opening.{HaveEntriesBut}
-use Rattle.fjall_recovery.specs.Beside.{AreReplayedWith}
+use Rattle.fjall_replay.specs.Opening.{HaveEntriesBut}
+use Rattle.fjall_replay.specs.Beside.{AreReplayedWith}
 use Rattle.fjall_trees.specs.Forests.{Forest, Planted}
 use Rattle.fjall_trees.specs.Tables.{AreReadOn}
 use Rattle.fjall_opening.proofs.OpenedTrees.{ShowStore}
@@ -31,13 +31,13 @@ use Rattle.fjall_manifest.specs.Records.{Fields, IsRecord}
 use Rattle.fjall_base.specs.Lists.{last_of}
 use Rattle.fjall_manifest.specs.Records as records
 use Rattle.fjall_meta.specs.declared.living.LivingKeyspace.{LivingKeyspace}
-use Rattle.fjall_catalog.specs.Catalog.{fields, listed}
+use Rattle.fjall_manifest.specs.Catalog.{fields, listed}
 use Rattle.fjall_manifest.proofs.Resting.{last_has}
 use Rattle.fjall_recovery.specs.Folders.{Contents, ImageStandsFor, IsFinished, IsOpenable, IsSound, IsUnfinished, ShowsContents, number_of_contents, past, past_record, past_records, store_of_contents}
 use Rattle.fjall_recovery.specs.declared.folder.RecoveredFolder.{RecoveredFolder}
 use Rattle.fjall_manifest.specs.declared.reading.LoadedHome.{LoadedHome}
 use Rattle.fjall_recovery.specs.Homes.{AreHomesRead, lasts, stored_in}
-use Rattle.fjall_recovery.specs.Known.{AreAtHome, IsAtHome}
+use Rattle.fjall_replay.specs.Known.{AreAtHome, IsAtHome}
 use Rattle.fjall_recovery.specs.Refusals.{FolderRefusesIn, HasRisen, IsDue, IsOpeningRefusal}
 use Rattle.fjall_journal.proofs.Writing.{took_none}
 use Rattle.fjall_files.specs.declared.marker.Marker.TheVariants.{Whole, Unfinished}
@@ -53,11 +53,11 @@ use Rattle.fjall_opening.proofs.Agreeing.{homes_are}
 use Rattle.fjall_opening.proofs.Fitting.{least_small, records_small, written_fit}
 use Rattle.fjall_opening.specs.declared.replaying.Replay.{Replay}
 use Rattle.fjall_opening.specs.Replaying.{MayTake}
-use Rattle.fjall_contents.proofs.Following.{before_least}
+use Rattle.fjall_meta.proofs.Following.{before_least}
 use Rattle.fjall_opening.specs.Readings.{names_read}
 use Rattle.fjall_opening.specs.declared.opened.Opened.{Opened}
 use Rattle.fjall_repair.specs.Sweeps.{AreHomesOf, IsSwept, names_of, no_names}
-use Rattle.fjall_manager.specs.Places.{told as told_in}
+use Rattle.fjall_files.specs.Places.{told as told_in}
 use Rattle.fjall_opening.specs.Opened.{ComesBack, HasNumbers, HaveEntriesIn, IsHeldUp, IsOpenedFrom, IsRepaired, IsUnopened, IsSomeFolder, OpensFolder, ReadsFrom, TakesOver, TellsBelow, records_of}
 
 -- ---- before the first change

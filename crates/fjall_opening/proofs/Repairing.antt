@@ -16,9 +16,9 @@ use Rattle.fjall_meta.specs.Keyspaces.{Keyspaces}
 use Rattle.fjall_manifest.specs.Homes.{Home}
 use Rattle.fjall_meta.specs.declared.living.LivingKeyspace.{LivingKeyspace}
 use Rattle.fjall_table.specs.declared.table_info.TableInfo.{TableInfo}
-use Rattle.fjall_catalog.specs.declared.catalog.Catalog.{Catalog}
-use Rattle.fjall_catalog.specs.Catalog.{listed}
-use Rattle.fjall_contents.specs.Contents.{store_held}
+use Rattle.fjall_manifest.specs.declared.catalog.Catalog.{Catalog}
+use Rattle.fjall_manifest.specs.Catalog.{listed}
+use Rattle.fjall_meta.specs.Contents.{store_held}
 use Rattle.fjall_recovery.specs.declared.folder.RecoveredFolder.{RecoveredFolder}
 use Rattle.fjall_recovery.specs.Amid.{StandsAmid}
 use Rattle.fjall_recovery.specs.Homes.{last_in, stored_in}

@@ -11,10 +11,10 @@ use Rattle.fjall_manifest.specs.Records.{Fields}
 use Rattle.fjall_manifest.specs.Records as records
 use Rattle.fjall_meta.specs.declared.living.LivingKeyspace.{LivingKeyspace}
 use Rattle.fjall_meta.specs.Keyspaces.{AreKeyspaces, Keyspaces}
-use Rattle.fjall_contents.specs.declared.recovery.Persisted.{Persisted}
-use Rattle.fjall_contents.specs.Replays.{persisted_at}
-use Rattle.fjall_contents.proofs.Slots.{same_id}
-use Rattle.fjall_recovery.specs.Replayed.{AreTold, ids_of}
+use Rattle.fjall_meta.specs.declared.recovery.Persisted.{Persisted}
+use Rattle.fjall_meta.specs.Replays.{persisted_at}
+use Rattle.fjall_meta.proofs.Slots.{same_id}
+use Rattle.fjall_replay.specs.Replayed.{AreTold, ids_of}
 use Rattle.fjall_tree.specs.Trees.{Shape}
 use Rattle.fjall_trees.specs.Forests.{Forest, Planted, tree_at}
 use Rattle.fjall_recovery.specs.declared.folder.RecoveredFolder.{RecoveredFolder}
@@ -24,9 +24,9 @@ use Rattle.fjall_recovery.specs.Homes.{AreHomesRead, HaveVersions, Homes, Versio
 use Rattle.fjall_recovery.proofs.Shown.{persisted_told}
 use Rattle.fjall_manifest.specs.Homes.{Home}
 use Rattle.fjall_table.specs.Blocks.{Entry}
-use Rattle.fjall_recovery.specs.Opening.{stored_entries, stored_with, told_by}
+use Rattle.fjall_replay.specs.Opening.{stored_entries, stored_with, told_by}
 use Rattle.fjall_table_reader.specs.Readers.{Reader}
-use Rattle.fjall_recovery.specs.Parted.{all_unwritten, unwritten}
+use Rattle.fjall_replay.specs.Parted.{all_unwritten, unwritten}
 use Rattle.fjall_opening.specs.Readings.{persisted_of}
 
 -- ---- the trees of the keyspaces that live

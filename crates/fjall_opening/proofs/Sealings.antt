@@ -12,27 +12,27 @@ use Rattle.fjall_base.specs.Disk.{Meaning}
 use Rattle.fjall_journal.specs.declared.batch.Batch.{Batch}
 use Rattle.fjall_journal.specs.Batches.{Shown, view}
 use Rattle.fjall_manifest.specs.declared.reading.LoadedHome.{LoadedHome}
-use Rattle.fjall_recovery.specs.Opening.{opened}
-use Rattle.fjall_manager.specs.Journals.{Sealed}
-use Rattle.fjall_manager.specs.Marks.{JournalMarks}
-use Rattle.fjall_manager.specs.Reaching.{reaches, some_reaches}
+use Rattle.fjall_replay.specs.Opening.{opened}
+use Rattle.fjall_files.specs.Journals.{Sealed}
+use Rattle.fjall_files.specs.Marks.{JournalMarks}
+use Rattle.fjall_files.specs.Reaching.{reaches, some_reaches}
 use Rattle.fjall_meta.specs.Keyspaces.{Keyspaces}
-use Rattle.fjall_contents.specs.Contents.{AreWithin, Stored}
+use Rattle.fjall_meta.specs.Contents.{AreWithin, Stored}
 use Rattle.fjall_memtable.specs.Parts.{HeldPart, holds_nothing}
-use Rattle.fjall_recovery.specs.Beside.{AreReplayedWith, all_at_rest}
-use Rattle.fjall_recovery.specs.Parted.{ActivesEmpty, ActivesPass, ArePartedBy, AreUnwritten, HasSealed, IsPartedBy, all_unwritten}
-use Rattle.fjall_recovery.specs.Replayed.{AreTold, ids_of}
-use Rattle.fjall_recovery.specs.Steps.{with_batch, with_batches}
-use Rattle.fjall_recovery.proofs.Parting.{empty_pass, same_unwritten, seals_all, sealed_unwritten, still_sealed, unwritten_empty, unwritten_sealed}
+use Rattle.fjall_replay.specs.Beside.{AreReplayedWith, all_at_rest}
+use Rattle.fjall_replay.specs.Parted.{ActivesEmpty, ActivesPass, ArePartedBy, AreUnwritten, HasSealed, IsPartedBy, all_unwritten}
+use Rattle.fjall_replay.specs.Replayed.{AreTold, ids_of}
+use Rattle.fjall_replay.specs.Steps.{with_batch, with_batches}
+use Rattle.fjall_replay.proofs.Parting.{empty_pass, same_unwritten, seals_all, sealed_unwritten, still_sealed, unwritten_empty, unwritten_sealed}
 use Rattle.fjall_table.specs.Blocks.{Entry}
 use Rattle.fjall_trees.specs.Forests.{AreBefore, Forest, Planted}
 use Rattle.fjall_trees.specs.Sealing.{all_sealed}
 use Rattle.fjall_trees.specs.Tables.{AreReadOn}
 use Rattle.fjall_trees.specs.Views.{forest_of}
-use Rattle.fjall_contents.specs.declared.recovery.Persisted.{Persisted}
-use Rattle.fjall_contents.specs.Replays.{JournalFault, counts_unpersisted, fault_of, first_fault, least_after}
-use Rattle.fjall_contents.proofs.Faults.{first_fault-append, least_after-append}
-use Rattle.fjall_contents.proofs.Viewing.{no_fault, number_fits}
+use Rattle.fjall_meta.specs.declared.recovery.Persisted.{Persisted}
+use Rattle.fjall_meta.specs.Replays.{JournalFault, counts_unpersisted, fault_of, first_fault, least_after}
+use Rattle.fjall_meta.proofs.ContentFaults.{first_fault-append, least_after-append}
+use Rattle.fjall_meta.proofs.Viewing.{no_fault, number_fits}
 use Rattle.fjall_opening.specs.declared.replaying.Progress.{Progress}
 use Rattle.fjall_opening.specs.declared.replaying.Replay.{Replay}
 use Rattle.fjall_opening.specs.Replaying.{AreAt, ArePast, IsReplayed, IsUnderway, counted_by, made_of, tell_up_to}

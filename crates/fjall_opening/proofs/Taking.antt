@@ -7,8 +7,8 @@ use Rattle.fjall_journal.specs.declared.batch.Batch.{Batch}
 use Rattle.fjall_journal.specs.Batches.{Shown, Written, shown, view}
 use Rattle.fjall_journal.proofs.Known.{EndsKnown, FindsKnown, Holds, LeavesKnown, all_answered, one_answered}
 use Rattle.fjall_trees.specs.Forests.{Forest}
-use Rattle.fjall_contents.specs.Replays.{fault_of, first_fault}
-use Rattle.fjall_contents.proofs.Viewing.{no_fault}
+use Rattle.fjall_meta.specs.Replays.{fault_of, first_fault}
+use Rattle.fjall_meta.proofs.Viewing.{no_fault}
 use Rattle.fjall_opening.specs.declared.replaying.Progress.{Progress}
 use Rattle.fjall_opening.specs.declared.replaying.Replay.{Replay}
 use Rattle.fjall_opening.specs.Opened.{IsFit}

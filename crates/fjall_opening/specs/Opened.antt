@@ -11,30 +11,30 @@ use Rattle.fjall_files.specs.Calls.{seen}
 use Rattle.fjall_files.specs.Names.{journal_name, table_name}
 use Rattle.fjall_journal.specs.declared.batch.ReadBatchItem.{ReadBatchItem}
 use Rattle.fjall_journal.specs.Batches.{Shown, shown}
-use Rattle.fjall_manager.specs.Journals.{Sealed}
-use Rattle.fjall_manager.specs.Marks.{JournalMarks}
-use Rattle.fjall_manager.specs.Reaching.{some_reaches}
-use Rattle.fjall_manager.specs.Telling.{AreMarksOf}
+use Rattle.fjall_files.specs.Journals.{Sealed}
+use Rattle.fjall_files.specs.Marks.{JournalMarks}
+use Rattle.fjall_files.specs.Reaching.{some_reaches}
+use Rattle.fjall_files.specs.Telling.{AreMarksOf}
 use Rattle.fjall_manifest.specs.Records.{Fields}
 use Rattle.fjall_manifest.specs.Records as records
 use Rattle.fjall_meta.specs.Keyspaces.{AreKeyspaces, Keyspaces, no_keyspaces}
-use Rattle.fjall_catalog.specs.declared.catalog.Catalog.{Catalog}
-use Rattle.fjall_catalog.specs.Catalog.{fields, first_catalog}
+use Rattle.fjall_manifest.specs.declared.catalog.Catalog.{Catalog}
+use Rattle.fjall_manifest.specs.Catalog.{fields, first_catalog}
 use Rattle.fjall_table.specs.Blocks.{Entry}
 use Rattle.fjall_table_reader.specs.Files.{entry_at}
 use Rattle.fjall_table_reader.specs.Readers.{SomeTableIsWrong}
 use Rattle.fjall_manifest.specs.Homes.{Home}
-use Rattle.fjall_contents.specs.Contents.{store_held as store_beyond}
+use Rattle.fjall_meta.specs.Contents.{store_held as store_beyond}
 use Rattle.fjall_trees.specs.MapTables.{store_with}
 use Rattle.fjall_journal.specs.declared.recovery_mode.RecoveryMode.{RecoveryMode}
-use Rattle.fjall_recovery.specs.Beside.{AreReplayedWith}
-use Rattle.fjall_recovery.specs.Parted.{AreLeftBy, ArePartedBy, all_unwritten}
-use Rattle.fjall_recovery.specs.Known.{AreAtHome, IsKnown}
-use Rattle.fjall_recovery.specs.Opening.{HaveEntries, stored_with}
+use Rattle.fjall_replay.specs.Beside.{AreReplayedWith}
+use Rattle.fjall_replay.specs.Parted.{AreLeftBy, ArePartedBy, all_unwritten}
+use Rattle.fjall_replay.specs.Known.{AreAtHome, IsKnown}
+use Rattle.fjall_replay.specs.Opening.{HaveEntries, stored_with}
 use Rattle.fjall_trees.specs.Forests.{AreBefore, Forest, IsForest, tree_at}
 use Rattle.fjall_trees.specs.Views.{forest_of}
 use Rattle.fjall_trees.specs.Tables.{AreReadOn}
-use Rattle.fjall_contents.specs.Replays.{bare}
+use Rattle.fjall_meta.specs.Replays.{bare}
 use Rattle.fjall_recovery.specs.declared.folder.RecoveredFolder.{RecoveredFolder}
 use Rattle.fjall_recovery.specs.Folders.{Contents, number_of_contents, store_of_contents}
 use Rattle.fjall_recovery.specs.Journals.{WholeJournal, batches_in}
@@ -45,7 +45,7 @@ use Rattle.fjall_recovery.specs.Homes.{Homes, stored_in}
 use Rattle.fjall_recovery.specs.Held.{IsOpenFolder, number_held, store_of_folder}
 use Rattle.fjall_recovery.specs.Places.{Journaling, LiesInRoot, LiesInTree, contents_with, journals_with, texts_of}
 use Rattle.fjall_repair.specs.Making.{ComesBackUnfinished}
-use Rattle.fjall_manager.specs.Places.{told}
+use Rattle.fjall_files.specs.Places.{told}
 use Rattle.fjall_opening.specs.declared.opened.Opened.{Opened}
 
 -- ---- what was opened

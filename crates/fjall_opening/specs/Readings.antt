@@ -3,8 +3,8 @@ use Rattle.std.specs.Prelude.{All, ℕ, List, map, string_bytes}
 use Rattle.fjall_base.specs.Disk.{DiskState, Meaning, Name}
 use Rattle.fjall_files.specs.Calls.{seen}
 use Rattle.fjall_journal.specs.Batches.{shown}
-use Rattle.fjall_catalog.specs.Catalog.{listed}
-use Rattle.fjall_contents.specs.declared.recovery.Persisted.{Persisted}
+use Rattle.fjall_manifest.specs.Catalog.{listed}
+use Rattle.fjall_meta.specs.declared.recovery.Persisted.{Persisted}
 use Rattle.fjall_trees.specs.Forests.{Forest}
 use Rattle.fjall_trees.specs.Views.{forest_of}
 use Rattle.fjall_recovery.specs.Journals.{batches_in}
@@ -12,9 +12,9 @@ use Rattle.fjall_recovery.specs.declared.folder.RecoveredFolder.{RecoveredFolder
 use Rattle.fjall_recovery.specs.Folders.{Contents, IsFinished, IsOpenable, IsSound, ShowsContents}
 use Rattle.fjall_table.specs.Blocks.{Entry}
 use Rattle.fjall_recovery.specs.Homes.{HaveVersions, Versions}
-use Rattle.fjall_recovery.specs.Known.{AreAtHome}
-use Rattle.fjall_recovery.specs.Parted.{AreLeftBy}
-use Rattle.fjall_recovery.specs.Opening.{HaveEntries, IsOpenedOn, KnowsStored, ShowsEntries, told_by}
+use Rattle.fjall_replay.specs.Known.{AreAtHome}
+use Rattle.fjall_replay.specs.Parted.{AreLeftBy}
+use Rattle.fjall_replay.specs.Opening.{HaveEntries, IsOpenedOn, KnowsStored, ShowsEntries, told_by}
 use Rattle.fjall_opening.specs.declared.opened.Opened.{Opened}
 use Rattle.fjall_repair.specs.declared.plan.SweepPlan.{SweepPlan}
 use Rattle.fjall_opening.specs.Opened.{HasJournals, TakesOver}

@@ -3,22 +3,22 @@ use Rattle.std.specs.Prelude.{◌≡◌, ℕ, ◌<◌, ◌≤◌, Bool, false, n
 use Rattle.std.specs.List.{flat_map, list_any}
 use Rattle.fjall_base.specs.Disk.{Image, Meaning}
 use Rattle.fjall_journal.specs.Batches.{Shown, Written, batch_text}
-use Rattle.fjall_contents.specs.Contents.{AreWithin, Stored}
-use Rattle.fjall_manager.specs.Journals.{Sealed}
-use Rattle.fjall_manager.specs.Marks.{JournalMarks, lsn_of}
-use Rattle.fjall_manager.specs.Reaching.{reaches, some_reaches}
+use Rattle.fjall_meta.specs.Contents.{AreWithin, Stored}
+use Rattle.fjall_files.specs.Journals.{Sealed}
+use Rattle.fjall_files.specs.Marks.{JournalMarks, lsn_of}
+use Rattle.fjall_files.specs.Reaching.{reaches, some_reaches}
 use Rattle.fjall_meta.specs.Keyspaces.{Keyspaces}
-use Rattle.fjall_recovery.specs.Beside.{AreEndedBy, AreReplayedWith}
-use Rattle.fjall_recovery.specs.Parted.{ActivesPass, HasSealed, all_unwritten}
-use Rattle.fjall_recovery.specs.Replayed.{AreTold, ids_of}
-use Rattle.fjall_recovery.specs.Steps.{with_batches}
+use Rattle.fjall_replay.specs.Beside.{AreEndedBy, AreReplayedWith}
+use Rattle.fjall_replay.specs.Parted.{ActivesPass, HasSealed, all_unwritten}
+use Rattle.fjall_replay.specs.Replayed.{AreTold, ids_of}
+use Rattle.fjall_replay.specs.Steps.{with_batches}
 use Rattle.fjall_table.specs.Blocks.{Entry}
 use Rattle.fjall_trees.specs.Forests.{AreBefore, Forest}
 use Rattle.fjall_trees.specs.Sealing.{all_sealed}
 use Rattle.fjall_trees.specs.Tables.{AreReadOn}
 use Rattle.fjall_trees.specs.Views.{forest_of}
-use Rattle.fjall_contents.specs.declared.recovery.Persisted.{Persisted}
-use Rattle.fjall_contents.specs.Replays.{counts_unpersisted, first_fault, least_after, reaches as is_up_to}
+use Rattle.fjall_meta.specs.declared.recovery.Persisted.{Persisted}
+use Rattle.fjall_meta.specs.Replays.{counts_unpersisted, first_fault, least_after, reaches as is_up_to}
 use Rattle.fjall_opening.specs.declared.replaying.Progress.{Progress}
 use Rattle.fjall_opening.specs.declared.replaying.Replay.{Replay}
 use Rattle.fjall_recovery.specs.Journals.{AreJournalsRead, EndsAt, WholeJournal}

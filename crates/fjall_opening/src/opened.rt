@@ -1,10 +1,10 @@
 //! What opening a database makes.
 
-use fjall_catalog::Catalog;
+use fjall_files::{ActiveWatermarks, JournalManager};
 use fjall_journal::Writer;
-use fjall_manager::{ActiveWatermarks, JournalManager};
+use fjall_manifest::Catalog;
 use fjall_meta::MetaKeyspace;
-use fjall_recovery::LastRecords;
+use fjall_replay::LastRecords;
 use fjall_trees::Trees;
 
 /// A database that was opened. All that it holds is synced.

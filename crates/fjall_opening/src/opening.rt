@@ -7,7 +7,7 @@ ghost use Rattle.fjall_files.specs.Calls.{seen, AllServed};
 ghost use Rattle.fjall_files.specs.Tidy.{IsTidy, StaysTidy};
 ghost use Rattle.fjall_meta.specs.Keyspaces.{no_keyspaces};
 ghost use Rattle.fjall_trees.specs.Views.{forest_of};
-ghost use Rattle.fjall_contents.specs.Replays.{bare};
+ghost use Rattle.fjall_meta.specs.Replays.{bare};
 ghost use Rattle.fjall_recovery.specs.Amid.{LeavesAmid, KeepsAmid, WhereAmid};
 ghost use Rattle.fjall_recovery.specs.Folders.{Contents, ImageStandsFor, IsFinished, IsNumbered, IsUnfinished, number_of_contents as number_in, store_of_contents};
 ghost use Rattle.fjall_recovery.specs.Refusals.{AreOne, FolderRefusesIn, HasRisen, HasTornTail, IsDue, IsOpeningRefusal, IsTornTail};

@@ -6,7 +6,7 @@ ghost use Rattle.fjall_meta.specs.Keyspaces.{no_keyspaces};
 ghost use Rattle.fjall_files.specs.Calls.{seen, AllServed};
 ghost use Rattle.fjall_files.specs.Names.{journal_name};
 ghost use Rattle.fjall_files.specs.Tidy.{IsTidy, StaysTidy};
-ghost use Rattle.fjall_contents.specs.Replays.{bare};
+ghost use Rattle.fjall_meta.specs.Replays.{bare};
 ghost use Rattle.fjall_recovery.specs.Amid.{LeavesAmid, KeepsAmid, WhereAmid};
 ghost use Rattle.fjall_recovery.specs.declared.folder.RecoveredFolder.{RecoveredFolder};
 ghost use Rattle.fjall_recovery.specs.Folders.{ImageStandsFor, IsFinished, IsUnfinished, store_of_contents};

@@ -4,3 +4,4 @@ mod Prefixing
 mod Raising
 mod Counting
 mod Beginning
+mod Ascents

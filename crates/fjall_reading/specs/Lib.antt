@@ -4,3 +4,5 @@ pub mod ReadIters
 pub mod Prefixes
 pub mod Guards
 pub mod Readers
+pub mod Ingestions
+pub mod WriteBatches

@@ -2,8 +2,8 @@
 
 use crate::words::{LineError, Parsed, number};
 use fjall_base::{CompressionType, Disk, Result, Slice, checksum};
+use fjall_disk_memory::MemoryDisk;
 use fjall_journal::{Entry, ValueType};
-use fjall_memory::MemoryDisk;
 use std::alloc::Global;
 
 /// A change of what stands at a name.

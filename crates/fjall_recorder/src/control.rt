@@ -6,7 +6,7 @@ use crate::moments::Moment;
 use crate::recorder::{FAULT, Part, Record, Recorder};
 use crate::tapes::Tape;
 use fjall_base::{Disk, Error, Result, checksum};
-use fjall_memory::MemoryDisk;
+use fjall_disk_memory::MemoryDisk;
 use std::alloc::Global;
 use std::cell::RefCell;
 use std::mem;

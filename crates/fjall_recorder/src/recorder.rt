@@ -2,7 +2,7 @@
 
 use crate::moments::{Moment, Step};
 use fjall_base::{DirEntry, Disk, Error, Result};
-use fjall_memory::MemoryDisk;
+use fjall_disk_memory::MemoryDisk;
 use std::alloc::{AllocError, Global};
 use std::io::ErrorKind;
 

@@ -3,7 +3,7 @@
 use crate::moments::{Crash, Moment, Step};
 use crate::words::{Parsed, size};
 use fjall_base::Result;
-use fjall_memory::MemoryDisk;
+use fjall_disk_memory::MemoryDisk;
 use std::alloc::Global;
 
 /// A way to crash at a moment.

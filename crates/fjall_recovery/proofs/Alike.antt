@@ -17,8 +17,8 @@ use Rattle.fjall_files.specs.Names.{journal_name, keyspace_folder, current_name,
 use Rattle.fjall_meta.specs.declared.living.LivingKeyspace.{LivingKeyspace}
 use Rattle.fjall_meta.specs.Entries.{entries_of}
 use Rattle.fjall_manifest.specs.Homes.{HoldTables, Home}
-use Rattle.fjall_catalog.specs.Catalog.{HoldsEntries, listed}
-use Rattle.fjall_catalog.specs.Catalog as catalog
+use Rattle.fjall_manifest.specs.Catalog.{HoldsEntries, listed}
+use Rattle.fjall_manifest.specs.Catalog as catalog
 use Rattle.fjall_recovery.specs.Folders.{Contents, ImageStandsFor, IsBegun, IsOpenable, IsUnfinished, file_bytes}
 use Rattle.fjall_recovery.specs.Homes.{HasOpenableHome, HaveHomes, Homes}
 use Rattle.fjall_recovery.proofs.Housing.{homes_alike}

@@ -17,8 +17,8 @@ use Rattle.fjall_meta.proofs.Rising.{Rises, from_pairs}
 use Rattle.fjall_files.specs.declared.marker.Marker.{Marker}
 use Rattle.fjall_files.specs.declared.marker.Marker.TheVariants.{Whole, Unfinished}
 use Rattle.fjall_files.specs.Marker.{marker_tells}
-use Rattle.fjall_contents.proofs.Slots.{same_maps}
-use Rattle.fjall_catalog.proofs.Meanings.{one_catalog}
+use Rattle.fjall_meta.proofs.Slots.{same_maps}
+use Rattle.fjall_manifest.proofs.CatalogMeanings.{one_catalog}
 use Rattle.fjall_recovery.specs.Folders.{Contents, ImageStandsFor, IsOpenable, IsSound, marker_bytes, store_of_contents, with_versions}
 use Rattle.fjall_recovery.specs.Homes.{HasHomeAt, HaveHomes, HaveVersions, Homes, Versions}
 use Rattle.fjall_recovery.specs.Journals.{WholeJournal, AreJournalsRead, AreJournalIds, HoldsJournals, journal_text}

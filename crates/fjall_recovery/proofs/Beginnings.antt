@@ -14,7 +14,7 @@ use Rattle.fjall_table.specs.Frame.{NoFrame}
 use Rattle.fjall_manifest.specs.Records.{Fields, HasContradiction, IsRecord, IsRecords, record_text}
 use Rattle.fjall_manifest.proofs.Currents.{contradiction_has_no_reading}
 use Rattle.fjall_files.specs.Names.{journal_name}
-use Rattle.fjall_catalog.specs.Catalog.{fields, first_catalog}
+use Rattle.fjall_manifest.specs.Catalog.{fields, first_catalog}
 use Rattle.fjall_recovery.specs.Folders.{AreEmpty, IsBegun}
 use Rattle.fjall_recovery.specs.Journals.{AreJournalIds, IsReadAs, journal_text}
 

@@ -14,7 +14,7 @@ use Rattle.fjall_journal.specs.declared.batch.Tail.TheVariants.{Clean, Torn, Dam
 use Rattle.fjall_journal.specs.Batches.{IsTail, Shown, Written, shown}
 use Rattle.fjall_journal.specs.Steps.{batch_at}
 use Rattle.fjall_journal.proofs.Batches.{some_early, some_goes_on, some_other}
-use Rattle.fjall_contents.specs.Replays.{JournalFault, Unordered, Indirect, first_fault, least_after, Names, NamesFault}
+use Rattle.fjall_meta.specs.Replays.{JournalFault, Unordered, Indirect, first_fault, least_after, Names, NamesFault}
 use Rattle.fjall_manifest.specs.Records.{Fields, HasContradiction}
 use Rattle.fjall_manifest.specs.Homes.{records_text}
 use Rattle.fjall_manifest.specs.Reading as home
@@ -27,10 +27,10 @@ use Rattle.fjall_files.specs.declared.marker.Marker.{Marker}
 use Rattle.fjall_files.specs.declared.marker.Marker.TheVariants.{Whole, Unfinished}
 use Rattle.fjall_files.specs.Marker.{marker_tells}
 use Rattle.fjall_files.specs.Names.{keyspace_folder}
-use Rattle.fjall_catalog.specs.declared.catalog.Catalog.{Catalog}
-use Rattle.fjall_catalog.specs.Catalog.{HoldsEntries, Says, records_in}
-use Rattle.fjall_catalog.specs.Refusals.{ArePairsRefused, HasLast, HasNoLast, HasNoTable, IsCatalogDamage}
-use Rattle.fjall_catalog.proofs.Meanings.{held_one, last_one, one_catalog}
+use Rattle.fjall_manifest.specs.declared.catalog.Catalog.{Catalog}
+use Rattle.fjall_manifest.specs.Catalog.{HoldsEntries, Says, records_in}
+use Rattle.fjall_manifest.specs.Refusals.{ArePairsRefused, HasLast, HasNoLast, HasNoTable, IsCatalogDamage}
+use Rattle.fjall_manifest.proofs.CatalogMeanings.{held_one, last_one, one_catalog}
 use Rattle.fjall_recovery.specs.Folders.{AreMade, marker_bytes}
 use Rattle.fjall_recovery.specs.Journals.{ReadsAs, journal_text}
 use Rattle.fjall_recovery.specs.Naming.{JournalsAreNamed}

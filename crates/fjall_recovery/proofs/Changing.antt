@@ -15,10 +15,10 @@ use Rattle.fjall_manifest.proofs.Resting.{region_home, rests_where}
 use Rattle.fjall_manifest.proofs.Views.{usual_region}
 use Rattle.fjall_meta.specs.declared.living.LivingKeyspace.{LivingKeyspace}
 use Rattle.fjall_meta.specs.Keyspaces.{AreKeyspaces, Keyspaces, keyspace_at}
-use Rattle.fjall_contents.proofs.Ids.{living_has}
-use Rattle.fjall_catalog.specs.Catalog.{CatalogRests, Says, home_of}
-use Rattle.fjall_catalog.proofs.Meanings as Meanings
-use Rattle.fjall_catalog.proofs.Resting.{rests_with}
+use Rattle.fjall_meta.proofs.Ids.{living_has}
+use Rattle.fjall_manifest.specs.Catalog.{CatalogRests, Says, home_of}
+use Rattle.fjall_manifest.proofs.CatalogMeanings as Meanings
+use Rattle.fjall_manifest.proofs.CatalogResting.{rests_with}
 use Rattle.fjall_recovery.specs.Folders.{AreMade}
 use Rattle.fjall_recovery.specs.Halves.{HasTree, Tree, outside, with_home_at}
 use Rattle.fjall_recovery.specs.Homes.{HasOpenableHome, HasVersions, HaveHomes, HaveVersions}

@@ -17,7 +17,7 @@ use Rattle.fjall_manifest.proofs.Outside.{counted_outside, keyspaces_outside, mi
 use Rattle.fjall_manifest.proofs.Resting.{region_home, rests_along, rests_where}
 use Rattle.fjall_manifest.proofs.Views.{usual_region}
 use Rattle.fjall_meta.specs.declared.living.LivingKeyspace.{LivingKeyspace}
-use Rattle.fjall_catalog.specs.Catalog.{Says}
+use Rattle.fjall_manifest.specs.Catalog.{Says}
 use Rattle.fjall_recovery.specs.Folders.{AreMade}
 use Rattle.fjall_recovery.specs.Halves.{HasTree, Tree, outside}
 use Rattle.fjall_recovery.specs.Homes.{HasOpenableHome, HaveVersions, Homes}

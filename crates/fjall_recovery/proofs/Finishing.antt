@@ -21,10 +21,10 @@ use Rattle.fjall_files.specs.declared.marker.Marker.{Marker}
 use Rattle.fjall_files.specs.declared.marker.Marker.TheVariants.{Whole, Unfinished}
 use Rattle.fjall_files.specs.Marker.{marker_tells}
 use Rattle.fjall_files.specs.Names.{keyspace_folder}
-use Rattle.fjall_contents.proofs.Slots.{get_put, same_id}
-use Rattle.fjall_catalog.specs.declared.catalog.Catalog.{Catalog}
-use Rattle.fjall_catalog.specs.Catalog.{HasEnd, Says, records_in}
-use Rattle.fjall_catalog.specs.Refusals.{IsRefusal}
+use Rattle.fjall_meta.proofs.Slots.{get_put, same_id}
+use Rattle.fjall_manifest.specs.declared.catalog.Catalog.{Catalog}
+use Rattle.fjall_manifest.specs.Catalog.{HasEnd, Says, records_in}
+use Rattle.fjall_manifest.specs.Refusals.{IsRefusal}
 use Rattle.fjall_base.specs.Errors.{IsFaultOrMemory}
 use Rattle.fjall_recovery.specs.declared.folder.RecoveredFolder.{RecoveredFolder}
 use Rattle.fjall_manifest.specs.declared.reading.LoadedHome.{LoadedHome}

@@ -11,10 +11,10 @@ use Rattle.fjall_base.specs.declared.error.Error.TheVariants.{OutOfMemory, Io}
 use Rattle.fjall_journal.specs.declared.batch.Tail.{Tail}
 use Rattle.fjall_journal.specs.declared.batch.Tail.TheVariants.{Clean, Torn}
 use Rattle.fjall_journal.specs.Batches.{Written, Shown, IsWhole, IsTail, shown}
-use Rattle.fjall_contents.specs.Replays.{JournalFault, first_fault, least_after, NamesFault}
+use Rattle.fjall_meta.specs.Replays.{JournalFault, first_fault, least_after, NamesFault}
 use Rattle.fjall_recovery.specs.Journals.{WholeJournal, ReadsAs, AreJournalsRead, IsSealed, batches_in, EndsAt, Gathers, AreSealed, AreFound, IsReadAs, journal_text, tail_of}
 use Rattle.fjall_recovery.specs.Refusals.{IsDue, JournalsRefuse, TailRefuses, is_last}
-pub use Rattle.fjall_contents.proofs.Faults.{first_fault-append, least_after-append}
+pub use Rattle.fjall_meta.proofs.ContentFaults.{first_fault-append, least_after-append}
 
 -- ---- batches behind batches
 

@@ -14,8 +14,8 @@ use Rattle.fjall_manifest.proofs.Meanings.{home_alike}
 use Rattle.fjall_manifest.proofs.Openings.{one_loading}
 use Rattle.fjall_meta.specs.declared.living.LivingKeyspace.{LivingKeyspace}
 use Rattle.fjall_meta.specs.Keyspaces.{keyspace_at}
-use Rattle.fjall_contents.proofs.Ids.{each_lives, living_has}
-use Rattle.fjall_contents.proofs.Slots.{get_put, same_id}
+use Rattle.fjall_meta.proofs.Ids.{each_lives, living_has}
+use Rattle.fjall_meta.proofs.Slots.{get_put, same_id}
 use Rattle.fjall_recovery.specs.Homes.{ClearsAreWithin, HasHomeAt, HasOpenableHome, HaveHomes, Homes, IsHomeRead}
 use Rattle.fjall_recovery.specs.Places.{HasSafeHome, HasSafeHomeAt, HaveSafeHomes}
 

@@ -13,9 +13,9 @@ use Rattle.fjall_meta.specs.Keyspaces.{Keyspaces}
 use Rattle.fjall_files.specs.declared.marker.Marker.{Marker}
 use Rattle.fjall_files.specs.declared.marker.Marker.TheVariants.{Whole, Unfinished}
 use Rattle.fjall_files.specs.Marker.{marker_tells}
-use Rattle.fjall_catalog.specs.declared.catalog.Catalog.{Catalog}
-use Rattle.fjall_catalog.specs.Catalog.{Says}
-use Rattle.fjall_catalog.proofs.Meanings.{one_catalog}
+use Rattle.fjall_manifest.specs.declared.catalog.Catalog.{Catalog}
+use Rattle.fjall_manifest.specs.Catalog.{Says}
+use Rattle.fjall_manifest.proofs.CatalogMeanings.{one_catalog}
 use Rattle.fjall_recovery.specs.Folders.{AreMade, Contents, ImageStandsFor, IsBegun, IsOpenable, IsUnfinished, marker_bytes}
 use Rattle.fjall_recovery.specs.Held.{IsOpenFolder}
 use Rattle.fjall_recovery.specs.Journals.{AreJournalIds}

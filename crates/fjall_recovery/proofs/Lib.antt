@@ -1,16 +1,3 @@
-mod Adding
-mod Putting
-mod Stepping
-mod Batches
-mod LeftCounts
-mod Keeping
-pub mod ReplayedStores
-mod Resting
-pub mod Behind
-mod Sealing
-pub mod Parting
-pub mod Following
-pub mod Staying
 pub mod Listed
 pub mod Gathering
 mod Looking
@@ -36,10 +23,12 @@ pub mod Holding
 pub mod Changing
 pub mod Alike
 pub mod Amidst
-mod Maps
-pub mod Turns
-pub mod Opening
-mod OpenedTables
-mod NamedTables
-pub mod ListedTables
-pub mod KnownHomes
+mod WildBeginnings
+pub mod Cutting
+pub mod Texts
+pub mod Forging
+pub mod Covering
+mod Tables
+pub mod Folders
+pub mod Longer
+pub mod Forged

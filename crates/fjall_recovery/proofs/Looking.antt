@@ -6,10 +6,10 @@ use Rattle.fjall_journal.specs.declared.batch.Batch.{Batch}
 use Rattle.fjall_journal.specs.Batches.{Shown, view}
 use Rattle.fjall_journal.specs.Reader.{Next, NextEnds, Reading}
 use Rattle.fjall_journal.proofs.Readings.{SoFar, finished, one_more}
-use Rattle.fjall_manager.specs.Marks.{JournalMarks}
-use Rattle.fjall_manager.specs.Telling.{AreMarksOf}
-use Rattle.fjall_contents.specs.Replays.{JournalFault, NamesFault, first_fault, least_after}
-use Rattle.fjall_contents.proofs.Faults.{first_fault-append, least_after-append}
+use Rattle.fjall_files.specs.Marks.{JournalMarks}
+use Rattle.fjall_files.specs.Telling.{AreMarksOf}
+use Rattle.fjall_meta.specs.Replays.{JournalFault, NamesFault, first_fault, least_after}
+use Rattle.fjall_meta.proofs.ContentFaults.{first_fault-append, least_after-append}
 use Rattle.fjall_recovery.specs.declared.look.Look.{Look}
 use Rattle.fjall_base.specs.declared.error.Error.TheVariants.{InvalidTag, Unrecoverable}
 use Rattle.fjall_recovery.specs.Looks.{AreChecked, IsLook}

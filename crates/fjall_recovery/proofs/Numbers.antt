@@ -5,11 +5,11 @@ use Rattle.std.specs.Prelude.{IfSome}
 use Rattle.std.specs.FinMap.{get}
 use Rattle.fjall_base.specs.Disk.{Image}
 use Rattle.fjall_journal.specs.Batches.{Shown, shown}
-use Rattle.fjall_contents.specs.Replays.{JournalFault, fault_of, first_fault, least_after}
+use Rattle.fjall_meta.specs.Replays.{JournalFault, fault_of, first_fault, least_after}
 use Rattle.fjall_manifest.specs.Records.{Fields, IsRecord}
 use Rattle.fjall_meta.specs.declared.living.LivingKeyspace.{LivingKeyspace}
 use Rattle.fjall_meta.specs.Keyspaces.{keyspace_at}
-use Rattle.fjall_catalog.specs.Catalog.{fields}
+use Rattle.fjall_manifest.specs.Catalog.{fields}
 use Rattle.fjall_manifest.specs.Homes.{Home}
 use Rattle.fjall_manifest.proofs.Resting.{last_has}
 use Rattle.fjall_recovery.specs.Folders.{Contents, IsOpenable, number_of_contents, past, past_record, past_records}

@@ -13,7 +13,7 @@ use Rattle.fjall_journal.specs.declared.batch.Tail.{Tail}
 use Rattle.fjall_journal.specs.declared.batch.Tail.TheVariants.{Clean, Torn, Damaged}
 use Rattle.fjall_journal.specs.Batches.{Written, IsTail, shown}
 use Rattle.fjall_journal.proofs.Wholes as Wholes
-use Rattle.fjall_contents.specs.Replays.{JournalFault, first_fault, least_after, NamesFault}
+use Rattle.fjall_meta.specs.Replays.{JournalFault, first_fault, least_after, NamesFault}
 use Rattle.fjall_manifest.specs.Homes.{Home}
 use Rattle.fjall_manifest.proofs.Meanings.{one_home}
 use Rattle.fjall_manifest.proofs.Openings.{openable_no_damage}
@@ -22,7 +22,7 @@ use Rattle.fjall_recovery.specs.Journals.{WholeJournal, ReadsAs, AreJournalsRead
 use Rattle.fjall_recovery.specs.Refusals.{HomeRefuses, HomesRefuse, JournalsRefuse, TailRefuses}
 use Rattle.fjall_recovery.proofs.Alone.{one_list_of_ids}
 use Rattle.fjall_recovery.proofs.Housing.{IsHoused, all_housed, openable_of}
-use Rattle.fjall_contents.proofs.Faults.{first_fault-append}
+use Rattle.fjall_meta.proofs.ContentFaults.{first_fault-append}
 use Rattle.fjall_meta.specs.declared.living.LivingKeyspace.{LivingKeyspace}
 
 -- ---- tails

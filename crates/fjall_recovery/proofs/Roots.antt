@@ -17,8 +17,8 @@ use Rattle.fjall_journal.proofs.Wholes.{texts_are_whole, whole_behind}
 use Rattle.fjall_files.specs.declared.marker.Marker.TheVariants.{Whole}
 use Rattle.fjall_files.specs.Marker.{marker_tells}
 use Rattle.fjall_files.specs.Names.{IsMisnamed, journal_name}
-use Rattle.fjall_contents.specs.Replays.{first_fault}
-use Rattle.fjall_contents.proofs.Faults.{first_fault-append}
+use Rattle.fjall_meta.specs.Replays.{first_fault}
+use Rattle.fjall_meta.proofs.ContentFaults.{first_fault-append}
 use Rattle.fjall_recovery.specs.Folders.{file_bytes, marker_bytes}
 use Rattle.fjall_recovery.specs.Journals.{AreJournalIds, AreJournalsRead, IsSealed, ReadsAs, WholeJournal, batches_in, journal_text}
 use Rattle.fjall_recovery.specs.Naming.{JournalsAreNamed}

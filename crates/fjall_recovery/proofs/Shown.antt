@@ -6,7 +6,7 @@ use Rattle.fjall_base.specs.Disk.{Image}
 use Rattle.fjall_table.specs.Blocks.{Entry}
 use Rattle.fjall_manifest.specs.Homes.{Home}
 use Rattle.fjall_meta.specs.Keyspaces.{Keyspaces}
-use Rattle.fjall_contents.specs.Contents.{AreWithin, IsWithin, is_beyond}
+use Rattle.fjall_meta.specs.Contents.{AreWithin, IsWithin, is_beyond}
 use Rattle.fjall_recovery.specs.declared.folder.RecoveredFolder.{RecoveredFolder}
 use Rattle.fjall_recovery.specs.Folders.{Contents, IsOpenable, ShowsContents, with_versions}
 use Rattle.fjall_recovery.specs.Homes.{HasVersionsAt, HaveVersions, Homes, Versions, last_in, stored_at, stored_in}

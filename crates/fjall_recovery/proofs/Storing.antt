@@ -14,8 +14,8 @@ use Rattle.fjall_manifest.specs.Homes.{Home}
 use Rattle.fjall_manifest.specs.Reading.{AreRight}
 use Rattle.fjall_meta.specs.declared.living.LivingKeyspace.{LivingKeyspace}
 use Rattle.fjall_meta.specs.Keyspaces.{Keyspaces}
-use Rattle.fjall_contents.proofs.Slots.{get_put, same_maps, ties}
-use Rattle.fjall_contents.specs.Contents.{AreWithin, IsWithin, is_beyond, nothing_stored}
+use Rattle.fjall_meta.proofs.Slots.{get_put, same_maps, ties}
+use Rattle.fjall_meta.specs.Contents.{AreWithin, IsWithin, is_beyond, nothing_stored}
 use Rattle.fjall_recovery.specs.Folders.{past, past_record, past_records}
 use Rattle.fjall_recovery.specs.Homes.{ClearsAreWithin, HasVersions, HasVersionsAt, HaveVersions, Homes, Versions, last_in, lasts, stored_at, stored_in, stored_of}
 

@@ -7,9 +7,9 @@ use Rattle.fjall_base.specs.Disk.{Image}
 use Rattle.fjall_journal.specs.Batches.{IsTail, IsWhole, Shown, Written, batch_text, shown}
 use Rattle.fjall_journal.specs.declared.batch.Tail.{Tail}
 use Rattle.fjall_journal.specs.declared.batch.Tail.TheVariants.{Clean, Torn}
-use Rattle.fjall_manager.specs.Journals.{Sealed}
-use Rattle.fjall_manager.specs.Marks.{JournalMarks}
-use Rattle.fjall_manager.specs.Telling.{AreMarksOf, IsSealedAs}
+use Rattle.fjall_files.specs.Journals.{Sealed}
+use Rattle.fjall_files.specs.Marks.{JournalMarks}
+use Rattle.fjall_files.specs.Telling.{AreMarksOf, IsSealedAs}
 use Rattle.fjall_recovery.specs.Journals.{IsReadAs, ReadsAs, WholeJournal, journal_text, tail_of}
 use Rattle.fjall_recovery.specs.Told.{AreSealedAs, AreTold, TellOf, TellsOf}
 use Rattle.fjall_recovery.proofs.Gathering.{clean_end, either_tail, ids-append, read_last, sealed_more, split_last}

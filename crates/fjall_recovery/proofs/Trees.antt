@@ -9,10 +9,10 @@ use Rattle.fjall_manifest.proofs.Resting.{region_home}
 use Rattle.fjall_manifest.proofs.Standing.{standing_home}
 use Rattle.fjall_manifest.proofs.Views.{usual_region}
 use Rattle.fjall_meta.specs.Keyspaces.{Keyspaces, AreKeyspaces}
-use Rattle.fjall_catalog.specs.declared.catalog.Catalog.{Catalog}
-use Rattle.fjall_catalog.specs.Catalog.{CatalogRests, Says, home_of}
-use Rattle.fjall_catalog.proofs.Resting.{files_say}
-use Rattle.fjall_catalog.proofs.Meanings as Meanings
+use Rattle.fjall_manifest.specs.declared.catalog.Catalog.{Catalog}
+use Rattle.fjall_manifest.specs.Catalog.{CatalogRests, Says, home_of}
+use Rattle.fjall_manifest.proofs.CatalogResting.{files_say}
+use Rattle.fjall_manifest.proofs.CatalogMeanings as Meanings
 use Rattle.fjall_recovery.specs.Homes.{HasOpenableHome, HaveHomes}
 use Rattle.fjall_recovery.proofs.Housing.{homes_alike, homes_left, plain_alike}
 use Rattle.fjall_recovery.proofs.Listed.{in_keyspaces}

@@ -10,16 +10,20 @@ use Rattle.fjall_meta.specs.Keyspaces.{Keyspaces, no_keyspaces}
 use Rattle.fjall_files.specs.declared.marker.Marker.TheVariants.{Whole, Unfinished}
 use Rattle.fjall_files.specs.Marker.{marker_tells}
 use Rattle.fjall_files.specs.Names.{keyspace_folder}
-use Rattle.fjall_catalog.specs.declared.catalog.Catalog.{Catalog}
-use Rattle.fjall_catalog.specs.Catalog.{HasEnd, Says, fields, first_catalog, records_in}
-use Rattle.fjall_contents.specs.Replays.{bare, least_after}
-use Rattle.fjall_contents.specs.Contents.{store_held}
+use Rattle.fjall_manifest.specs.declared.catalog.Catalog.{Catalog}
+use Rattle.fjall_manifest.specs.Catalog.{HasEnd, Says, fields, first_catalog, records_in}
+use Rattle.fjall_meta.specs.Replays.{bare, least_after}
+use Rattle.fjall_meta.specs.Contents.{store_held}
 use Rattle.fjall_recovery.specs.declared.folder.RecoveredFolder.{RecoveredFolder}
 use Rattle.fjall_recovery.specs.Homes.{AreHomesRead, HaveHomes, HaveVersions, Homes, Versions, lasts, stored_in}
 use Rattle.fjall_recovery.specs.Journals.{WholeJournal, HoldsJournals, AreFound, AreJournalIds, batches_in, journal_text}
 use Rattle.fjall_recovery.specs.Told.{AreTold}
-pub use Rattle.fjall_recovery.specs.Replayed.{past}
 use Rattle.fjall_recovery.specs.Naming.{AreFolderIds, JournalsAreNamed, KeyspacesAreNamed}
+
+-- one past the number, and 0 where there is none
+abbrev pub past : Option ℕ → ℕ
+past None = 0
+past (Some n) = n + 1
 
 -- the bytes of a file, where one stands there
 abbrev pub file_bytes : DiskEntry → Option (List ℕ)

@@ -8,8 +8,8 @@ use Rattle.fjall_files.specs.declared.marker.Marker.TheVariants.{Whole}
 use Rattle.fjall_files.specs.Marker.{marker_tells}
 use Rattle.fjall_files.specs.Names.{keyspace_folder}
 use Rattle.fjall_meta.specs.Keyspaces.{Keyspaces}
-use Rattle.fjall_catalog.specs.declared.catalog.Catalog.{Catalog}
-use Rattle.fjall_catalog.specs.Catalog.{Says}
+use Rattle.fjall_manifest.specs.declared.catalog.Catalog.{Catalog}
+use Rattle.fjall_manifest.specs.Catalog.{Says}
 use Rattle.fjall_recovery.specs.Folders.{AreMade, marker_bytes}
 use Rattle.fjall_manifest.specs.Homes.{Home}
 use Rattle.fjall_table.specs.Blocks.{Entry}

@@ -3,7 +3,7 @@ use Rattle.std.specs.Prelude.{ℕ, Option, Some, None}
 use Rattle.fjall_base.specs.Store.{Store}
 use Rattle.fjall_base.specs.Disk.{DiskState, Image, IsImage, standing}
 use Rattle.fjall_meta.specs.Keyspaces.{no_keyspaces}
-use Rattle.fjall_contents.specs.Replays.{bare}
+use Rattle.fjall_meta.specs.Replays.{bare}
 use Rattle.fjall_recovery.specs.Folders.{Contents, IsOpenable, IsSound, IsUnfinished, number_of_contents, store_of_contents}
 
 -- The image is a sound folder with these contents, or, where none are given, one whose making was cut short.

@@ -6,13 +6,13 @@ use Rattle.std.specs.FinMap.{FinMap, get}
 use Rattle.fjall_base.specs.Disk.{Folder, Image}
 use Rattle.fjall_files.specs.Names.{keyspace_folder}
 use Rattle.fjall_table.specs.Blocks.{Entry}
-use Rattle.fjall_views.specs.Jobs.{OnceEach}
+use Rattle.fjall_memtable.specs.Jobs.{OnceEach}
 use Rattle.fjall_table.specs.Tables.{Handle}
 use Rattle.fjall_manifest.specs.Records.{Fields, view}
 use Rattle.fjall_manifest.specs.declared.reading.LoadedHome.{LoadedHome}
 use Rattle.fjall_manifest.specs.Homes.{HasHome, Home}
 use Rattle.fjall_manifest.specs.Reading.{AreIndexed, AreRight, IsLoaded}
-use Rattle.fjall_contents.specs.Contents.{IsWithin, Stored, is_beyond, nothing_stored}
+use Rattle.fjall_meta.specs.Contents.{IsWithin, Stored, is_beyond, nothing_stored}
 use Rattle.fjall_meta.specs.declared.living.LivingKeyspace.{LivingKeyspace}
 use Rattle.fjall_meta.specs.Keyspaces.{keyspace_at}
 

@@ -7,7 +7,7 @@ use Rattle.fjall_files.specs.Texts.{text_in}
 use Rattle.fjall_journal.specs.declared.batch.Tail.{Tail}
 use Rattle.fjall_journal.specs.declared.batch.Tail.TheVariants.{Clean, Torn}
 use Rattle.fjall_journal.specs.Batches.{Written, Shown, IsWhole, IsTail, shown}
-use Rattle.fjall_contents.specs.Replays.{first_fault, least_after}
+use Rattle.fjall_meta.specs.Replays.{first_fault, least_after}
 use Rattle.fjall_files.specs.Names.{journal_name}
 
 -- the bytes of the journal of that id in an image

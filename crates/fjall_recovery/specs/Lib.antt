@@ -1,7 +1,3 @@
-pub mod Beside
-pub mod Parted
-pub mod Replayed
-pub mod Steps
 pub mod Naming
 pub mod Journals
 pub mod Told
@@ -13,5 +9,4 @@ pub mod Halves
 pub mod Places
 pub mod Held
 pub mod Amid
-pub mod Known
-pub mod Opening
+pub mod Wild

@@ -2,8 +2,8 @@
 use Rattle.std.specs.Prelude.{◌≡◌, ℕ, List, None, Result, Ok, Err}
 use Rattle.fjall_base.specs.declared.error.Error.{Error}
 use Rattle.fjall_journal.specs.Batches.{Shown}
-use Rattle.fjall_manager.specs.Telling.{AreMarksOf}
-use Rattle.fjall_contents.specs.Replays.{first_fault, least_after, NamesFault}
+use Rattle.fjall_files.specs.Telling.{AreMarksOf}
+use Rattle.fjall_meta.specs.Replays.{first_fault, least_after, NamesFault}
 use Rattle.fjall_recovery.specs.declared.look.Look.{Look}
 use Rattle.fjall_recovery.specs.Journals.{IsReadAs}
 

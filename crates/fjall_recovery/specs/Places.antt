@@ -16,8 +16,8 @@ use Rattle.fjall_manifest.specs.Homes.{Home, IsFree}
 use Rattle.fjall_manifest.specs.Reading.{AreIndexed}
 use Rattle.fjall_table.specs.Tables.{Handle}
 use Rattle.fjall_meta.specs.Keyspaces.{keyspace_at}
-use Rattle.fjall_catalog.specs.Catalog.{CatalogRests}
-use Rattle.fjall_contents.specs.Replays.{first_fault}
+use Rattle.fjall_manifest.specs.Catalog.{CatalogRests}
+use Rattle.fjall_meta.specs.Replays.{first_fault}
 use Rattle.fjall_recovery.specs.Folders.{AreMade, Contents}
 use Rattle.fjall_recovery.specs.Homes.{HaveVersions, Homes, ClearsAreWithin}
 use Rattle.fjall_recovery.specs.Journals.{WholeJournal, batches_in}

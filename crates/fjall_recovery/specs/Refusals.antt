@@ -11,7 +11,7 @@ use Rattle.fjall_journal.specs.declared.recovery_mode.RecoveryMode.{RecoveryMode
 use Rattle.fjall_journal.specs.declared.recovery_mode.RecoveryMode.TheVariants.{RefuseTornTail, TolerateCorruptTail}
 use Rattle.fjall_journal.specs.declared.batch.Tail.TheVariants.{Clean, Torn, Damaged}
 use Rattle.fjall_journal.specs.Batches.{Written, shown}
-use Rattle.fjall_contents.specs.Replays.{first_fault, least_after, NamesFault}
+use Rattle.fjall_meta.specs.Replays.{first_fault, least_after, NamesFault}
 use Rattle.fjall_manifest.specs.Records.{Fields, HasContradiction}
 use Rattle.fjall_meta.specs.Keyspaces.{Keyspaces}
 use Rattle.fjall_meta.specs.declared.living.LivingKeyspace.{LivingKeyspace}
@@ -20,9 +20,9 @@ use Rattle.fjall_files.specs.declared.marker.Marker.{Marker}
 use Rattle.fjall_files.specs.declared.marker.Marker.TheVariants.{Whole, Unfinished}
 use Rattle.fjall_files.specs.Marker.{marker_tells}
 use Rattle.fjall_files.specs.Names.{keyspace_folder}
-use Rattle.fjall_catalog.specs.declared.catalog.Catalog.{Catalog}
-use Rattle.fjall_catalog.specs.Catalog.{Says, records_in}
-use Rattle.fjall_catalog.specs.Refusals.{IsCatalogDamage}
+use Rattle.fjall_manifest.specs.declared.catalog.Catalog.{Catalog}
+use Rattle.fjall_manifest.specs.Catalog.{Says, records_in}
+use Rattle.fjall_manifest.specs.Refusals.{IsCatalogDamage}
 use Rattle.fjall_recovery.specs.Folders.{AreEmpty, AreMade, IsBegun, marker_bytes}
 use Rattle.fjall_manifest.specs.Homes.{Home}
 use Rattle.fjall_manifest.specs.Reading as home

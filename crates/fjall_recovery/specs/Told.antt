@@ -4,9 +4,9 @@ use Rattle.std.specs.Prelude.{◌≡◌, ℕ, List, [], ◌∷◌, map, length}
 use Rattle.std.specs.List.{AllByRecursion, AllZip, flat_map}
 use Rattle.fjall_base.specs.Disk.{Image}
 use Rattle.fjall_journal.specs.Batches.{batch_text, shown}
-use Rattle.fjall_manager.specs.Journals.{Sealed}
-use Rattle.fjall_manager.specs.Marks.{JournalMarks}
-use Rattle.fjall_manager.specs.Telling.{AreMarksOf, IsSealedAs}
+use Rattle.fjall_files.specs.Journals.{Sealed}
+use Rattle.fjall_files.specs.Marks.{JournalMarks}
+use Rattle.fjall_files.specs.Telling.{AreMarksOf, IsSealedAs}
 use Rattle.fjall_recovery.specs.Journals.{AreJournalsRead, IsSealed, WholeJournal}
 
 -- the number of the sealed journal is this one's, its watermarks are those of the batches, and its file has their texts alone

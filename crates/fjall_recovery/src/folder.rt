@@ -11,8 +11,8 @@ ghost use Rattle.fjall_files.specs.Marker.{marker_tells};
 ghost use Rattle.fjall_files.specs.Names.{keyspace_folder};
 ghost use Rattle.fjall_manifest.specs.Records.{Fields, view};
 ghost use Rattle.fjall_meta.specs.Keyspaces.{Keyspaces};
-ghost use Rattle.fjall_catalog.specs.declared.catalog.Catalog.{Catalog};
-ghost use Rattle.fjall_catalog.specs.Catalog.{HasEnd, Says, fields};
+ghost use Rattle.fjall_manifest.specs.declared.catalog.Catalog.{Catalog};
+ghost use Rattle.fjall_manifest.specs.Catalog.{HasEnd, Says, fields};
 ghost use Rattle.fjall_recovery.specs.Folders.{AreMade, Contents, ImageStandsFor, IsFinished, IsNumbered, IsOpenable, ReadsFolder, ShowsContents, marker_bytes, number_of_contents, past, past_record, past_records};
 ghost use Rattle.fjall_recovery.specs.Held.{IsOpenFolder};
 ghost use Rattle.fjall_recovery.specs.Journals.{AreJournalIds};
@@ -24,10 +24,9 @@ use crate::journals::{RecoveredJournals, read_journals};
 use crate::listing::{list_journals, list_keyspaces};
 use crate::unfinished::check_unfinished;
 use fjall_base::{Disk, Error, JournalRecoveryError, Result, StorageError};
-use fjall_catalog::{Catalog, LoadedCatalog, read_catalog};
 use fjall_files::{MARKER_FILE, Marker, read_marker};
 use fjall_journal::RecoveryMode;
-use fjall_manifest::LoadedHome;
+use fjall_manifest::{Catalog, LoadedCatalog, LoadedHome, read_catalog};
 use fjall_meta::LivingKeyspace;
 use std::alloc::Global;
 
@@ -46,7 +45,7 @@ pub struct RecoveredFolder {
 }
 
 /// One past the number, and 0 where there is none.
-pub(crate) fn past(number: Option<u64>) -> u64
+pub fn past(number: Option<u64>) -> u64
     ensures value { past number < 2 ^ 64 → result ≡ past number }
     ensures small { IfSome number (λ n. n < 2 ^ 63) → result ≡ past number }
 {

@@ -3,7 +3,7 @@
 ghost use Rattle.std.specs.Prelude.{◌≡◌, ◌≤◌, ◌↔◌, [], IsTrue, IfErr, IfOk};
 ghost use Rattle.fjall_base.specs.Disk.{Took};
 ghost use Rattle.fjall_manifest.specs.Records.{view};
-ghost use Rattle.fjall_contents.specs.Contents.{is_beyond};
+ghost use Rattle.fjall_meta.specs.Contents.{is_beyond};
 ghost use Rattle.fjall_recovery.specs.Homes.{AreHomesRead, ClearsAreWithin, IsHomeRead};
 ghost use Rattle.fjall_recovery.specs.Naming.{AreFolderIds};
 ghost use Rattle.fjall_recovery.specs.Refusals.{HasRisen, HomeRefuses, HomesRefuse, IsDue, IsOpeningRefusal};
@@ -25,7 +25,7 @@ pub fn is_beyond(persisted: Option<u64>, number: u64) -> bool
 }
 
 /// Whether no clear that a record tells is beyond its persisted number.
-pub(crate) fn clears_are_within(last: &Record) -> bool
+pub fn clears_are_within(last: &Record) -> bool
     ensures { IsTrue result ↔ ClearsAreWithin (view last.now) }
 {
     last.clears

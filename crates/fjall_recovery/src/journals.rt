@@ -5,7 +5,7 @@ ghost use Rattle.fjall_base.specs.Disk.{Took};
 ghost use Rattle.fjall_base.specs.declared.error.Error.{Error};
 ghost use Rattle.fjall_journal.specs.Batches.{Shown};
 ghost use Rattle.fjall_journal.specs.declared.batch.Tail.TheVariants.{Clean};
-ghost use Rattle.fjall_contents.specs.Replays.{first_fault, least_after, NamesFault};
+ghost use Rattle.fjall_meta.specs.Replays.{first_fault, least_after, NamesFault};
 ghost use Rattle.fjall_recovery.specs.Journals.{AreFound, AreSealed, journal_text, tail_of};
 ghost use Rattle.fjall_recovery.specs.Looks.{AreChecked, IsLook};
 ghost use Rattle.fjall_recovery.specs.Told.{AreSealedAs, AreTold};
@@ -16,9 +16,8 @@ use crate::file::read_text;
 use crate::look::{Look, look_through};
 use bytes::Bytes;
 use fjall_base::{Disk, Error, Result};
-use fjall_files::journal_name;
+use fjall_files::{JournalManager, SealedJournal, Watermarks, journal_name};
 use fjall_journal::Tail;
-use fjall_manager::{JournalManager, SealedJournal, Watermarks};
 use std::alloc::Global;
 
 /// What the journals of a folder hold.

@@ -7,7 +7,7 @@ ghost use Rattle.fjall_base.specs.Store.{Store};
 ghost use Rattle.fjall_table.specs.Blocks.{Entry};
 ghost use Rattle.fjall_manifest.specs.Homes.{Home};
 ghost use Rattle.fjall_meta.specs.Keyspaces.{keyspace_at};
-ghost use Rattle.fjall_catalog.specs.Catalog.{CatalogRests, Says};
+ghost use Rattle.fjall_manifest.specs.Catalog.{CatalogRests, Says};
 ghost use Rattle.fjall_recovery.specs.Homes.{HasOpenableHome, HasVersions, HaveHomes, HaveVersions};
 ghost use Rattle.fjall_recovery.specs.Folders.{AreMade, Contents, ImageStandsFor, IsOpenable, IsSound, with_versions};
 ghost use Rattle.fjall_recovery.specs.Journals.{WholeJournal, HoldsJournals};

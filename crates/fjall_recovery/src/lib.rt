@@ -1,26 +1,20 @@
 //! What a database folder holds: it is read whole before anything is changed, and the first fault is the answer. How everything
-//! of it lies on a disk, with what a crash leaves of that; and the trees that its tables and the batches of its journals make.
+//! of it lies on a disk, with what a crash leaves of that, be it a usual one or one that leaves any bytes behind the synced ones.
 #![tactic(auto)]
 
-mod counting;
 mod file;
 mod folder;
 mod homes;
 mod journals;
 mod laws;
 mod listing;
-mod loading_laws;
 mod look;
-mod records;
-mod replay_laws;
-mod replayed_journals;
-mod replaying;
-mod tables;
 mod unfinished;
+mod wild_laws;
 
 pub use file::read_text;
-pub use folder::{RecoveredFolder, read_folder};
-pub use homes::is_beyond;
+pub use folder::{RecoveredFolder, past, read_folder};
+pub use homes::{clears_are_within, is_beyond};
 pub use journals::{RecoveredJournals, read_journals};
 pub use laws::{
     a_crash_holds, a_folder_stands, a_rest_holds, a_sound_folder_has_both_halves,
@@ -30,11 +24,8 @@ pub use laws::{
     trees_alike,
 };
 pub use listing::list_keyspaces;
-pub use loading_laws::opened_trees_show_the_store;
-pub use records::LastRecords;
-pub use replay_laws::{
-    a_change_is_one_batch_more, a_sealed_journal_leaves_one_memtable,
-    replayed_trees_beside_tables_show_the_store, what_trees_show_stays,
+pub use wild_laws::{
+    a_beginning_reads_alike, a_wild_crash_is_cut, a_wild_image_stands, a_wild_image_stays,
+    kinds_of_crashes, nothing_is_forged, what_is_forged_counts, wild_crashes_leave_no_more,
+    wild_crashes_within_calls,
 };
-pub use replayed_journals::{replay_journal, seal_all};
-pub use tables::{OpenedHomes, open_homes};

@@ -6,9 +6,9 @@ ghost use Rattle.fjall_recovery.specs.Looks.{AreChecked, IsLook};
 
 use bytes::Bytes;
 use fjall_base::{Error, Result};
-use fjall_contents::check_batches;
+use fjall_files::Watermarks;
 use fjall_journal::{Batch, JournalBatchReader, Tail, next_batch};
-use fjall_manager::Watermarks;
+use fjall_meta::check_batches;
 use std::alloc::Global;
 use std::slice;
 

@@ -2,7 +2,7 @@
 
 ghost use Rattle.std.specs.Prelude.{◌≡◌, ◌≤◌, ◌↔◌, [], IsTrue, IfErr, OnOk};
 ghost use Rattle.fjall_base.specs.Disk.{Took};
-ghost use Rattle.fjall_catalog.specs.Catalog.{records_in};
+ghost use Rattle.fjall_manifest.specs.Catalog.{records_in};
 ghost use Rattle.fjall_recovery.specs.Folders.{AreEmpty, IsBegun};
 ghost use Rattle.fjall_recovery.specs.Journals.{AreJournalIds};
 ghost use Rattle.fjall_recovery.specs.Naming.{KeyspacesAreNamed};
@@ -13,9 +13,8 @@ use crate::file::read_text;
 use crate::journals::read_one;
 use crate::listing::list_keyspaces;
 use fjall_base::{Disk, Error, Result};
-use fjall_catalog::first_record;
 use fjall_files::current_name;
-use fjall_manifest::read_current;
+use fjall_manifest::{first_record, read_current};
 use std::alloc::Global;
 
 /// Refuses journals of which one holds a whole batch. The journals that there are have these ids.

@@ -19,8 +19,8 @@ use Rattle.fjall_files.specs.Names.{IsMisnamed, IsNameOf, journal_name, keyspace
 use Rattle.fjall_meta.specs.Keyspaces.{AreKeyspaces, keyspace_at, no_keyspaces}
 use Rattle.fjall_files.proofs.Fitting.{folder_of-folder, folder_of-journal as in_root}
 use Rattle.fjall_manifest.specs.Homes.{Home, only}
-use Rattle.fjall_catalog.specs.Catalog.{fields, first_catalog}
-use Rattle.fjall_contents.specs.Replays.{first_fault}
+use Rattle.fjall_manifest.specs.Catalog.{fields, first_catalog}
+use Rattle.fjall_meta.specs.Replays.{first_fault}
 use Rattle.fjall_recovery.specs.Journals.{WholeJournal, batches_in}
 use Rattle.fjall_recovery.specs.Places.{HasSafeHomeAt, IsNeverFile, IsNeverFolder, LiesInRoot, RestsInTree, journal_ids, journals_with, texts_of}
 use Rattle.fjall_recovery.proofs.Named.{journal_within}

@@ -16,8 +16,8 @@ use Rattle.fjall_files.specs.Tidy.{FitsAt, IsTidy, StaysTidy}
 use Rattle.fjall_files.proofs.Distinct.{kept}
 use Rattle.fjall_files.proofs.OfKinds.{kind_now}
 use Rattle.fjall_files.proofs.Tidying.{stays_making, stays_none as tidy_none}
-use Rattle.fjall_catalog.specs.Catalog.{fields, first_catalog}
-use Rattle.fjall_catalog.proofs.Naming.{current_zero, folder_zero}
+use Rattle.fjall_manifest.specs.Catalog.{fields, first_catalog}
+use Rattle.fjall_manifest.proofs.CatalogNaming.{current_zero, folder_zero}
 use Rattle.fjall_repair.specs.Making.{KeepsHomeRecords, StaysAt}
 use Rattle.fjall_repair.specs.Plans.{first_text}
 use Rattle.fjall_repair.proofs.Emptying.{journal_at}

@@ -7,7 +7,7 @@ use Rattle.fjall_base.specs.Disk.{Name, DiskEntry, Missing, File, Folder, DiskSt
 use Rattle.fjall_base.proofs.Moments.{runs_on, weaken}
 use Rattle.fjall_base.proofs.Names.{bool_cases, same, same_test}
 use Rattle.fjall_meta.specs.Keyspaces.{no_keyspaces}
-use Rattle.fjall_contents.specs.Replays.{bare}
+use Rattle.fjall_meta.specs.Replays.{bare}
 use Rattle.fjall_recovery.specs.Folders.{ImageStandsFor, IsUnfinished}
 use Rattle.fjall_repair.specs.Making.{AreLeft, ComesBackUnfinished, IsKept, IsMaking, MakingGoesOn, MayStand}
 use Rattle.fjall_repair.proofs.Standing.{some_left, making_of, stands_same, unfinished_of}

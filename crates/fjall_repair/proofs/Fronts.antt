@@ -17,7 +17,7 @@ use Rattle.fjall_base.proofs.Names.{bool_cases}
 use Rattle.fjall_table.proofs.Frames.{frame4}
 use Rattle.fjall_files.specs.declared.marker.Marker.TheVariants.{Unfinished}
 use Rattle.fjall_files.specs.Marker.{accepted, header, is_cut_short, marker_tells, version_at}
-use Rattle.fjall_catalog.specs.Catalog.{fields, first_catalog}
+use Rattle.fjall_manifest.specs.Catalog.{fields, first_catalog}
 use Rattle.fjall_recovery.specs.Folders.{IsBegun}
 use Rattle.fjall_repair.specs.Making.{MayMark}
 

@@ -8,7 +8,7 @@ use Rattle.fjall_files.specs.Texts.{text_in}
 use Rattle.fjall_files.specs.Marker.{marker_tells}
 use Rattle.fjall_files.specs.Names.{journal_name, keyspace_folder, current_name, table_name}
 use Rattle.fjall_manifest.specs.Homes.{HasFiles, HoldTables, Home, records_text}
-use Rattle.fjall_catalog.specs.Catalog.{Says, home_of}
+use Rattle.fjall_manifest.specs.Catalog.{Says, home_of}
 use Rattle.fjall_recovery.specs.Folders.{AreMade, Contents, IsOpenable, file_bytes}
 use Rattle.fjall_recovery.specs.Homes.{HasOpenableHome, HaveHomes}
 use Rattle.fjall_recovery.specs.Journals.{WholeJournal, ReadsAs, AreJournalsRead, journal_text}

@@ -8,7 +8,7 @@ use Rattle.fjall_manifest.specs.Records.{IsRecord, IsRecords}
 use Rattle.fjall_manifest.proofs.Currents.{texts_are_records}
 use Rattle.fjall_files.specs.Marker.{header}
 use Rattle.fjall_files.specs.Names.{journal_name, current_name}
-use Rattle.fjall_catalog.specs.Catalog.{fields, first_catalog}
+use Rattle.fjall_manifest.specs.Catalog.{fields, first_catalog}
 use Rattle.fjall_recovery.specs.Folders.{IsBegun}
 use Rattle.fjall_repair.specs.Making.{CanHold, MayMark, MayStand}
 use Rattle.fjall_repair.specs.Plans.{first_text}

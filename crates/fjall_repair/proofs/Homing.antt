@@ -8,8 +8,8 @@ use Rattle.fjall_manifest.specs.Homes.{HoldTables, Home}
 use Rattle.fjall_manifest.specs.Reading.{AreIndexed}
 use Rattle.fjall_meta.specs.declared.entry.MetaEntry.{MetaEntry}
 use Rattle.fjall_meta.specs.Keyspaces.{Keyspaces}
-use Rattle.fjall_catalog.specs.declared.catalog.Catalog.{Catalog}
-use Rattle.fjall_catalog.specs.Catalog.{ArePairs, Says, home_of}
+use Rattle.fjall_manifest.specs.declared.catalog.Catalog.{Catalog}
+use Rattle.fjall_manifest.specs.Catalog.{ArePairs, Says, home_of}
 use Rattle.fjall_manifest.specs.Records.{Fields}
 use Rattle.fjall_recovery.specs.Homes.{HasOpenableHome}
 

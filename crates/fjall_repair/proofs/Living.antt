@@ -7,7 +7,7 @@ use Rattle.fjall_base.specs.Disk.{DiskState, Image}
 use Rattle.fjall_manifest.specs.Homes.{Home}
 use Rattle.fjall_meta.specs.declared.living.LivingKeyspace.{LivingKeyspace}
 use Rattle.fjall_meta.specs.Keyspaces.{Keyspaces, AreKeyspaces, keyspace_at}
-use Rattle.fjall_contents.proofs.Ids.{each_lives, living_has}
+use Rattle.fjall_meta.proofs.Ids.{each_lives, living_has}
 use Rattle.fjall_recovery.specs.Homes.{HasHomeAt, HasOpenableHome, HaveHomes, Homes}
 use Rattle.fjall_recovery.specs.Places.{HasSafeHome, HasSafeHomeAt, HaveSafeHomes}
 use Rattle.fjall_recovery.proofs.Housing.{homes_alike}

@@ -18,8 +18,8 @@ use Rattle.fjall_files.specs.declared.marker.Marker.TheVariants.{Unfinished}
 use Rattle.fjall_files.specs.Marker.{header, marker_tells}
 use Rattle.fjall_meta.specs.Keyspaces.{no_keyspaces}
 use Rattle.fjall_manifest.specs.Homes.{only}
-use Rattle.fjall_catalog.specs.Catalog.{fields, first_catalog}
-use Rattle.fjall_contents.specs.Replays.{bare}
+use Rattle.fjall_manifest.specs.Catalog.{fields, first_catalog}
+use Rattle.fjall_meta.specs.Replays.{bare}
 use Rattle.fjall_recovery.specs.Folders.{ImageStandsFor, file_bytes, store_of_contents}
 use Rattle.fjall_recovery.specs.Places.{contents_with, LiesInRoot, RestsInTree}
 use Rattle.fjall_recovery.proofs.Holding.{IsLeft, a_rest_holds, crash_left}

@@ -16,7 +16,7 @@ use Rattle.fjall_journal.specs.Batches.{Written, shown}
 use Rattle.fjall_journal.proofs.Cuts.{none_at_nil}
 use Rattle.fjall_files.specs.Marker.{marker_tells}
 use Rattle.fjall_files.specs.Names.{journal_name, current_name, table_name}
-use Rattle.fjall_contents.specs.Contents.{store_held}
+use Rattle.fjall_meta.specs.Contents.{store_held}
 use Rattle.fjall_recovery.specs.Homes.{HaveVersions, stored_in}
 use Rattle.fjall_recovery.specs.Folders.{Contents, IsOpenable, ImageStandsFor, store_of_contents, file_bytes}
 use Rattle.fjall_recovery.specs.Journals.{WholeJournal, ReadsAs, AreJournalIds, batches_in}

@@ -6,7 +6,7 @@ use Rattle.fjall_base.specs.Disk.{Name, folder_of}
 use Rattle.fjall_files.specs.Names.{IsMisnamed, IsNameOf, journal_name, keyspace_folder, current_name, table_name}
 use Rattle.fjall_files.proofs.Fitting.{folder_of-current, folder_of-journal as in_root}
 use Rattle.fjall_manifest.proofs.Naming.{some_folder}
-use Rattle.fjall_catalog.proofs.Naming.{current_zero, folder_zero}
+use Rattle.fjall_manifest.proofs.CatalogNaming.{current_zero, folder_zero}
 use Rattle.fjall_repair.proofs.Moments.{IsNoTable}
 
 abbrev dot : ℕ → Bool

@@ -19,10 +19,10 @@ use Rattle.fjall_manifest.specs.Homes.{Home, IsFree}
 use Rattle.fjall_manifest.proofs.Resting.{At, IsGiven, all_given, each_more, last_record as home_record}
 use Rattle.fjall_meta.specs.declared.living.LivingKeyspace.{LivingKeyspace}
 use Rattle.fjall_meta.specs.Keyspaces.{AreKeyspaces, Keyspaces, keyspace_at}
-use Rattle.fjall_contents.proofs.Ids.{living_has}
-use Rattle.fjall_catalog.specs.declared.catalog.Catalog.{Catalog}
-use Rattle.fjall_catalog.specs.Catalog.{fields, listed}
-use Rattle.fjall_catalog.proofs.Resting.{last_record}
+use Rattle.fjall_meta.proofs.Ids.{living_has}
+use Rattle.fjall_manifest.specs.declared.catalog.Catalog.{Catalog}
+use Rattle.fjall_manifest.specs.Catalog.{fields, listed}
+use Rattle.fjall_manifest.proofs.CatalogResting.{last_record}
 use Rattle.fjall_recovery.specs.Halves.{Tree}
 use Rattle.fjall_recovery.specs.Homes.{last_in}
 use Rattle.fjall_recovery.specs.Places.{HasSafeHomeAt, LiesInTree, RestsInTree}

@@ -11,7 +11,7 @@ use Rattle.fjall_base.specs.Disk.{Image, Name}
 use Rattle.fjall_files.specs.Texts.{text_in}
 use Rattle.fjall_files.specs.Marker.{header}
 use Rattle.fjall_files.specs.Names.{journal_name}
-use Rattle.fjall_catalog.proofs.Naming.{current_zero}
+use Rattle.fjall_manifest.proofs.CatalogNaming.{current_zero}
 use Rattle.fjall_recovery.specs.Journals.{AreJournalIds}
 use Rattle.fjall_repair.specs.declared.beginning.plan.FileState.{FileState}
 use Rattle.fjall_repair.specs.declared.beginning.plan.BeginPlan.{BeginPlan}

@@ -21,8 +21,8 @@ use Rattle.fjall_files.specs.Names.{journal_name, keyspace_folder, current_name,
 use Rattle.fjall_manifest.specs.Homes as homes
 use Rattle.fjall_manifest.specs.Homes.{AreSafe, HasHome, HoldTables, HoldsText, Home, only, records_text}
 use Rattle.fjall_manifest.proofs.Resting.{IsGiven, all_given, each_more, last_has}
-use Rattle.fjall_contents.specs.Replays.{first_fault}
-use Rattle.fjall_catalog.specs.Catalog.{CatalogRests, home_of}
+use Rattle.fjall_meta.specs.Replays.{first_fault}
+use Rattle.fjall_manifest.specs.Catalog.{CatalogRests, home_of}
 use Rattle.fjall_recovery.specs.Folders.{Contents, IsOpenable, file_bytes}
 use Rattle.fjall_recovery.specs.Homes.{HasOpenableHome, HaveVersions}
 use Rattle.fjall_recovery.specs.Journals.{WholeJournal, ReadsAs, AreJournalsRead, batches_in, journal_text}

@@ -13,9 +13,9 @@ use Rattle.fjall_manifest.specs.Homes.{HasFiles, HoldTables, HoldsText, Home}
 use Rattle.fjall_manifest.proofs.Meanings as homes
 use Rattle.fjall_manifest.proofs.Resting.{IsGiven, all_given, each_more, last_has}
 use Rattle.fjall_meta.specs.Keyspaces.{Keyspaces}
-use Rattle.fjall_catalog.specs.Catalog.{home_of}
-use Rattle.fjall_catalog.specs.Catalog as catalog
-use Rattle.fjall_catalog.proofs.Meanings.{last_one, one_catalog}
+use Rattle.fjall_manifest.specs.Catalog.{home_of}
+use Rattle.fjall_manifest.specs.Catalog as catalog
+use Rattle.fjall_manifest.proofs.CatalogMeanings.{last_one, one_catalog}
 use Rattle.fjall_recovery.specs.Folders.{Contents, IsOpenable, file_bytes}
 use Rattle.fjall_recovery.specs.Homes.{HasOpenableHome}
 use Rattle.fjall_recovery.specs.Journals.{WholeJournal, journal_text}

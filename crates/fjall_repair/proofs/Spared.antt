@@ -11,8 +11,8 @@ use Rattle.fjall_manifest.specs.Homes.{Home}
 use Rattle.fjall_manifest.proofs.Resting.{At, at_more, rests_along as home_rests_along}
 use Rattle.fjall_meta.specs.declared.living.LivingKeyspace.{LivingKeyspace}
 use Rattle.fjall_meta.specs.Keyspaces.{keyspace_at}
-use Rattle.fjall_catalog.specs.Catalog.{listed}
-use Rattle.fjall_catalog.proofs.Resting.{rests_along}
+use Rattle.fjall_manifest.specs.Catalog.{listed}
+use Rattle.fjall_manifest.proofs.CatalogResting.{rests_along}
 use Rattle.fjall_recovery.specs.Halves.{HasTree, Tree, is_of_keyspaces}
 use Rattle.fjall_recovery.specs.Places.{HasSafeHomeAt, IsNeverFolder, RestsInTree}
 use Rattle.fjall_recovery.proofs.Trees.{crashes_leave_the_tree}

@@ -23,7 +23,7 @@ use Rattle.fjall_repair.specs.declared.mending.plan.MendPlan.{MendPlan}
 use Rattle.fjall_repair.specs.Steps.{End, IsMendPlan, IsOpened, IsRightEnd, IsTreeEnd, Suits, active_of, end_of, ended_names, folder_names, home_end, opened, tree_end, whole_names, with_active}
 use Rattle.fjall_repair.specs.Mended.{IsMendingOf}
 use Rattle.fjall_base.specs.declared.error.Error.{Error}
-use Rattle.fjall_catalog.specs.Catalog.{records_in}
+use Rattle.fjall_manifest.specs.Catalog.{records_in}
 use Rattle.std.specs.Prelude.{◌↔◌, ◌<◌, IfOk, IsTrue, Result, Ok, Err}
 use Rattle.fjall_files.specs.Texts.{text_in}
 use Rattle.fjall_repair.proofs.Naming.{journal_current}

@@ -13,9 +13,9 @@ use Rattle.fjall_manifest.specs.Records.{IsRecord}
 use Rattle.fjall_files.specs.Names.{keyspace_folder, current_name}
 use Rattle.fjall_files.proofs.Fitting.{folder_of-current, folder_of-folder}
 use Rattle.fjall_manifest.specs.Homes.{only}
-use Rattle.fjall_catalog.specs.Catalog.{fields, first_catalog, records_in}
-use Rattle.fjall_catalog.proofs.Naming.{current_zero, folder_zero}
-use Rattle.fjall_catalog.proofs.Shapes.{first_fits}
+use Rattle.fjall_manifest.specs.Catalog.{fields, first_catalog, records_in}
+use Rattle.fjall_manifest.proofs.CatalogNaming.{current_zero, folder_zero}
+use Rattle.fjall_manifest.proofs.Shapes.{first_fits}
 use Rattle.fjall_repair.specs.declared.beginning.plan.FileState.{FileState}
 use Rattle.fjall_repair.specs.Making.{CanHold, MakingGoesOn, MayStand, StaysAt}
 use Rattle.fjall_repair.specs.Plans.{HasFirstTree, IsFound, first_text}

@@ -4,7 +4,7 @@ use Rattle.std.specs.FinMap.{empty}
 use Rattle.fjall_base.specs.Disk.{Image, DiskState, IsFile}
 use Rattle.fjall_files.specs.Names.{journal_name}
 use Rattle.fjall_meta.specs.Keyspaces.{no_keyspaces}
-use Rattle.fjall_catalog.specs.Catalog.{fields, first_catalog}
+use Rattle.fjall_manifest.specs.Catalog.{fields, first_catalog}
 use Rattle.fjall_recovery.specs.Journals.{batches_in}
 use Rattle.fjall_recovery.specs.Places.{Journaling, LiesInRoot, RestsInTree, journals_with}
 use Rattle.fjall_repair.specs.Plans.{empty_journals}

@@ -14,7 +14,7 @@ use Rattle.fjall_files.specs.Marker.{header}
 use Rattle.fjall_files.specs.Names.{journal_name, keyspace_folder, current_name}
 use Rattle.fjall_meta.specs.Keyspaces.{no_keyspaces}
 use Rattle.fjall_manifest.specs.Homes.{only}
-use Rattle.fjall_catalog.specs.Catalog.{fields, first_catalog, records_in}
+use Rattle.fjall_manifest.specs.Catalog.{fields, first_catalog, records_in}
 use Rattle.fjall_recovery.specs.Journals.{WholeJournal}
 use Rattle.fjall_recovery.specs.Halves.{Tree}
 use Rattle.fjall_recovery.specs.Places.{Journaling, LiesInRoot, RestsInTree, journals_with}

@@ -14,8 +14,8 @@ use Rattle.fjall_manifest.specs.Records as records
 use Rattle.fjall_manifest.specs.declared.reading.LoadedHome.{LoadedHome}
 use Rattle.fjall_manifest.specs.Homes.{HasHome, Home}
 use Rattle.fjall_meta.specs.declared.living.LivingKeyspace.{LivingKeyspace}
-use Rattle.fjall_catalog.specs.declared.catalog.Catalog.{Catalog}
-use Rattle.fjall_catalog.specs.Catalog.{listed}
+use Rattle.fjall_manifest.specs.declared.catalog.Catalog.{Catalog}
+use Rattle.fjall_manifest.specs.Catalog.{listed}
 use Rattle.fjall_recovery.specs.Homes.{last_in}
 use Rattle.fjall_recovery.specs.Halves.{Tree}
 use Rattle.fjall_repair.specs.declared.plan.SweepPlan.{SweepPlan}

@@ -2,9 +2,6 @@
 //! prints a line for each. `fjall-run FOLDER` does so over a folder of files.
 #![tactic(auto)]
 
-#[cfg(test)]
-mod tests;
-
 use fjall_base::Error;
 use fjall_script::{fail, run, usage};
 use std::io::ErrorKind;

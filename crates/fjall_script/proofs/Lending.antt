@@ -5,7 +5,7 @@ use Rattle.std.specs.Borrow.{Bor}
 use Rattle.std.specs.declared.alloc.Global.{Global}
 use Rattle.std.proofs.lemmas.List.{map-append, take_more}
 use Rattle.fjall_base.specs.Pairs.{Bytes}
-use Rattle.fjall_memory.specs.Wild.{Fills, fills_of}
+use Rattle.fjall_disk_memory.specs.Wild.{Fills, fills_of}
 use Rattle.fjall_lines.specs.Fills.{named_bytes}
 
 abbrev Lent : Type 0

@@ -14,23 +14,23 @@ use Rattle.fjall_base.specs.Crash.{crashed}
 use Rattle.fjall_base.specs.Disk.{DiskState, Image, IsImage, IsImageBy, Meaning, Survives, disk_of, standing, state_in}
 use Rattle.fjall_base.specs.declared.error.Error.{Error}
 use Rattle.fjall_meta.specs.Keyspaces.{no_keyspaces}
-use Rattle.fjall_contents.specs.Replays.{bare}
-use Rattle.fjall_memory.specs.Wild.{Fills, filled}
+use Rattle.fjall_meta.specs.Replays.{bare}
+use Rattle.fjall_disk_memory.specs.Wild.{Fills, filled}
 use Rattle.fjall_recovery.specs.Amid.{HoldsAmid, StandsAmid}
 use Rattle.fjall_recovery.specs.Held.{IsOpenFolder}
-use Rattle.fjall_wild.specs.Wild.{IsUnforged, SurvivesUnforged}
-use Rattle.fjall_wild.proofs.Covering.{held_alone, held_more, leaves_wider, usual_where}
-use Rattle.fjall_wild.proofs.Folders.{wild_amid}
+use Rattle.fjall_recovery.specs.Wild.{IsUnforged, SurvivesUnforged}
+use Rattle.fjall_recovery.proofs.Covering.{held_alone, held_more, leaves_wider, usual_where}
+use Rattle.fjall_recovery.proofs.Folders.{wild_amid}
 use Rattle.fjall_history.specs.declared.reply.Reply.{Reply}
 use Rattle.fjall_machine.specs.declared.call.Call.{Call}
 use Rattle.fjall_machine.specs.Machine.{present}
 use Rattle.fjall_history.proofs.Moving.{sound_opening}
 use Rattle.fjall_calls.specs.Durables.{CrashLeavesPending, Durable}
 use Rattle.fjall_calls.specs.Holding.{Held}
-use Rattle.fjall_consistency.specs.Lives.{Closed, CutBehind, Ended, Life, Lives, NoLife, OneMore, Opened, Served, Unclosed, begun, start_of}
-use Rattle.fjall_calls.specs.Openings.{OpensAmid, OpensAs}
+use Rattle.fjall_consistency.specs.Lives.{Closed, CutBehind, Ended, PastLife, Lives, NoLife, OneMore, Opened, Served, Unclosed, life_begun, start_of}
+use Rattle.fjall_calls.specs.Openings.{OpensAfterCrash, OpensAs}
 use Rattle.fjall_consistency.proofs.LastSyncs.{a_last_sync}
-use Rattle.fjall_consistency.proofs.CrashedDisks.{new_disk_tidy}
+use Rattle.fjall_consistency.proofs.LivedDisks.{new_disk_tidy}
 use Rattle.fjall_consistency.proofs.Lives.{lives_blame, lives_hold, lives_open}
 use Rattle.fjall_calls.proofs.Reopening.{holds_store_amid}
 use Rattle.fjall_calls.proofs.RunsOverCrashes.{no_run}
@@ -175,7 +175,7 @@ served-append k (lines ∷ a) b (asked ∷ p) q (life ∷ x) y h g =
 
 -- The lines up to here: those that each life ended behind, and those behind the last crash or reopening. However the lines go
 -- on, a crash or reopening ends the running part.
-record Parts (front : List (Option Command)) (lists : List Asked) (lives : List Life) (last : Asked) (showed : Option Store) (calls : List Call) (replies : List Reply) : Type 0 where
+record Parts (front : List (Option Command)) (lists : List Asked) (lives : List PastLife) (last : Asked) (showed : Option Store) (calls : List Call) (replies : List Reply) : Type 0 where
   pub ended : List (List (Option Command))
   pub running : List (Option Command)
   pub alone : All IsCall running
@@ -186,7 +186,7 @@ record Parts (front : List (Option Command)) (lists : List Asked) (lives : List 
 
 -- a core that just opened has served no call
 no_calls : (core : Held) (store : Store) (opens : OpensAs core store) → Served core store opens [] [] core
-no_calls core store opens = no_run core (start_of core store opens) (begun core store) opens.state opens.reads opens.base
+no_calls core store opens = no_run core (start_of core store opens) (life_begun core store) opens.state opens.reads opens.base
 
 none_served : (earlier : ℕ) (core : Held) (store : Store) (opens : OpensAs core store) → IsServed earlier [] unasked (Some store) [] []
 none_served earlier core store opens = record {
@@ -203,7 +203,7 @@ none_served earlier core store opens = record {
 }
 
 -- parts of which the running one has no line
-abbrev FreshParts : List (Option Command) → List Asked → List Life → Store → Type 0
+abbrev FreshParts : List (Option Command) → List Asked → List PastLife → Store → Type 0
 FreshParts front lists lives store = (p : Parts front lists lives unasked (Some store) [] []) × (p.running ≡ [])
 
 no_parts : (core : Held) (store : Store) (opens : OpensAs core store) → FreshParts [] [] [] store
@@ -221,14 +221,14 @@ no_parts core store opens = (
 )
 
 -- the running part behind those that ended
-with_running : (ended : List (List (Option Command))) (lines : List (Option Command)) (lists : List Asked) (lives : List Life) (last : Asked) (showed : Option Store) (calls : List Call) (replies : List Reply) → AreServed 0 ended lists (map served_in lives)
+with_running : (ended : List (List (Option Command))) (lines : List (Option Command)) (lists : List Asked) (lives : List PastLife) (last : Asked) (showed : Option Store) (calls : List Call) (replies : List Reply) → AreServed 0 ended lists (map served_in lives)
     → IsServed (total ended) lines last showed calls replies → AreServed 0 (ended ++ lines ∷ []) (lists ++ last ∷ []) (map served_in lives ++ (showed, calls, replies) ∷ [])
 with_running ended lines lists lives last showed calls replies before running =
     let same : total ended ≡ 0 + total ended = omega arith in
     served-append 0 ended (lines ∷ []) lists (last ∷ []) (map served_in lives) ((showed, calls, replies) ∷ []) before (subst (λ (n : ℕ). IsServed n lines last showed calls replies) same running, tt)
 
 -- the calls of the running part
-parts_run : (front lines : List (Option Command)) (lists : List Asked) (lives : List Life) (old_last : Asked) (showed : Option Store) (old_calls : List Call) (old_replies : List Reply) (last : Asked) (calls : List Call) (replies : List Reply)
+parts_run : (front lines : List (Option Command)) (lists : List Asked) (lives : List PastLife) (old_last : Asked) (showed : Option Store) (old_calls : List Call) (old_replies : List Reply) (last : Asked) (calls : List Call) (replies : List Reply)
     (p : Parts front lists lives old_last showed old_calls old_replies) → p.running ≡ [] → All IsCall lines → IsServed (numbers_in front) lines last showed calls replies → Parts (front ++ lines) lists lives last showed calls replies
 parts_run front lines lists lives old_last showed old_calls old_replies last calls replies p fresh alone is =
     let so_far : numbers_in front ≡ total p.ended = p.counted ∙ ap (λ (l : List (Option Command)). total p.ended + numbers_in l) fresh ∙ omega arith in
@@ -244,7 +244,7 @@ parts_run front lines lists lives old_last showed old_calls old_replies last cal
     }
 
 -- a crash or a reopening ends it, and an engine opens again
-parts_stop : (front : List (Option Command)) (stop : Option Command) (lists : List Asked) (lives : List Life) (last : Asked) (life : Life) (core : Held) (store : Store) → OpensAs core store → Parts front lists lives last life.showed life.calls life.replies
+parts_stop : (front : List (Option Command)) (stop : Option Command) (lists : List Asked) (lives : List PastLife) (last : Asked) (life : PastLife) (core : Held) (store : Store) → OpensAs core store → Parts front lists lives last life.showed life.calls life.replies
     → is_stop stop ≡ true → asks_number stop ≡ false → FreshParts (front ++ stop ∷ []) (lists ++ last ∷ []) (lives ++ life ∷ []) store
 parts_stop front stop lists lives last life core store opens p stops asks = (
   record {
@@ -268,7 +268,7 @@ parts_stop front stop lists lives last life core store opens p stops asks = (
 )
 
 -- each part has the calls of a life
-parts_are : (front : List (Option Command)) (lists : List Asked) (lives : List Life) (last : Asked) (showed : Option Store) (calls : List Call) (replies : List Reply) → Parts front lists lives last showed calls replies
+parts_are : (front : List (Option Command)) (lists : List Asked) (lives : List PastLife) (last : Asked) (showed : Option Store) (calls : List Call) (replies : List Reply) → Parts front lists lives last showed calls replies
     → AreServed 0 (slice_split is_stop front) (lists ++ last ∷ []) (map served_in lives ++ (showed, calls, replies) ∷ [])
 parts_are front lists lives last showed calls replies p =
     let whole : slice_split is_stop front ≡ p.ended ++ p.running ∷ [] = ap (slice_split is_stop) (sym (append-nil front)) ∙ p.split []
@@ -289,13 +289,13 @@ record IsFresh (running : List (Option Command)) (calls : List Call) (replies : 
 record LivedSo (commands rest : List (Option Command)) (ran : Bool) (printed : List (List ℕ)) (core : Held) (beside : Kept) : Type 0 where
   pub front : List (Option Command)
   pub split : commands ≡ front ++ rest
-  pub lives : List Life
+  pub lives : List PastLife
   pub disk : Meaning
   pub base : Store
   pub pending : List store.Command
   pub before : Lives (state_in new_disk) (bare no_keyspaces) lives (state_in disk) base pending
   pub first : Held
-  pub opened : OpensAmid disk first base pending
+  pub opened : OpensAfterCrash disk first base pending
   pub calls : List Call
   pub replies : List Reply
   pub run : Served first (kept (fold base opened.front)) opened.opens calls replies core
@@ -355,7 +355,7 @@ runs commands lines rest old new before beside printed made replies s alone are 
     let asked : Asked = record { made = made; replies = replies } in
     let here : RunsTx true s.first none_kept (all_calls made) replies new beside =
     subst (λ (h : Held). RunsTx true h none_kept (all_calls made) replies new beside) fresh.same_core (subst (λ (k : Kept). RunsTx true old k (all_calls made) replies new beside) fresh.none_beside ran) in
-    let served : Served s.first store opens here.made here.told new = here.safe refl (start_of s.first store opens) (begun s.first store) opens.state opens.reads opens.base in
+    let served : Served s.first store opens here.made here.told new = here.safe refl (start_of s.first store opens) (life_begun s.first store) opens.state opens.reads opens.base in
     let through = goes_on s.first store opens new beside asked here in
     let lived = replies_of s.lists in
     let so_far : lived ++ s.last.replies ≡ lived = ap (λ (a : Asked). lived ++ a.replies) fresh.not_asked ∙ append-nil lived in
@@ -407,7 +407,7 @@ runs commands lines rest old new before beside printed made replies s alone are 
     }
 
 -- the life that ended with the old core's
-abbrev life_of : (commands rest : List (Option Command)) (printed : List (List ℕ)) (old : Held) (beside : Kept) → LivedSo commands rest true printed old beside → List store.Command → Life
+abbrev life_of : (commands rest : List (Option Command)) (printed : List (List ℕ)) (old : Held) (beside : Kept) → LivedSo commands rest true printed old beside → List store.Command → PastLife
 life_of commands rest printed old beside s synced = record { showed = Some (kept (fold s.base s.opened.front)); calls = s.calls; replies = s.replies; tried = s.run.tried; synced = synced }
 
 -- one life more, of a core that ended so, and another opened on what it left

@@ -5,7 +5,7 @@ use Rattle.fjall_journal.specs.declared.recovery_mode.RecoveryMode.{RecoveryMode
 use Rattle.fjall_base.specs.Disk.{DiskState, Meaning, Missing, standing, state_in}
 use Rattle.fjall_base.specs.declared.error.Error.{Error}
 use Rattle.fjall_meta.specs.Keyspaces.{no_keyspaces}
-use Rattle.fjall_contents.specs.Replays.{bare}
+use Rattle.fjall_meta.specs.Replays.{bare}
 use Rattle.fjall_recovery.specs.Folders.{IsUnfinished}
 use Rattle.fjall_repair.specs.Making.{IsKept}
 use Rattle.fjall_repair.proofs.Standing.{kept_image, missing_stands, unfinished_of}

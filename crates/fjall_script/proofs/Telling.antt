@@ -3,9 +3,9 @@ use Rattle.std.proofs.Common.{◌≡◌, ℕ, ◌+◌, Bool, true, false, List, 
 use Rattle.std.proofs.lemmas.Bool.{true≢false}
 use Rattle.std.proofs.lemmas.List.{append-nil}
 use Rattle.fjall_base.specs.Store.{Command, Store, fold, kept}
-use Rattle.fjall_contents.proofs.Kept.{kept_along, kept_twice}
-use Rattle.fjall_contents.proofs.Slots.{fold-append}
-use Rattle.fjall_contents.specs.Replays.{bare}
+use Rattle.fjall_meta.proofs.Kept.{kept_along, kept_twice}
+use Rattle.fjall_meta.proofs.Slots.{fold-append}
+use Rattle.fjall_meta.specs.Replays.{bare}
 use Rattle.fjall_meta.specs.Keyspaces.{no_keyspaces}
 use Rattle.fjall_recovery.specs.Amid.{IsBeginning}
 use Rattle.fjall_history.specs.declared.reply.Reply.{Reply}

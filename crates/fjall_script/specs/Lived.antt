@@ -5,15 +5,15 @@ use Rattle.fjall_base.specs.Store.{Store, fold, kept}
 use Rattle.fjall_base.specs.Store as store
 use Rattle.fjall_base.specs.Disk.{Meaning, state_in}
 use Rattle.fjall_meta.specs.Keyspaces.{no_keyspaces}
-use Rattle.fjall_contents.specs.Replays.{bare}
+use Rattle.fjall_meta.specs.Replays.{bare}
 use Rattle.fjall_history.specs.declared.reply.Reply.{Reply}
 use Rattle.fjall_machine.specs.declared.call.Call.{Call}
 use Rattle.fjall_calls.specs.Holding.{Held}
 use Rattle.fjall_calls.specs.Crashes.{BlamesEach}
-use Rattle.fjall_consistency.specs.Lives.{IsFoldOf, Life, Lives, Served, all_left, begun, start_of}
-use Rattle.fjall_calls.specs.Openings.{OpensAmid, OpensAs}
+use Rattle.fjall_consistency.specs.Lives.{IsFoldOf, PastLife, Lives, Served, all_left, life_begun, start_of}
+use Rattle.fjall_calls.specs.Openings.{OpensAfterCrash, OpensAs}
 use Rattle.fjall_calls.specs.CoreStanding.{ReadsOn}
-use Rattle.fjall_calls.specs.Standing.{StandFor, Told}
+use Rattle.fjall_calls.specs.Standing.{StandFor, CoreState}
 use Rattle.fjall_calls.specs.Transactions.{Kept}
 use Rattle.fjall_calls.specs.declared.call.TxCall.{TxCall}
 use Rattle.fjall_calls.specs.Steps.{TxRun}
@@ -34,7 +34,7 @@ abbrev pub unasked : Asked
 unasked = record { made = []; replies = [] }
 
 -- the state of the machine that a core opened as, of which nothing is accepted since
-abbrev pub told_as : (core : Held) (store : Store) → OpensAs core store → Told
+abbrev pub told_as : (core : Held) (store : Store) → OpensAs core store → CoreState
 told_as core store opens = record { state = start_of core store opens; accepted = [] }
 
 -- A core that opened as this store, without transactions, went through the calls of a list by steps, which came to these calls of the
@@ -67,7 +67,7 @@ AreServed earlier (lines ∷ lists) (asked ∷ others) (life ∷ lives) = IsServ
 AreServed earlier lists others lives = ⊥
 
 -- what a life was shown, its calls and their replies
-abbrev pub served_in : Life → Option Store × List Call × List Reply
+abbrev pub served_in : PastLife → Option Store × List Call × List Reply
 served_in life = (life.showed, life.calls, life.replies)
 
 -- all replies of these lists, in order
@@ -86,17 +86,17 @@ made_of others = flat_map (λ asked. counts_of asked.made) others
 pub record HasLived (commands rest : List (Option Command)) (printed : List (List ℕ)) (core : Held) (beside : Kept) : Type 0 where
   pub front : List (Option Command)
   pub split : commands ≡ front ++ rest
-  pub lives : List Life
+  pub lives : List PastLife
   pub disk : Meaning
   pub base : Store
   pub pending : List store.Command
   pub before : Lives (state_in new_disk) (bare no_keyspaces) lives (state_in disk) base pending
   pub first : Held
-  pub opened : OpensAmid disk first base pending
+  pub opened : OpensAfterCrash disk first base pending
   pub calls : List Call
   pub replies : List Reply
   pub run : Served first (kept (fold base opened.front)) opened.opens calls replies core
-  pub device : BlamesEach (start_of first (kept (fold base opened.front)) opened.opens) (begun first (kept (fold base opened.front))) calls replies run.tried run.state run.durable run.run
+  pub device : BlamesEach (start_of first (kept (fold base opened.front)) opened.opens) (life_begun first (kept (fold base opened.front))) calls replies run.tried run.state run.durable run.run
   pub lists : List Asked
   pub last : Asked
   pub through : GoesThrough first (kept (fold base opened.front)) opened.opens last calls replies core beside

@@ -8,15 +8,15 @@ use Rattle.fjall_base.specs.Disk.{Meaning, IsImage, IsImageBy, SurvivesWild, dis
 use Rattle.fjall_base.specs.Store.{Command, Store}
 use Rattle.fjall_base.specs.declared.error.Error.{Error}
 use Rattle.fjall_base.specs.declared.error.Error.TheVariants.{Io, Locked, OutOfMemory}
-use Rattle.fjall_memory.specs.Wild.{Fills, filled}
+use Rattle.fjall_disk_memory.specs.Wild.{Fills, filled}
 use Rattle.fjall_meta.specs.Keyspaces.{no_keyspaces}
 use Rattle.fjall_table.specs.Blocks.{Entry}
-use Rattle.fjall_contents.specs.Replays.{bare}
+use Rattle.fjall_meta.specs.Replays.{bare}
 use Rattle.fjall_recovery.specs.Refusals.{HasRisen, HasTornTail}
 use Rattle.fjall_recovery.specs.Amid.{HoldsAmid}
 use Rattle.fjall_machine.specs.Remembered.{AreBeside}
 use Rattle.fjall_calls.specs.Holding.{Held}
-use Rattle.fjall_calls.specs.Openings.{IsDueTo, KeepsStore, Opens, OpensAmid, OpensAs, OpensOn}
+use Rattle.fjall_calls.specs.Openings.{IsDueTo, KeepsStore, StandsWhenOpened, OpensAfterCrash, OpensAs, OpensFolder}
 use Rattle.fjall_calls.specs.CoreStanding.{ClosesDisk, ClosesSafely, HoldsStore, OwesClosing, store_with_tables}
 
 -- A core that was opened on this disk in this mode: it stands for what stands there, and where the mode refuses a torn tail of
@@ -26,11 +26,11 @@ use Rattle.fjall_calls.specs.CoreStanding.{ClosesDisk, ClosesSafely, HoldsStore,
 -- entries their tables have.
 pub record OpenedOn (mode : RecoveryMode) (honest : Bool) (disk : Meaning) (core : Held) : Type 0 where
   pub untorn : IsTrue honest → mode ≡ RefuseTornTail → HasTornTail (standing (state_in disk)) → ⊥
-  pub opened : IsTrue honest → OpensOn disk core
+  pub opened : IsTrue honest → OpensFolder disk core
   pub safe : IsTrue honest → (store : Store) → HoldsStore (state_in disk) store → OpensAs core store
   pub any_moment : IsTrue honest → KeepsStore disk core.disk
-  pub amid : IsTrue honest → (base : Store) (pending : List Command) → HoldsAmid (state_in disk) base pending → OpensAmid disk core base pending
-  pub stands : (entries : ℕ → List (List Entry)) → AreBeside core.memory entries → (damaged : List ℕ) → Opens core (store_with_tables entries core) entries damaged core.memory.next
+  pub amid : IsTrue honest → (base : Store) (pending : List Command) → HoldsAmid (state_in disk) base pending → OpensAfterCrash disk core base pending
+  pub stands : (entries : ℕ → List (List Entry)) → AreBeside core.memory entries → (damaged : List ℕ) → StandsWhenOpened core (store_with_tables entries core) entries damaged core.memory.next
 
 -- A core refused to be opened on this disk in this mode, for its cause: `Io` only where the count of faults rose. Whatever store the
 -- disk held, a crash at each moment of the opening leaves it.

@@ -6,8 +6,8 @@ use Rattle.fjall_base.specs.Crash.{crashed}
 use Rattle.fjall_base.specs.Disk.{Meaning, IsImage, IsImageBy, SurvivesWild, disk_of, state_in}
 use Rattle.fjall_base.specs.declared.error.Error.{Error}
 use Rattle.fjall_base.specs.declared.error.Error.TheVariants.{OutOfMemory}
-use Rattle.fjall_memory.specs.Wild.{filled}
-use Rattle.fjall_wild.specs.Wild.{SurvivesUnforged}
+use Rattle.fjall_disk_memory.specs.Wild.{filled}
+use Rattle.fjall_recovery.specs.Wild.{SurvivesUnforged}
 use Rattle.fjall_calls.specs.Holding.{Held}
 use Rattle.fjall_calls.specs.Transactions.{Kept, none_kept}
 use Rattle.fjall_calls.specs.declared.call.TxCall.{TxCall}

@@ -1,14 +1,14 @@
 //! Where a session keeps its files: in memory, or in a folder.
 
 ghost use Rattle.std.specs.Prelude.{◌≡◌, IsTrue, IfErr, IfOk};
-ghost use Rattle.fjall_memory.specs.Wild.{fills_of};
+ghost use Rattle.fjall_disk_memory.specs.Wild.{fills_of};
 ghost use Rattle.fjall_script.specs.Machine.{IsNew, IsNoDisk};
 ghost use Rattle.fjall_script.specs.Sessions.{RestartLeaves};
 
 use fjall_base::{Disk, Result};
-use fjall_folder::FolderDisk;
+use fjall_disk_folder::FolderDisk;
+use fjall_disk_memory::MemoryDisk;
 use fjall_lines::{Command, Fills};
-use fjall_memory::MemoryDisk;
 use std::alloc::{AllocError, Global};
 
 /// Gives a session its disk, and gives it again after each crash and reopening.

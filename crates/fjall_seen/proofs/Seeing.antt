@@ -28,7 +28,7 @@ use Rattle.fjall_machine.specs.Shapes.{AsKeyspace, ByMode, OfCreation, OfRead, O
 use Rattle.fjall_machine.proofs.Viewing.{latest_grown}
 use Rattle.fjall_shared.specs.Holding.{Held}
 use Rattle.fjall_shared.specs.CoreStanding.{Owes, StandsFor, number_reply, reply_of, ticket_reply, value_reply}
-use Rattle.fjall_shared.specs.Standing.{CommitStep, IsCommitted, IsGone, IsIdle, IsMet, IsRefused, Told, history_of}
+use Rattle.fjall_shared.specs.Standing.{CommitStep, IsCommitted, IsGone, IsIdle, IsMet, IsRefused, CoreState, history_of}
 use Rattle.fjall_shared.specs.Transactions.{MeetsSome, Tx}
 use Rattle.fjall_shared.specs.Takings.{Lists, Never, taking}
 use Rattle.fjall_shared.specs.Locked.{IsTied, Locked, list_of}
@@ -40,11 +40,11 @@ use Rattle.fjall_seen.specs.Told.{CommitTold, EndsWithWrite, HasName, IsChangeCa
 use Rattle.fjall_seen.proofs.Causes.{change_cause, read_cause}
 
 -- the store after a history, as it is told
-pub same_latest : (t : Told) (list : History) → commands_of t.accepted ≡ commands_of t.state.history.accepted → history_of t ≡ list → latest t.state.history ≡ latest list
+pub same_latest : (t : CoreState) (list : History) → commands_of t.accepted ≡ commands_of t.state.history.accepted → history_of t ≡ list → latest t.state.history ≡ latest list
 same_latest t list same is = ap (λ l. fold t.state.history.opened l) (sym same) ∙ ap latest is
 
 -- a state that the engine stands for has the store of the list
-pub tied_present : (l : Locked) (t : Told) → IsTied l t → present t.state ≡ latest (list_of l)
+pub tied_present : (l : Locked) (t : CoreState) → IsTied l t → present t.state ≡ latest (list_of l)
 tied_present l t tied = same_latest t (list_of l) tied.stands.same tied.is
 
 -- ---- writes
@@ -201,7 +201,7 @@ collected_seat honest old new closes = λ i. record { table = collected_table ho
 meets_in : (instant : ℕ) (tx : Tx) (g h : History) → g ≡ h → MeetsSome instant tx.marks (commits g) → MeetsSome instant tx.marks (commits h)
 meets_in instant tx g h same = subst (λ (k : History). MeetsSome instant tx.marks (commits k)) same
 
-module _ (old new : Locked) (tx : Tx) (outcome : CommitOutcome Error) (t u : Told) (before : IsTied old t) (after : IsTied new u)
+module _ (old new : Locked) (tx : Tx) (outcome : CommitOutcome Error) (t u : CoreState) (before : IsTied old t) (after : IsTied new u)
     (at : get t.state.tickets.instants tx.ticket.id ≡ Some tx.ticket.instant) where
   abbrev Tells : CommitOutcome Error → Type 0
   Tells o = CommitTold tx o (list_of new)

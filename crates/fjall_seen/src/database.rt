@@ -3,7 +3,7 @@
 use crate::named::Named;
 use crate::naming::{Naming, Plain};
 use fjall_base::Disk;
-use fjall_word::Word;
+use fjall_history::Word;
 use std::alloc::Global;
 use std::marker::Model;
 use std::sync::{Arc, Mutex};

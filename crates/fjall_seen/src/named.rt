@@ -10,16 +10,16 @@ ghost use Rattle.fjall_history.specs.Histories.{latest, number, view};
 ghost use Rattle.fjall_history.specs.Moves.{HasGrown};
 ghost use Rattle.fjall_shared.specs.CoreStanding.{reply_of};
 ghost use Rattle.fjall_machine.specs.Shapes.{of_write};
-ghost use Rattle.fjall_shared.specs.Transactions.{begun, having_read, no_marks};
+ghost use Rattle.fjall_shared.specs.Transactions.{transaction_begun, having_read, no_marks};
 ghost use Rattle.fjall_shared.specs.Locked.{list_of};
 ghost use Rattle.fjall_shared.specs.Takings.{Lists, taking};
 ghost use Rattle.fjall_seen.specs.Told.{CommitTold, EndsWithWrite, HasName, IsChangeCause, IsReadCause};
 
 use crate::naming::Naming;
 use fjall_base::{Disk, Error, Result, UserValue};
+use fjall_history::SeenSeat;
 use fjall_options::KeyspaceCreateOptions;
 use fjall_shared::{CommitOutcome, Flag, Shared, Ticket, Transaction, View};
-use fjall_word::SeenSeat;
 use std::marker::{Model, PhantomData};
 
 // A locked state at the word of this name.
@@ -31,10 +31,10 @@ pub(crate) struct Named<D: Disk, J: Naming> {
 
 impl<D: Disk, J: Naming> Model for Named<D, J> {
     ghost use Rattle.std.specs.Coded.{codes};
-    ghost use Rattle.fjall_recovery.specs.Known.{records_code};
+    ghost use Rattle.fjall_replay.specs.Known.{records_code};
     ghost use Rattle.fjall_tx.specs.Places.{places_code};
     ghost use Rattle.fjall_machine.specs.Remembered.{handles_code};
-    ghost use Rattle.fjall_word.specs.Codes.{history_code};
+    ghost use Rattle.fjall_history.specs.Codes.{history_code};
     ghost use Rattle.fjall_shared.specs.Locked.{Locked};
     ghost use Rattle.fjall_seen.specs.Naming.{IsNamed};
 
@@ -187,7 +187,7 @@ impl<D: Disk, J: Naming> Named<D, J> {
         requires { J.table ≡ Some seat.old.table }
         ensures table { seat.new.table ≡ seat.old.table }
         ensures later { HasGrown seat.old.list seat.new.list }
-        ensures begun { IfOk result (λ tx. (tx ≡ begun (Some no_marks) tx.ticket) × (tx.ticket.instant ≡ number seat.new.list)) }
+        ensures begun { IfOk result (λ tx. (tx ≡ transaction_begun (Some no_marks) tx.ticket) × (tx.ticket.instant ≡ number seat.new.list)) }
     {
         self.close_dropped();
         let result = self.shared.begin_optimistic();

@@ -8,8 +8,8 @@ use crate::named::Named;
 use crate::naming::Naming;
 use crate::seen::Seen;
 use fjall_base::{Disk, Error, Refused};
+use fjall_history::{SeenSeat, Word};
 use fjall_shared::{Config, Shared};
-use fjall_word::{SeenSeat, Word};
 use std::alloc::Global;
 use std::marker::{Model, PhantomData};
 use std::result;
@@ -40,8 +40,8 @@ impl<D: Disk> Model for Opened<D> {
     ghost use Rattle.std.specs.Coded.{codes};
     ghost use Rattle.std.specs.Prelude.{◌≡◌};
     ghost use Rattle.std.specs.Arc.{arc_value};
-    ghost use Rattle.fjall_word.specs.Codes.{history_code};
-    ghost use Rattle.fjall_word.specs.Seats.{Place};
+    ghost use Rattle.fjall_history.specs.Codes.{history_code};
+    ghost use Rattle.fjall_history.specs.Seats.{Place};
 
     ghost Value = { Place };
 

@@ -8,16 +8,16 @@ ghost use Rattle.fjall_tx.specs.Marks.{OfKey};
 ghost use Rattle.fjall_tx.specs.Owns.{own_written};
 ghost use Rattle.fjall_history.specs.Histories.{latest, number, view};
 ghost use Rattle.fjall_history.specs.Moves.{HasGrown};
-ghost use Rattle.fjall_shared.specs.Transactions.{begun, having_read, no_marks};
+ghost use Rattle.fjall_shared.specs.Transactions.{transaction_begun, having_read, no_marks};
 ghost use Rattle.fjall_seen.specs.Told.{CommitTold, EndsWithWrite, HasName, IsChangeCause, IsReadCause};
 
 use crate::database::Database;
 use crate::handles::{Snapshot, WriteTransaction};
 use crate::naming::Naming;
 use fjall_base::{Disk, Error, Result, UserValue};
+use fjall_history::SeenSeat;
 use fjall_options::KeyspaceCreateOptions;
 use fjall_shared::{CommitOutcome, Flag};
-use fjall_word::SeenSeat;
 use std::alloc::{AllocError, Global};
 use std::marker::Model;
 use std::result;
@@ -46,7 +46,7 @@ impl<D: Disk + Drop, J: Naming> Model for Seen<D, J> {
     ghost use Rattle.std.specs.Coded.{codes};
     ghost use Rattle.std.specs.Prelude.{◌≡◌, Some};
     ghost use Rattle.fjall_history.specs.Histories.{History};
-    ghost use Rattle.fjall_word.specs.Codes.{history_code};
+    ghost use Rattle.fjall_history.specs.Codes.{history_code};
 
     ghost Value = { History };
 
@@ -143,7 +143,7 @@ impl<D: Disk + Drop, J: Naming> Seen<D, J> {
     /// before.
     pub fn begin_as<R: Wait>(&mut self, rt: &R, alloc: Global) -> Result<WriteTransaction<D, J>>
         ensures later { HasGrown self.old self.new }
-        ensures begun { IfOk result (λ w. (w.transaction ≡ begun (Some no_marks) w.transaction.ticket) × (w.transaction.ticket.instant ≡ number self.new)) }
+        ensures begun { IfOk result (λ w. (w.transaction ≡ transaction_begun (Some no_marks) w.transaction.ticket) × (w.transaction.ticket.instant ≡ number self.new)) }
     {
         let Ok(other) = Arc::try_clone(&self.database) else {
             return Err(Error::OutOfMemory);

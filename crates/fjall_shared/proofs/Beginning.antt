@@ -6,12 +6,12 @@ use Rattle.fjall_base.specs.Store.{Command, Store, fold, kept}
 use Rattle.fjall_recovery.specs.Amid.{IsBeginning, StandsAmid}
 use Rattle.fjall_history.specs.Histories.{History, number}
 use Rattle.fjall_machine.specs.Machine.{State}
-use Rattle.fjall_transactions.specs.Holding.{Held}
-use Rattle.fjall_transactions.specs.Openings.{ForHeld, IsLeftWildly, OpensAmid, OpensAs, OpensWithin, opened_as}
-use Rattle.fjall_transactions.specs.Standing.{Told}
-use Rattle.fjall_transactions.specs.Transactions.{none_kept}
-use Rattle.fjall_transactions.proofs.Standing.{opening_stands, same_number}
-use Rattle.fjall_word.specs.Seats.{unwritten}
+use Rattle.fjall_core.specs.Holding.{Held}
+use Rattle.fjall_core.specs.Openings.{ForHeld, IsLeftWildly, OpensAfterCrash, OpensAs, OpensBetween, state_when_opened}
+use Rattle.fjall_core.specs.Standing.{CoreState}
+use Rattle.fjall_core.specs.Transactions.{none_kept}
+use Rattle.fjall_core.proofs.Standing.{opening_stands, same_number}
+use Rattle.fjall_history.specs.Seats.{unwritten}
 use Rattle.atomic_table.specs.Seated.{TableId}
 use Rattle.fjall_shared.specs.Locked.{IsSettled, Locked}
 use Rattle.fjall_shared.specs.Openings.{IsLeftByEngine, IsOpenedFrom}
@@ -37,8 +37,8 @@ module _ (honest : Bool) (opened : Meaning) (core : Held) where
 
   opened_so : (store : Store) → OpensAs core store → IsOpenedFrom opened store → First
   opened_so store opens from =
-      let state : State = opened_as core store opens.entries [] opens.next in
-      let told : Told = record { state = state; accepted = [] } in
+      let state : State = state_when_opened core store opens.entries [] opens.next in
+      let told : CoreState = record { state = state; accepted = [] } in
       let stands = opening_stands core state opens.state (sound_opening state.history) refl in
       let same = same_number core none_kept told stands in (
         state.history,
@@ -54,8 +54,8 @@ module _ (honest : Bool) (opened : Meaning) (core : Held) where
         same,
       )
 
-  by_left : IsLeftByEngine opened → ForHeld opened (λ base pending. OpensAmid opened core base pending)
-      → ((base : Store) (least all : List Command) → IsLeftWildly (state_in opened) (StandsAmid base least all) → OpensWithin core base least all) → First
+  by_left : IsLeftByEngine opened → ForHeld opened (λ base pending. OpensAfterCrash opened core base pending)
+      → ((base : Store) (least all : List Command) → IsLeftWildly (state_in opened) (StandsAmid base least all) → OpensBetween core base least all) → First
   by_left (base, least, all, inl usual) amid wild =
       let o = amid base all usual.holds in
       let holds = subst (λ (l : List Command). IsBeginning l o.front) (sym usual.none) (o.front, refl) in
@@ -81,7 +81,7 @@ unknown opened core = (
     false_is : IsTrue false → ⊥
     false_is is = let bad : ⊥ = cc in bad
 
-pub begins : (honest : Bool) (opened : Meaning) (core : Held) → (IsTrue honest → IsLeftByEngine opened) → (IsTrue honest → ForHeld opened (λ base pending. OpensAmid opened core base pending))
-    → (IsTrue honest → (base : Store) (least all : List Command) → IsLeftWildly (state_in opened) (StandsAmid base least all) → OpensWithin core base least all) → First honest opened core
+pub begins : (honest : Bool) (opened : Meaning) (core : Held) → (IsTrue honest → IsLeftByEngine opened) → (IsTrue honest → ForHeld opened (λ base pending. OpensAfterCrash opened core base pending))
+    → (IsTrue honest → (base : Store) (least all : List Command) → IsLeftWildly (state_in opened) (StandsAmid base least all) → OpensBetween core base least all) → First honest opened core
 begins true opened core left amid wild = by_left true opened core (left refl) (amid refl) (wild refl)
 begins false opened core left amid wild = unknown opened core

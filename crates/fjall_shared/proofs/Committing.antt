@@ -18,16 +18,16 @@ use Rattle.fjall_history.specs.Histories.{Accepted, History, grown, number}
 use Rattle.fjall_machine.specs.Machine.{State, StepOf}
 use Rattle.fjall_machine.specs.Shapes.{ByMode, Close, OfChange, OfTickets, Persistence}
 use Rattle.fjall_machine.proofs.Viewing.{number_grown}
-use Rattle.fjall_transactions.specs.Holding.{Held}
-use Rattle.fjall_transactions.specs.CoreStanding.{Owes, ReadsOn, StandsFor}
-use Rattle.fjall_transactions.specs.Commits.{AsksFor, Comes, Commits, Ends, Fails, Gone, Idle, Lets, Meets, change_of}
-use Rattle.fjall_transactions.specs.Standing.{CommitGoesOn, CommitLeadsOn, CommitStep, IsCommitted, IsGone, IsIdle, IsMet, IsRefused, StandFor, Told, accepted_of, history_of}
-use Rattle.fjall_transactions.specs.Transactions.{Kept, Tx}
-use Rattle.fjall_transactions.proofs.Standing.{same_number}
-use Rattle.fjall_word.specs.Seats.{Place}
+use Rattle.fjall_core.specs.Holding.{Held}
+use Rattle.fjall_core.specs.CoreStanding.{Owes, ReadsOn, StandsFor}
+use Rattle.fjall_core.specs.Commits.{AsksFor, Comes, Commits, Ends, Fails, Gone, Idle, Lets, Meets, change_of}
+use Rattle.fjall_core.specs.Standing.{CommitGoesOn, CommitLeadsOn, CommitStep, IsCommitted, IsGone, IsIdle, IsMet, IsRefused, StandFor, CoreState, accepted_of, history_of}
+use Rattle.fjall_core.specs.Transactions.{Kept, Tx}
+use Rattle.fjall_core.proofs.Standing.{same_number}
+use Rattle.fjall_history.specs.Seats.{Place}
 use Rattle.fjall_shared.specs.Takings.{Adds, Always, Counts, Grows, May, Never, Taking, taking}
 use Rattle.fjall_shared.specs.Locked.{IsSettled, IsTied, Locked, list_of}
-use Rattle.fjall_places.specs.Labels.{Label}
+use Rattle.fjall_shared.specs.Labels.{Label}
 use Rattle.fjall_shared.specs.Does.{CommitLists, DoesCommit, entry_of}
 use Rattle.fjall_shared.proofs.Numbers.{owed_next}
 use Rattle.fjall_shared.proofs.Histories.{step_history}
@@ -46,29 +46,29 @@ same_start (May c) g h x (inr is) = ap (λ (k : History). record k { accepted = 
 closed_history : (s t : State) (id : ℕ) → StepOf s (OfTickets (Close id)) Done t → t.history ≡ s.history
 closed_history s t id step = step_history s t (OfTickets (Close id)) Done step
 
-told_so : (t : Told) (s : State) (x : List Accepted) (old : Told) → t.state.history ≡ s.history → t.accepted ≡ x → s.history ≡ old.state.history → x ≡ old.accepted → history_of t ≡ history_of old
+told_so : (t : CoreState) (s : State) (x : List Accepted) (old : CoreState) → t.state.history ≡ s.history → t.accepted ≡ x → s.history ≡ old.state.history → x ≡ old.accepted → history_of t ≡ history_of old
 told_so t s x old a b c d = ap (λ (p : History × List Accepted). record p.0 { accepted = p.1 }) (λ i. ((a ∙ c) i, (b ∙ d) i))
 
 -- it stays
-abbrev pub Same : Told → Told → Type 0
+abbrev pub Same : CoreState → CoreState → Type 0
 Same old new = history_of new ≡ history_of old
 
-pub idle_history : (old new : Told) (id : ℕ) → StepOf old.state (OfTickets (Close id)) Done new.state → new.accepted ≡ old.accepted → Same old new
+pub idle_history : (old new : CoreState) (id : ℕ) → StepOf old.state (OfTickets (Close id)) Done new.state → new.accepted ≡ old.accepted → Same old new
 idle_history old new id closes same = told_so new old.state old.accepted old (closed_history old.state new.state id closes) same refl refl
 
-pub refused_history : (old new : Told) (mid : State) (tx : Tx) (error : Error) → StepOf old.state (change_of tx) (Refused error) mid → StepOf mid (OfTickets (Close tx.ticket.id)) Done new.state
+pub refused_history : (old new : CoreState) (mid : State) (tx : Tx) (error : Error) → StepOf old.state (change_of tx) (Refused error) mid → StepOf mid (OfTickets (Close tx.ticket.id)) Done new.state
     → new.accepted ≡ old.accepted → Same old new
 refused_history old new mid tx error refused closes same =
     told_so new mid old.accepted old (closed_history mid new.state tx.ticket.id closes) same (step_history old.state mid (change_of tx) (Refused error) refused) refl
 
 -- or the transaction is its last entry
-pub committed_history : (old new : Told) (mid : State) (tx : Tx) (one : Accepted) → StepOf old.state (change_of tx) Done mid → StepOf mid (OfTickets (Close tx.ticket.id)) Done new.state
+pub committed_history : (old new : CoreState) (mid : State) (tx : Tx) (one : Accepted) → StepOf old.state (change_of tx) Done mid → StepOf mid (OfTickets (Close tx.ticket.id)) Done new.state
     → new.accepted ≡ old.accepted ++ one ∷ [] → history_of new ≡ grown (history_of old) one
 committed_history old new mid tx one made closes grew =
     ap (λ (p : History × List Accepted). record p.0 { accepted = p.1 }) (λ i. (closed_history mid new.state tx.ticket.id closes i, grew i))
     ∙ same_start (taking (change_of tx)) old.state.history mid.history (old.accepted ++ one ∷ []) (step_history old.state mid (change_of tx) Done made)
 
-pub commit_history : (old : Told) (tx : Tx) (outcome : CommitOutcome Error) (new : Told) → CommitStep old tx outcome new
+pub commit_history : (old : CoreState) (tx : Tx) (outcome : CommitOutcome Error) (new : CoreState) → CommitStep old tx outcome new
     → Same old new
     ⊎ ((instant : ℕ) × (get old.state.tickets.instants tx.ticket.id ≡ Some instant) × (history_of new ≡ grown (history_of old) (accepted_of instant tx.marks (items_of tx.own))))
 commit_history old tx outcome new (IsGone none told same) = inl (ap history_of same)
@@ -194,7 +194,7 @@ ends_flushes old core tx outcome new left (Lets instant opened commits mid comes
 module _ (honest : Bool) (old : Locked) (left : Held) (keeps : Kept) (after : Place) (tx : Tx) (outcome : CommitOutcome Error) (instant : ℕ)
     (settled : IsSettled honest old) (reads : (s : State) → StandsFor old.core s → (i : ℕ) → get s.tickets.instants tx.ticket.id ≡ Some i → i ≡ instant)
     (told : Grows (entry_of tx instant) old.core.memory.next left.memory.next (list_of old) after.list) (owes : Ends Owes old.kept old.core tx outcome keeps left)
-    (goes : IsTrue honest → (t : Told) → StandFor old.core old.kept t → ReadsOn old.core t.state → CommitGoesOn old.core t tx outcome left keeps) where
+    (goes : IsTrue honest → (t : CoreState) → StandFor old.core old.kept t → ReadsOn old.core t.state → CommitGoesOn old.core t tx outcome left keeps) where
   abbrev new : Locked
   new = record old { core = left; kept = keeps; seat = after }
 
@@ -209,12 +209,12 @@ module _ (honest : Bool) (old : Locked) (left : Held) (keeps : Kept) (after : Pl
       told_number_of one old.core.memory.next left.memory.next (list_of old) after.list (old.core.memory.next == left.memory.next) refl settled.next
       (same_or_next (items_of tx.own) outcome old.core.memory.next left.memory.next counts) told
 
-  grew : (t u : Told) → IsTied old t → Same t u ⊎ ((i : ℕ) × (get t.state.tickets.instants tx.ticket.id ≡ Some i) × (history_of u ≡ grown (history_of t) (accepted_of i tx.marks (items_of tx.own))))
+  grew : (t u : CoreState) → IsTied old t → Same t u ⊎ ((i : ℕ) × (get t.state.tickets.instants tx.ticket.id ≡ Some i) × (history_of u ≡ grown (history_of t) (accepted_of i tx.marks (items_of tx.own))))
       → (history_of u ≡ list_of old) ⊎ (history_of u ≡ grown (list_of old) one)
   grew t u tied (inl same) = inl (same ∙ tied.is)
   grew t u tied (inr (i, opened, more)) = inr (more ∙ (λ j. grown (tied.is j) (accepted_of (reads t.state tied.stands.machine i opened j) tx.marks (items_of tx.own))))
 
-  steps : IsTrue honest → (t : Told) → IsTied old t → (u : Told) × IsTied new u × CommitStep t tx outcome u × CommitLeadsOn old.core t.state tx outcome left u.state
+  steps : IsTrue honest → (t : CoreState) → IsTied old t → (u : CoreState) × IsTied new u × CommitStep t tx outcome u × CommitLeadsOn old.core t.state tx outcome left u.state
   steps is t tied =
       let (u, stands, on, step, led) = goes is t tied.stands tied.reads in
       let at : number (list_of old) ≡ old.core.memory.next = sym settled.next in

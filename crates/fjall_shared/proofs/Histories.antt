@@ -7,17 +7,17 @@ use Rattle.fjall_base.specs.Store.{Command, Create, Delete}
 use Rattle.fjall_base.specs.declared.error.Error.{Error}
 use Rattle.fjall_base.specs.declared.error.Error.TheVariants.{Io, NumbersUsedUp, OutOfMemory, Poisoned, Storage, TooManyItems, ValueTooLong}
 use Rattle.fjall_compaction.specs.Ingests.{ingestion}
-use Rattle.fjall_writes.specs.Ingestions.{KeyOp}
+use Rattle.fjall_reading.specs.Ingestions.{KeyOp}
 use Rattle.fjall_journal.specs.Changes.{Emptied, Items}
-use Rattle.fjall_contents.specs.Replays.{option_pairs}
+use Rattle.fjall_meta.specs.Replays.{option_pairs}
 use Rattle.fjall_history.specs.declared.job.JobId.{JobId}
 use Rattle.fjall_history.specs.declared.reply.Reply.{Reply}
 use Rattle.fjall_history.specs.declared.reply.Reply.TheVariants.{Refused}
 use Rattle.fjall_history.specs.Histories.{Accepted, History, commands_of, grown, plain}
 use Rattle.fjall_machine.specs.Shapes.{OfChange, OfCount, OfCreation, OfDeletion, OfFlushBegin, OfFlushFinish, OfHandle, OfIngestion, OfJournalRotation, OfMaintenance, OfMergeBegin, OfMergeFinish, OfPersist, OfRead, OfRotation, OfTickets, OneLess, OneMore, CallShape}
 use Rattle.fjall_machine.specs.Machine.{Answers, BeginsFlush, BeginsMerge, CreatesOrFinds, EvictsSome, FinishesFlush, FinishesMerge, IngestionFails, IngestsInto, IsPoisoned, MayFail, Refuses, State, StepOf, WorkFails, at_fault, begins_flush, begins_merge, deleted, due, is_flushing, is_merging}
-use Rattle.fjall_machine.specs.Machine.{is_living, is_long, journal_rotated, journal_synced, present, rotated, rotates, takes_effect, written_out}
-use Rattle.fjall_transactions.specs.Standing.{Told, gone_on, history_of}
+use Rattle.fjall_machine.specs.Machine.{is_living, is_long, journal_rotated, journal_synced, present, rotated, rotates, takes_effect, parts_written_out}
+use Rattle.fjall_core.specs.Standing.{CoreState, gone_on, history_of}
 use Rattle.fjall_shared.specs.Takings.{Adds, Always, Lists, May, Never, Taking, taking}
 
 abbrev history : State → History
@@ -48,7 +48,7 @@ fault_history s (OfCount count) = refl
 synced_history : (s : State) → (journal_synced s).history ≡ s.history
 synced_history s = by (is_long s.parts)
   where
-    by : (b : Bool) → (if b then journal_rotated s else record s { parts = written_out s.parts 0 }).history ≡ s.history
+    by : (b : Bool) → (if b then journal_rotated s else record s { parts = parts_written_out s.parts 0 }).history ≡ s.history
     by true = refl
     by false = refl
 
@@ -160,23 +160,23 @@ step_history s t shape reply (none, answers) = answer_history s t shape reply an
 
 -- ---- as it is told
 
-same_told : (t : Told) (s : State) → s.history ≡ t.state.history → history_of (gone_on t s) ≡ history_of t
+same_told : (t : CoreState) (s : State) → s.history ≡ t.state.history → history_of (gone_on t s) ≡ history_of t
 same_told t s e =
     ap (λ (h : History). record h { accepted = t.accepted ++ map plain (commands_of (drop (length t.state.history.accepted) h.accepted)) }) e
     ∙ ap (λ (l : List Accepted). record t.state.history { accepted = t.accepted ++ map plain (commands_of l) }) (drop-length t.state.history.accepted)
     ∙ ap (λ (l : List Accepted). record t.state.history { accepted = l }) (append-nil t.accepted)
 
-more_told : (t : Told) (s : State) (command : Command) → s.history ≡ grown t.state.history (plain command) → history_of (gone_on t s) ≡ grown (history_of t) (plain command)
+more_told : (t : CoreState) (s : State) (command : Command) → s.history ≡ grown t.state.history (plain command) → history_of (gone_on t s) ≡ grown (history_of t) (plain command)
 more_told t s command e =
     ap (λ (h : History). record h { accepted = t.accepted ++ map plain (commands_of (drop (length t.state.history.accepted) h.accepted)) }) e
     ∙ ap (λ (l : List Accepted). record t.state.history { accepted = t.accepted ++ map plain (commands_of l) }) (drop-append_seam t.state.history.accepted (plain command ∷ []))
 
-adds_told : (t : Told) (s : State) (takes : Taking) → Adds takes t.state.history s.history → Adds takes (history_of t) (history_of (gone_on t s))
+adds_told : (t : CoreState) (s : State) (takes : Taking) → Adds takes t.state.history s.history → Adds takes (history_of t) (history_of (gone_on t s))
 adds_told t s Never same = same_told t s same
 adds_told t s (Always command) grew = more_told t s command grew
 adds_told t s (May command) (inl same) = inl (same_told t s same)
 adds_told t s (May command) (inr grew) = inr (more_told t s command grew)
 
-pub lists_told : (t : Told) (s : State) (takes : Taking) (reply : Reply) → Lists takes reply t.state.history s.history → Lists takes reply (history_of t) (history_of (gone_on t s))
+pub lists_told : (t : CoreState) (s : State) (takes : Taking) (reply : Reply) → Lists takes reply t.state.history s.history → Lists takes reply (history_of t) (history_of (gone_on t s))
 lists_told t s takes (Refused error) same = same_told t s same
 lists_told t s takes reply adds = adds_told t s takes adds

@@ -14,11 +14,11 @@ use Rattle.fjall_machine.specs.Machine.{BeginsMerge, State, StepOf, begins_merge
 use Rattle.fjall_machine.specs.Merging.{KnowsMerge}
 use Rattle.fjall_machine.specs.Shapes.{CallShape, OfFlushBegin, OfFlushFinish, OfMergeBegin, OfMergeFinish}
 use Rattle.fjall_machine.specs.declared.merge_kind.MergeKind.{MergeKind}
-use Rattle.fjall_transactions.specs.Holding.{Held}
-use Rattle.fjall_transactions.specs.CoreStanding.{KnowsIfDue, KnowsMergeIfDue, Owes, ReadsOn, Serves, ServesWhere, StandsFor, flag_reply, job_of}
-use Rattle.fjall_places.specs.Labels.{Label}
-use Rattle.fjall_transactions.specs.Standing.{GoesOn, Told}
-use Rattle.fjall_transactions.proofs.Standing.{served_goes_on, shape_stands}
+use Rattle.fjall_core.specs.Holding.{Held}
+use Rattle.fjall_core.specs.CoreStanding.{KnowsIfDue, KnowsMergeIfDue, Owes, ReadsOn, Serves, ServesWhere, StandsFor, flag_reply, job_of}
+use Rattle.fjall_shared.specs.Labels.{Label}
+use Rattle.fjall_core.specs.Standing.{GoesOn, CoreState}
+use Rattle.fjall_core.proofs.Standing.{served_goes_on, shape_stands}
 use Rattle.fjall_shared.specs.Takings.{Never, Says, Taking, taking}
 use Rattle.fjall_shared.specs.Locked.{IsSettled, IsTied, KnowsMergeOf, Locked, list_of}
 use Rattle.fjall_shared.specs.Does.{FinishesJob, IsFinished, MakesCall, begin_reply, with_begun, with_flushes, with_merges, without_finished}
@@ -78,8 +78,8 @@ written_back jobs new len is same =
 
 module _ (honest : Bool) (old : Locked) (core : Held) (flushes merges : List Label) (shape : CallShape) (reply : Reply) (never : taking shape ≡ Never)
     (settled : IsSettled honest old) (owes : Owes old.core shape reply core) (flushes_are : All (KnowsFlushOf core) flushes)
-    (merges_are : IsTrue honest → (t : Told) → IsTied old t → (s : State) → StepOf t.state shape reply s → All (KnowsMergeOf s) merges)
-    (goes : IsTrue honest → (t : Told) → IsTied old t → GoesOn old.core t shape reply core old.kept) where
+    (merges_are : IsTrue honest → (t : CoreState) → IsTied old t → (s : State) → StepOf t.state shape reply s → All (KnowsMergeOf s) merges)
+    (goes : IsTrue honest → (t : CoreState) → IsTied old t → GoesOn old.core t shape reply core old.kept) where
   abbrev new : Locked
   new = record old { core = core; flushes = flushes; merges = merges }
 
@@ -111,10 +111,10 @@ module _ (honest : Bool) (old : Locked) (core : Held) (id : ℕ) (result : Resul
   known : All (KnowsFlushOf core) out_now
   known = all_begun (KnowsFlushOf core) old.flushes result (flushes_stay old.core core beginning (begin_reply result) owes old.flushes settled.knows) knows
 
-  known_merges : IsTrue honest → (t : Told) → IsTied old t → (s : State) → StepOf t.state beginning (begin_reply result) s → All (KnowsMergeOf s) old.merges
+  known_merges : IsTrue honest → (t : CoreState) → IsTied old t → (s : State) → StepOf t.state beginning (begin_reply result) s → All (KnowsMergeOf s) old.merges
   known_merges is t tied s step = merges_stay old.core t.state s beginning (begin_reply result) tied.stands.machine step old.merges tied.knows
 
-  goes : IsTrue honest → (t : Told) → IsTied old t → GoesOn old.core t beginning (begin_reply result) core old.kept
+  goes : IsTrue honest → (t : CoreState) → IsTied old t → GoesOn old.core t beginning (begin_reply result) core old.kept
   goes is t tied = served_goes_on old.core core old.kept t beginning (begin_reply result) tied.stands tied.reads (serves is)
 
   pub flush_settles : IsSettled honest (with_flushes out_now (record old { core = core }))
@@ -138,10 +138,10 @@ module _ (honest : Bool) (old : Locked) (core : Held) (place : ℕ) (label : Lab
   left_known : All (KnowsFlushOf core) out_still
   left_known = all_finished (KnowsFlushOf core) place old.flushes result (flushes_stay old.core core finishing (flag_reply result) owes old.flushes settled.knows)
 
-  left_merges : IsTrue honest → (t : Told) → IsTied old t → (s : State) → StepOf t.state finishing (flag_reply result) s → All (KnowsMergeOf s) old.merges
+  left_merges : IsTrue honest → (t : CoreState) → IsTied old t → (s : State) → StepOf t.state finishing (flag_reply result) s → All (KnowsMergeOf s) old.merges
   left_merges is t tied s step = merges_stay old.core t.state s finishing (flag_reply result) tied.stands.machine step old.merges tied.knows
 
-  finish_goes : IsTrue honest → (t : Told) → IsTied old t → GoesOn old.core t finishing (flag_reply result) core old.kept
+  finish_goes : IsTrue honest → (t : CoreState) → IsTied old t → GoesOn old.core t finishing (flag_reply result) core old.kept
   finish_goes is t tied = served_goes_on old.core core old.kept t finishing (flag_reply result) tied.stands tied.reads (serves is)
 
   pub flushed_settles : IsSettled honest (with_flushes out_still (record old { core = core }))
@@ -174,12 +174,12 @@ module _ (honest : Bool) (old : Locked) (core : Held) (kind : MergeKind) (id : �
   one_known (Ok None) s t step is = tt
   one_known (Err error) s t step is = tt
 
-  begun_merges : IsTrue honest → (t : Told) → IsTied old t → (s : State) → StepOf t.state merging (begin_reply result) s → All (KnowsMergeOf s) out_then
+  begun_merges : IsTrue honest → (t : CoreState) → IsTied old t → (s : State) → StepOf t.state merging (begin_reply result) s → All (KnowsMergeOf s) out_then
   begun_merges is t tied s step =
       all_begun (KnowsMergeOf s) old.merges result (merges_stay old.core t.state s merging (begin_reply result) tied.stands.machine step old.merges tied.knows)
       (one_known result t.state s step (knows is t.state tied.stands.machine tied.reads))
 
-  begin_goes : IsTrue honest → (t : Told) → IsTied old t → GoesOn old.core t merging (begin_reply result) core old.kept
+  begin_goes : IsTrue honest → (t : CoreState) → IsTied old t → GoesOn old.core t merging (begin_reply result) core old.kept
   begin_goes is t tied = served_goes_on old.core core old.kept t merging (begin_reply result) tied.stands tied.reads (serves is)
 
   pub merge_settles : IsSettled honest (with_merges out_then (record old { core = core }))
@@ -199,13 +199,13 @@ module _ (honest : Bool) (old : Locked) (core : Held) (place target : ℕ) (task
   abbrev out_yet : List Label
   out_yet = without_finished result place old.merges
 
-  joined_merges : IsTrue honest → (t : Told) → IsTied old t → (s : State) → StepOf t.state joining (flag_reply result) s → All (KnowsMergeOf s) out_yet
+  joined_merges : IsTrue honest → (t : CoreState) → IsTied old t → (s : State) → StepOf t.state joining (flag_reply result) s → All (KnowsMergeOf s) out_yet
   joined_merges is t tied s step = all_finished (KnowsMergeOf s) place old.merges result (merges_stay old.core t.state s joining (flag_reply result) tied.stands.machine step old.merges tied.knows)
 
   joined_flushes : All (KnowsFlushOf core) old.flushes
   joined_flushes = flushes_stay old.core core joining (flag_reply result) owes old.flushes settled.knows
 
-  join_goes : IsTrue honest → (t : Told) → IsTied old t → GoesOn old.core t joining (flag_reply result) core old.kept
+  join_goes : IsTrue honest → (t : CoreState) → IsTied old t → GoesOn old.core t joining (flag_reply result) core old.kept
   join_goes is t tied =
       let label : Label = record { task = task; target = Some target } in
       let knows : KnowsMerge t.state target task = at_place (KnowsMergeOf t.state) old.merges place label out tied.knows in

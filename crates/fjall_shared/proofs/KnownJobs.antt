@@ -11,13 +11,13 @@ use Rattle.fjall_machine.specs.Remembered.{KnowsTask}
 use Rattle.fjall_machine.specs.Shapes.{CallShape, Close, OfTickets}
 use Rattle.fjall_machine.proofs.KnownMerges.{a_known_merge_stays}
 use Rattle.fjall_machine.proofs.QuietSteps.{quiet_stays}
-use Rattle.fjall_transactions.specs.Holding.{Held}
-use Rattle.fjall_transactions.specs.CoreStanding.{Owes, StandsFor}
-use Rattle.fjall_transactions.proofs.KeptJobs.{flush_known}
-use Rattle.fjall_places.specs.Labels.{Label}
-use Rattle.fjall_transactions.specs.Commits.{change_of}
-use Rattle.fjall_transactions.specs.Standing.{CommitStep, IsCommitted, IsGone, IsIdle, IsMet, IsRefused, Told}
-use Rattle.fjall_transactions.specs.Transactions.{Tx}
+use Rattle.fjall_core.specs.Holding.{Held}
+use Rattle.fjall_core.specs.CoreStanding.{Owes, StandsFor}
+use Rattle.fjall_core.proofs.KeptJobs.{flush_known}
+use Rattle.fjall_shared.specs.Labels.{Label}
+use Rattle.fjall_core.specs.Commits.{change_of}
+use Rattle.fjall_core.specs.Standing.{CommitStep, IsCommitted, IsGone, IsIdle, IsMet, IsRefused, CoreState}
+use Rattle.fjall_core.specs.Transactions.{Tx}
 use Rattle.fjall_tx.specs.declared.outcome.CommitOutcome.{CommitOutcome}
 use Rattle.fjall_shared.specs.Locked.{KnowsMergeOf}
 
@@ -42,8 +42,8 @@ merges_stay core s t shape reply stands step jobs known = λ i d lt.
 quiet_merges : (s t : State) (shape : CallShape) (reply : Reply) → IsQuiet shape → StepOf s shape reply t → (jobs : List Label) → All (KnowsMergeOf s) jobs → All (KnowsMergeOf t) jobs
 quiet_merges s t shape reply quiet step jobs known = λ i d lt. merge_stays s t (quiet_stays s shape reply t quiet step) (get_or jobs i d).target (get_or jobs i d).task (known i d lt)
 
-pub commit_merges : (jobs : List Label) (old new : Told) (tx : Tx) (outcome : CommitOutcome Error) → CommitStep old tx outcome new → All (KnowsMergeOf old.state) jobs → All (KnowsMergeOf new.state) jobs
-commit_merges jobs old new tx outcome (IsGone none told same) known = subst (λ (t : Told). All (KnowsMergeOf t.state) jobs) (sym same) known
+pub commit_merges : (jobs : List Label) (old new : CoreState) (tx : Tx) (outcome : CommitOutcome Error) → CommitStep old tx outcome new → All (KnowsMergeOf old.state) jobs → All (KnowsMergeOf new.state) jobs
+commit_merges jobs old new tx outcome (IsGone none told same) known = subst (λ (t : CoreState). All (KnowsMergeOf t.state) jobs) (sym same) known
 commit_merges jobs old new tx outcome (IsIdle instant opened none told closes same) known = quiet_merges old.state new.state (OfTickets (Close tx.ticket.id)) Done tt closes jobs known
 commit_merges jobs old new tx outcome (IsMet instant opened some meets told closes same) known = quiet_merges old.state new.state (OfTickets (Close tx.ticket.id)) Done tt closes jobs known
 commit_merges jobs old new tx outcome (IsRefused instant opened some apart error told mid refused closes same) known =

@@ -1,3 +1,4 @@
+mod Places
 pub mod Numbers
 pub mod Histories
 pub mod KnownJobs

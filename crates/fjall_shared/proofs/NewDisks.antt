@@ -2,11 +2,11 @@
 use Rattle.std.proofs.Common.{◌≡◌, inl, false, [], None, refl, subst, sym}
 use Rattle.fjall_base.specs.Disk.{Image, IsImage, Meaning, Missing, disk_of}
 use Rattle.fjall_meta.specs.Keyspaces.{no_keyspaces}
-use Rattle.fjall_contents.specs.Replays.{bare}
+use Rattle.fjall_meta.specs.Replays.{bare}
 use Rattle.fjall_repair.proofs.Standing.{missing_stands, unfinished_of}
-use Rattle.fjall_transactions.specs.CoreStanding.{HoldsStore}
-use Rattle.fjall_transactions.proofs.CrashedDisks.{left_holds}
-use Rattle.fjall_transactions.proofs.Reopening.{holds_store_amid}
+use Rattle.fjall_core.specs.CoreStanding.{HoldsStore}
+use Rattle.fjall_core.proofs.CrashedDisks.{left_holds}
+use Rattle.fjall_core.proofs.Reopening.{holds_store_amid}
 use Rattle.fjall_shared.specs.Openings.{IsLeftByEngine}
 
 -- nothing stands anywhere

@@ -8,14 +8,14 @@ use Rattle.fjall_history.specs.declared.reply.Reply.{Reply}
 use Rattle.fjall_history.specs.declared.reply.Reply.TheVariants.{Refused}
 use Rattle.fjall_journal.specs.Changes.{Change, Emptied, Items}
 use Rattle.fjall_journal.specs.Writer.{written_out}
-use Rattle.fjall_writes.specs.Ingestions.{KeyOp}
+use Rattle.fjall_reading.specs.Ingestions.{KeyOp}
 use Rattle.fjall_machine.specs.Machine.{begins_flush, is_flushing, is_living, is_merging, rotates}
 use Rattle.fjall_machine.specs.Remembered.{Remembered}
 use Rattle.fjall_machine.specs.Remembered as memory
 use Rattle.fjall_machine.specs.Shapes.{OfChange, OfCount, OfCreation, OfDeletion, OfFlushBegin, OfFlushFinish, OfHandle, OfIngestion, OfJournalRotation, OfMaintenance, OfMergeBegin, OfMergeFinish, OfPersist, OfRead, OfRotation, OfTickets, OneLess, OneMore, Persistence, CallShape}
-use Rattle.fjall_transactions.specs.Holding.{Held}
-use Rattle.fjall_transactions.specs.CoreStanding.{EvictsInMemory, FindsDisorder, Gives, IngestionPoisons, Looks, LooksAt, Owes, OwesBegin, OwesChange, OwesFailure, OwesFinish, OwesIngestion, OwesMerge, OwesMergeBegin}
-use Rattle.fjall_transactions.specs.CoreStanding.{OwesRefusal, RanOut, WorkPoisons, at_fault, begins_merge_in, evicted_in_memory, held_due, is_long, journal_synced, store_in, tables_of, takes_effect}
+use Rattle.fjall_core.specs.Holding.{Held}
+use Rattle.fjall_core.specs.CoreStanding.{EvictsInMemory, FindsDisorder, Gives, IngestionPoisons, Looks, LooksAt, Owes, OwesBegin, OwesChange, OwesFailure, OwesFinish, OwesIngestion, OwesMerge, OwesMergeBegin}
+use Rattle.fjall_core.specs.CoreStanding.{OwesRefusal, RanOut, WorkPoisons, memory_at_fault, begins_merge_in, evicted_in_memory, held_due, is_journal_long, journal_synced_in, store_in, tables_of, takes_effect_in}
 use Rattle.fjall_shared.specs.Takings.{Counts, CountsOn, taking}
 
 module _ (old new : Held) where
@@ -28,7 +28,7 @@ module _ (old new : Held) where
   becomes : (m : Remembered) → new.memory ≡ m → m.next ≡ old.memory.next → Still
   becomes m is same = ap (λ (k : Remembered). k.next) is ∙ same
 
-  fault_next : (shape : CallShape) → (at_fault shape old.memory).next ≡ old.memory.next
+  fault_next : (shape : CallShape) → (memory_at_fault shape old.memory).next ≡ old.memory.next
   fault_next (OfHandle OneLess id) = refl
   fault_next (OfHandle OneMore id) = refl
   fault_next (OfChange change how) = refl
@@ -57,17 +57,17 @@ module _ (old new : Held) where
   evicts_next : (m left : Remembered) → EvictsInMemory m left → left.next ≡ m.next
   evicts_next m left (gone, rest, stopped, is) = ap (λ (k : Remembered). k.next) is
 
-  sealed_next : (long : Bool) (len : ℕ) → (if long then memory.journal_rotated len old.memory else old.memory).next ≡ old.memory.next
+  sealed_next : (long : Bool) (len : ℕ) → (if long then memory.journal_rotated_in_memory len old.memory else old.memory).next ≡ old.memory.next
   sealed_next true len = refl
   sealed_next false len = refl
 
-  synced_next : (journal_synced old).next ≡ old.memory.next
-  synced_next = sealed_next (is_long old.journal) (written_out old.journal).len
+  synced_next : (journal_synced_in old).next ≡ old.memory.next
+  synced_next = sealed_next (is_journal_long old.journal) (written_out old.journal).len
 
   ingestion_next : (id : ℕ) (items : List KeyOp) → IngestionPoisons old id items new → Still
   ingestion_next id items (inl fault) = becomes (memory.poisoned old.memory) fault.memory_is refl
-  ingestion_next id items (inr (inl fault)) = becomes (memory.poisoned (journal_synced old)) fault.memory_is synced_next
-  ingestion_next id items (inr (inr (mid, left, f, evicts, fault))) = becomes (memory.poisoned (memory.with_sealed left.journals.sealed (journal_synced old))) fault.memory_is synced_next
+  ingestion_next id items (inr (inl fault)) = becomes (memory.poisoned (journal_synced_in old)) fault.memory_is synced_next
+  ingestion_next id items (inr (inr (mid, left, f, evicts, fault))) = becomes (memory.poisoned (memory.with_sealed_in_memory left.journals.sealed (journal_synced_in old))) fault.memory_is synced_next
 
   work_next : (shape : CallShape) → WorkPoisons old shape new → Still
   work_next (OfFlushBegin id) (begins, free, fault) = becomes (memory.poisoned old.memory) fault.memory_is refl
@@ -115,7 +115,7 @@ module _ (old new : Held) where
   disorder_next shape none = absurd none
 
   failure_next : (shape : CallShape) (error : Error) → OwesFailure old shape error new → Still
-  failure_next shape (Io kind) (inl (changes, fault)) = becomes (memory.poisoned (at_fault shape old.memory)) fault.memory_is (fault_next shape)
+  failure_next shape (Io kind) (inl (changes, fault)) = becomes (memory.poisoned (memory_at_fault shape old.memory)) fault.memory_is (fault_next shape)
   failure_next shape (Io kind) (inr (inl (reads, looks, rose))) = looks_next looks
   failure_next shape (Io kind) (inr (inr fails)) = work_next shape fails
   failure_next shape OutOfMemory (takes, out) = out_next shape out
@@ -136,12 +136,12 @@ module _ (old new : Held) where
   change_next (Items (item ∷ items)) how grows = ap (λ (k : Remembered). k.next) grows.memory_is
   change_next (Emptied id) how grows = ap (λ (k : Remembered). k.next) grows.memory_is
 
-  rotation_next : (id : ℕ) (seals : Bool) → new ≡ (if seals then record old { memory = memory.rotated id old.memory } else old) → Still
+  rotation_next : (id : ℕ) (seals : Bool) → new ≡ (if seals then record old { memory = memory.rotated_in_memory id old.memory } else old) → Still
   rotation_next id true is = ap (λ (h : Held). h.memory.next) is
   rotation_next id false is = same_core is
 
   begin_next : (id : ℕ) (reply : Reply) (begins : Bool) → OwesBegin begins old id reply new → Still
-  begin_next id reply true (told, free, at) = becomes (memory.flush_out id (journal_synced old)) at.memory_is synced_next
+  begin_next id reply true (told, free, at) = becomes (memory.flush_out_in_memory id (journal_synced_in old)) at.memory_is synced_next
   begin_next id reply false (told, same) = same_core same
 
   finish_next : (job : JobId) (reply : Reply) (out takes : Bool) → OwesFinish out takes old job reply new → Still
@@ -150,7 +150,7 @@ module _ (old new : Held) where
   finish_next job reply false takes (told, same) = same_core same
 
   merge_begin_next : (id : ℕ) (reply : Reply) (begins : Bool) → OwesMergeBegin begins old id reply new → Still
-  merge_begin_next id reply true (told, numbered, at) = becomes (memory.with_trees new.memory.trees (memory.merge_out id old.memory)) at.memory_is refl
+  merge_begin_next id reply true (told, numbered, at) = becomes (memory.with_trees new.memory.trees (memory.merge_out_in_memory id old.memory)) at.memory_is refl
   merge_begin_next id reply false (told, same) = same_core same
 
   merge_next : (job : JobId) (reply : Reply) (out lives : Bool) → OwesMerge out lives old job reply new → Still
@@ -171,11 +171,11 @@ module _ (old new : Held) where
   gives_next (OfDeletion id) reply (told, inl (gone, same)) = inl (same_core same)
   gives_next (OfDeletion id) reply (told, inr (living, deletes)) = inr (ap (λ (k : Remembered). k.next) deletes.memory_is)
   gives_next (OfHandle OneMore id) reply (told, is) = ap (λ (h : Held). h.memory.next) is
-  gives_next (OfHandle OneLess id) reply (told, counts) = becomes (memory.released id old.memory) counts.memory_is refl
+  gives_next (OfHandle OneLess id) reply (told, counts) = becomes (memory.released_in_memory id old.memory) counts.memory_is refl
   gives_next (OfRotation id) reply (told, is) = rotation_next id (rotates old.memory.trees id) is
-  gives_next OfJournalRotation reply (told, turns) = becomes (memory.journal_rotated (written_out old.journal).len old.memory) turns.memory_is refl
+  gives_next OfJournalRotation reply (told, turns) = becomes (memory.journal_rotated_in_memory (written_out old.journal).len old.memory) turns.memory_is refl
   gives_next (OfFlushBegin id) reply begins = begin_next id reply (begins_flush old.memory.trees id) begins
-  gives_next (OfFlushFinish job) reply finishes = finish_next job reply (is_flushing old.memory.trees job) (takes_effect old job) finishes
+  gives_next (OfFlushFinish job) reply finishes = finish_next job reply (is_flushing old.memory.trees job) (takes_effect_in old job) finishes
   gives_next (OfMergeBegin kind id) reply begins = merge_begin_next id reply (begins_merge_in old kind id) begins
   gives_next (OfMergeFinish job) reply finishes = merge_next job reply (is_merging old.memory.trees job) (is_living (store_in old) job.keyspace_id) finishes
   gives_next OfMaintenance reply (told, at) = becomes (evicted_in_memory old.memory) at.memory_is refl

@@ -5,7 +5,7 @@ use Rattle.std.proofs.lemmas.Bool.Decides.{nat_tests}
 use Rattle.fjall_base.specs.Store.{Command, Delete}
 use Rattle.fjall_journal.specs.Changes.{Items, command_of}
 use Rattle.fjall_journal.specs.Ops.{BatchItem}
-use Rattle.fjall_writes.specs.Ingestions.{KeyOp}
+use Rattle.fjall_reading.specs.Ingestions.{KeyOp}
 use Rattle.fjall_compaction.specs.Ingests.{ingestion}
 use Rattle.fjall_history.specs.declared.reply.Reply.{Reply}
 use Rattle.fjall_history.specs.declared.reply.Reply.TheVariants.{Refused}
@@ -13,12 +13,12 @@ use Rattle.fjall_history.specs.Histories.{Accepted, History, grown, number, plai
 use Rattle.fjall_machine.specs.Machine.{State, StepOf}
 use Rattle.fjall_machine.specs.Shapes.{CallShape, OfChange, OfIngestion, Persistence}
 use Rattle.fjall_machine.proofs.Viewing.{number_grown}
-use Rattle.fjall_transactions.specs.Holding.{Held}
-use Rattle.fjall_transactions.specs.CoreStanding.{Owes, ReadsOn, Serves}
-use Rattle.fjall_transactions.specs.Standing.{GoesOn, StandFor, Told, gone_on, history_of}
-use Rattle.fjall_transactions.specs.Transactions.{Kept}
-use Rattle.fjall_transactions.proofs.Standing.{same_number, served_goes_on}
-use Rattle.fjall_word.specs.Seats.{Place}
+use Rattle.fjall_core.specs.Holding.{Held}
+use Rattle.fjall_core.specs.CoreStanding.{Owes, ReadsOn, Serves}
+use Rattle.fjall_core.specs.Standing.{GoesOn, StandFor, CoreState, gone_on, history_of}
+use Rattle.fjall_core.specs.Transactions.{Kept}
+use Rattle.fjall_core.proofs.Standing.{same_number, served_goes_on}
+use Rattle.fjall_history.specs.Seats.{Place}
 use Rattle.fjall_shared.specs.Takings.{Adds, Always, Counts, CountsOn, Grows, Lists, May, Never, Says, Taking, Tells, taking}
 use Rattle.fjall_shared.specs.Locked.{IsSettled, IsTied, KnowsMergeOf, Locked, list_of}
 use Rattle.fjall_shared.specs.Does.{Does, MakesCall, StepsOn}
@@ -109,8 +109,8 @@ module _ (honest : Bool) (old new : Locked) (shape : CallShape) (reply : Reply) 
     (settled : IsSettled honest old) (says : Says (taking shape) c)
     (told : Tells c old.core.memory.next new.core.memory.next (list_of old) (list_of new)) (owes : Owes old.core shape reply new.core)
     (flushes : All (KnowsFlushOf new.core) new.flushes)
-    (merges : IsTrue honest → (t : Told) → IsTied old t → (s : State) → StepOf t.state shape reply s → All (KnowsMergeOf s) new.merges)
-    (goes : IsTrue honest → (t : Told) → IsTied old t → GoesOn old.core t shape reply new.core new.kept) where
+    (merges : IsTrue honest → (t : CoreState) → IsTied old t → (s : State) → StepOf t.state shape reply s → All (KnowsMergeOf s) new.merges)
+    (goes : IsTrue honest → (t : CoreState) → IsTied old t → GoesOn old.core t shape reply new.core new.kept) where
   counts : CountsOn (taking shape) reply old.core.memory.next new.core.memory.next
   counts = owed_next old.core new.core shape reply owes
 
@@ -154,10 +154,10 @@ module _ (honest : Bool) (old : Locked) (core : Held) (seat : Place) (shape : Ca
   flushes : All (KnowsFlushOf core) old.flushes
   flushes = flushes_stay old.core core shape reply owes old.flushes settled.knows
 
-  merges : IsTrue honest → (t : Told) → IsTied old t → (s : State) → StepOf t.state shape reply s → All (KnowsMergeOf s) old.merges
+  merges : IsTrue honest → (t : CoreState) → IsTied old t → (s : State) → StepOf t.state shape reply s → All (KnowsMergeOf s) old.merges
   merges is t tied s step = merges_stay old.core t.state s shape reply tied.stands.machine step old.merges tied.knows
 
-  goes : IsTrue honest → (t : Told) → IsTied old t → GoesOn old.core t shape reply core old.kept
+  goes : IsTrue honest → (t : CoreState) → IsTied old t → GoesOn old.core t shape reply core old.kept
   goes is t tied = served_goes_on old.core core old.kept t shape reply tied.stands tied.reads (serves is)
 
   pub call_settles : IsSettled honest new
@@ -187,7 +187,7 @@ module _ (honest : Bool) (old : Locked) (core : Held) (shape : CallShape) (reply
 -- and of one of the transactions, which may change what is kept of them
 module _ (honest : Bool) (old : Locked) (core : Held) (kept : Kept) (shape : CallShape) (reply : Reply) (never : taking shape ≡ Never)
     (settled : IsSettled honest old) (owes : Owes old.core shape reply core)
-    (goes_on : IsTrue honest → (t : Told) → StandFor old.core old.kept t → ReadsOn old.core t.state → GoesOn old.core t shape reply core kept) where
+    (goes_on : IsTrue honest → (t : CoreState) → StandFor old.core old.kept t → ReadsOn old.core t.state → GoesOn old.core t shape reply core kept) where
   abbrev after : Locked
   after = record old { core = core; kept = kept }
 
@@ -200,7 +200,7 @@ module _ (honest : Bool) (old : Locked) (core : Held) (kept : Kept) (shape : Cal
   known : All (KnowsFlushOf core) old.flushes
   known = flushes_stay old.core core shape reply owes old.flushes settled.knows
 
-  known_merges : IsTrue honest → (t : Told) → IsTied old t → (s : State) → StepOf t.state shape reply s → All (KnowsMergeOf s) old.merges
+  known_merges : IsTrue honest → (t : CoreState) → IsTied old t → (s : State) → StepOf t.state shape reply s → All (KnowsMergeOf s) old.merges
   known_merges is t tied s step = merges_stay old.core t.state s shape reply tied.stands.machine step old.merges tied.knows
 
   pub kept_settles : IsSettled honest after

@@ -12,19 +12,19 @@ use Rattle.fjall_history.specs.declared.ticket.View.TheVariants.{At}
 use Rattle.fjall_history.specs.Tickets.{Tickets}
 use Rattle.fjall_machine.specs.Machine.{instant_of, maps_in}
 use Rattle.fjall_machine.specs.Shapes.{OfRead}
-use Rattle.fjall_transactions.specs.Standing.{Told, history_of}
+use Rattle.fjall_core.specs.Standing.{CoreState, history_of}
 use Rattle.fjall_shared.specs.Does.{Does}
 use Rattle.fjall_shared.specs.Locked.{IsTied, Locked, list_of}
 
 -- a view rests on the commands alone
-view_told : (t : Told) (list : History) → commands_of t.accepted ≡ commands_of t.state.history.accepted → history_of t ≡ list → (instant : ℕ) → view t.state.history instant ≡ view list instant
+view_told : (t : CoreState) (list : History) → commands_of t.accepted ≡ commands_of t.state.history.accepted → history_of t ≡ list → (instant : ℕ) → view t.state.history instant ≡ view list instant
 view_told t list same is instant =
     let n = instant - t.state.history.base in
     ap (λ l. fold t.state.history.opened l) (sym (take-map command_of n t.state.history.accepted) ∙ ap (λ (l : List Command). take n l) (sym same) ∙ take-map command_of n t.accepted)
     ∙ ap (λ (h : History). view h instant) is
 
 -- the maps that a ticket's view shows are those of the list up to its instant
-pub maps_told : (l : Locked) (t : Told) → IsTied l t → (ticket : Ticket) → maps_in t.state (At ticket) ≡ (view (list_of l) (instant_of l.core.memory.tickets ticket.id)).maps
+pub maps_told : (l : Locked) (t : CoreState) → IsTied l t → (ticket : Ticket) → maps_in t.state (At ticket) ≡ (view (list_of l) (instant_of l.core.memory.tickets ticket.id)).maps
 maps_told l t tied ticket =
     ap (λ (x : Tickets). (view t.state.history (instant_of x ticket.id)).maps) tied.stands.machine.remembered.tickets
     ∙ ap (λ (s : Store). s.maps) (view_told t (list_of l) tied.stands.same tied.is (instant_of l.core.memory.tickets ticket.id))

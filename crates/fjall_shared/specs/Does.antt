@@ -11,11 +11,11 @@ use Rattle.fjall_history.specs.declared.reply.Reply.{Reply}
 use Rattle.fjall_history.specs.declared.reply.Reply.TheVariants.{Began, Refused}
 use Rattle.fjall_machine.specs.Machine.{StepOf}
 use Rattle.fjall_machine.specs.Shapes.{CallShape, Close, OfHandle, OfTickets, OneLess}
-use Rattle.fjall_transactions.specs.CoreStanding.{LeadsOn, Owes, flag_reply, job_of}
-use Rattle.fjall_places.specs.Labels.{Label}
-use Rattle.fjall_transactions.specs.Commits.{Ends}
-use Rattle.fjall_transactions.specs.Standing.{CommitLeadsOn, CommitStep, Told, accepted_of}
-use Rattle.fjall_transactions.specs.Transactions.{Tx}
+use Rattle.fjall_core.specs.CoreStanding.{LeadsOn, Owes, flag_reply, job_of}
+use Rattle.fjall_shared.specs.Labels.{Label}
+use Rattle.fjall_core.specs.Commits.{Ends}
+use Rattle.fjall_core.specs.Standing.{CommitLeadsOn, CommitStep, CoreState, accepted_of}
+use Rattle.fjall_core.specs.Transactions.{Tx}
 use Rattle.fjall_shared.specs.Locked.{IsSettled, IsTied, Locked, list_of}
 use Rattle.fjall_shared.specs.Takings.{Lists, taking}
 
@@ -23,7 +23,7 @@ use Rattle.fjall_shared.specs.Takings.{Lists, taking}
 -- for it steps to one with the list of now, and a crash leaves what it may.
 abbrev pub StepsOn : Locked → CallShape → Reply → Locked → Type 0
 StepsOn old shape reply new =
-    (t : Told) → IsTied old t → (u : Told) × IsTied new u × StepOf t.state shape reply u.state × LeadsOn old.core t.state shape reply new.core u.state
+    (t : CoreState) → IsTied old t → (u : CoreState) × IsTied new u × StepOf t.state shape reply u.state × LeadsOn old.core t.state shape reply new.core u.state
 
 -- One call of the engine under the lock. The list grows by just the command that was accepted, or stays. The call owes what it owes over any
 -- disk, and over one that returns what it holds it is a step.
@@ -90,8 +90,8 @@ pub record DoesCommit (honest : Bool) (old : Locked) (tx : Tx) (outcome : Commit
   pub was : IsSettled honest old
   pub list : CommitLists (items_of tx.own) (entry_of tx) outcome (list_of old) (list_of new)
   pub owes : Ends Owes old.kept old.core tx outcome new.kept new.core
-  pub steps : IsTrue honest → (t : Told) → IsTied old t
-      → (u : Told) × IsTied new u × CommitStep t tx outcome u × CommitLeadsOn old.core t.state tx outcome new.core u.state
+  pub steps : IsTrue honest → (t : CoreState) → IsTied old t
+      → (u : CoreState) × IsTied new u × CommitStep t tx outcome u × CommitLeadsOn old.core t.state tx outcome new.core u.state
   pub stays : new ≡ record old { core = new.core; kept = new.kept; seat = new.seat }
   pub table : new.seat.table ≡ old.seat.table
 

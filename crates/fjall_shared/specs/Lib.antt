@@ -1,8 +1,10 @@
+pub mod Labels
+pub mod Places
 -- Words of transactions that clauses cite, for those above.
-pub use Rattle.fjall_transactions.specs.CoreStanding
-pub use Rattle.fjall_transactions.specs.Holding
-pub use Rattle.fjall_transactions.specs.Standing
-pub use Rattle.fjall_transactions.specs.Transactions
+pub use Rattle.fjall_core.specs.CoreStanding
+pub use Rattle.fjall_core.specs.Holding
+pub use Rattle.fjall_core.specs.Standing
+pub use Rattle.fjall_core.specs.Transactions
 pub mod Takings
 pub mod Locked
 pub mod Does

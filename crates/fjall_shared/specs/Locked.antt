@@ -4,12 +4,12 @@ use Rattle.fjall_history.specs.Histories.{History, number}
 use Rattle.fjall_machine.specs.Machine.{State}
 use Rattle.fjall_machine.specs.Merging.{KnowsMerge}
 use Rattle.fjall_machine.specs.Remembered.{KnowsTask}
-use Rattle.fjall_transactions.specs.Holding.{Held}
-use Rattle.fjall_transactions.specs.CoreStanding.{ReadsOn}
-use Rattle.fjall_places.specs.Labels.{Label}
-use Rattle.fjall_transactions.specs.Standing.{StandFor, Told, history_of}
-use Rattle.fjall_transactions.specs.Transactions.{Kept}
-use Rattle.fjall_word.specs.Seats.{Place}
+use Rattle.fjall_core.specs.Holding.{Held}
+use Rattle.fjall_core.specs.CoreStanding.{ReadsOn}
+use Rattle.fjall_shared.specs.Labels.{Label}
+use Rattle.fjall_core.specs.Standing.{StandFor, CoreState, history_of}
+use Rattle.fjall_core.specs.Transactions.{Kept}
+use Rattle.fjall_history.specs.Seats.{Place}
 
 -- The engine and what is kept of its transactions; its seat at the word, which knows the list of accepted commands; and the flushes and merges
 -- that are out.
@@ -30,7 +30,7 @@ KnowsMergeOf s label = IfSome label.target (λ target. KnowsMerge s target label
 
 -- The engine with its transactions stands for this state, whose history is told as the list, its disk has the tables of all keyspaces, and
 -- the state knows the merges that are out.
-pub record IsTied (l : Locked) (t : Told) : Type 0 where
+pub record IsTied (l : Locked) (t : CoreState) : Type 0 where
   pub stands : StandFor l.core l.kept t
   pub reads : ReadsOn l.core t.state
   pub is : history_of t ≡ list_of l
@@ -41,4 +41,4 @@ pub record IsTied (l : Locked) (t : Told) : Type 0 where
 pub record IsSettled (honest : Bool) (l : Locked) : Type 0 where
   pub next : l.core.memory.next ≡ number (list_of l)
   pub knows : All (λ label. KnowsTask l.core.memory label.task) l.flushes
-  pub ties : IsTrue honest → (t : Told) × IsTied l t
+  pub ties : IsTrue honest → (t : CoreState) × IsTied l t

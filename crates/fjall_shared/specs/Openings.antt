@@ -3,7 +3,7 @@ use Rattle.std.specs.Prelude.{◌≡◌, ◌⊎◌, [], List}
 use Rattle.fjall_base.specs.Disk.{Meaning, state_in}
 use Rattle.fjall_base.specs.Store.{Command, Store, fold, kept}
 use Rattle.fjall_recovery.specs.Amid.{HoldsAmid, IsBeginning, StandsAmid}
-use Rattle.fjall_transactions.specs.Openings.{IsLeftWildly}
+use Rattle.fjall_core.specs.Openings.{IsLeftWildly}
 
 -- The disk holds this base with a beginning of these pending commands, as an engine left it, or a crash of its disk.
 pub record HoldsUsually (disk : Meaning) (least : List Command) (base : Store) (pending : List Command) : Type 0 where

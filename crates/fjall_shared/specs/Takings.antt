@@ -2,7 +2,7 @@
 use Rattle.std.specs.Prelude.{ℕ, ◌≡◌, ◌⊎◌, ◌+◌, ◌==◌, [], ◌∷◌, MatchBool}
 use Rattle.fjall_base.specs.Store.{Command, Create, Delete}
 use Rattle.fjall_compaction.specs.Ingests.{ingestion}
-use Rattle.fjall_contents.specs.Replays.{option_pairs}
+use Rattle.fjall_meta.specs.Replays.{option_pairs}
 use Rattle.fjall_journal.specs.Changes.{Emptied, Items, command_of}
 use Rattle.fjall_history.specs.declared.reply.Reply.{Reply}
 use Rattle.fjall_history.specs.declared.reply.Reply.TheVariants.{Refused}

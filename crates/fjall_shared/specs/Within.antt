@@ -10,7 +10,7 @@ use Rattle.fjall_history.specs.declared.reply.Reply.{Reply}
 use Rattle.fjall_history.specs.declared.reply.Reply.TheVariants.{Refused}
 use Rattle.fjall_machine.specs.Machine.{instant_of}
 use Rattle.fjall_machine.specs.Shapes.{CallShape}
-use Rattle.fjall_transactions.specs.Transactions.{Tx}
+use Rattle.fjall_core.specs.Transactions.{Tx}
 use Rattle.fjall_shared.specs.Does.{Does}
 use Rattle.fjall_shared.specs.Locked.{Locked, list_of}
 

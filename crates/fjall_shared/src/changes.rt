@@ -3,18 +3,18 @@
 ghost use Rattle.fjall_journal.specs.Changes.{Items};
 ghost use Rattle.fjall_journal.specs.declared.op.Op.TheVariants as ops;
 ghost use Rattle.fjall_machine.specs.Shapes.{ByMode, OfChange, OfIngestion, of_clear, of_write};
-ghost use Rattle.fjall_transactions.specs.CoreStanding.{reply_of};
+ghost use Rattle.fjall_core.specs.CoreStanding.{reply_of};
 ghost use Rattle.fjall_shared.specs.Does.{Does};
 
 use crate::shared::Shared;
 use crate::telling::tell;
 use fjall_base::{Disk, Result, UserKey};
-use fjall_transactions::{BatchItem, Op, PersistMode};
+use fjall_core::{BatchItem, Op, PersistMode};
 use std::marker::Brand;
 use std::snapshot::Snapshot;
 
 impl<D: Disk> Shared<D> {
-    /// Gives a key of a keyspace a value, as [`Engine::insert`](fjall_transactions::Engine::insert) does, with its refusals.
+    /// Gives a key of a keyspace a value, as [`Engine::insert`](fjall_core::Engine::insert) does, with its refusals.
     pub fn insert(&mut self, id: u64, key: &[u8], value: &[u8]) -> Result<()>
         ensures { Does D.honest self.old (of_write (id, key.now, ops.Put value.now)) (reply_of result) self.new }
     {
@@ -28,7 +28,7 @@ impl<D: Disk> Shared<D> {
         result
     }
 
-    /// Takes a key of a keyspace and its value away, as [`Engine::remove`](fjall_transactions::Engine::remove) does.
+    /// Takes a key of a keyspace and its value away, as [`Engine::remove`](fjall_core::Engine::remove) does.
     pub fn remove(&mut self, id: u64, key: &[u8]) -> Result<()>
         ensures { Does D.honest self.old (of_write (id, key.now, ops.Remove)) (reply_of result) self.new }
     {
@@ -56,7 +56,7 @@ impl<D: Disk> Shared<D> {
         result
     }
 
-    /// Takes all keys of a keyspace away, as [`Engine::clear`](fjall_transactions::Engine::clear) does.
+    /// Takes all keys of a keyspace away, as [`Engine::clear`](fjall_core::Engine::clear) does.
     pub fn clear(&mut self, id: u64) -> Result<()>
         ensures { Does D.honest self.old (of_clear id) (reply_of result) self.new }
     {
@@ -70,7 +70,7 @@ impl<D: Disk> Shared<D> {
         result
     }
 
-    /// Changes keys of any keyspaces as one command, as [`Engine::commit_batch`](fjall_transactions::Engine::commit_batch) does.
+    /// Changes keys of any keyspaces as one command, as [`Engine::commit_batch`](fjall_core::Engine::commit_batch) does.
     pub fn commit_batch(&mut self, items: Vec<BatchItem>, mode: Option<PersistMode>) -> Result<()>
         ensures { Does D.honest self.old (OfChange (Items items.items) (ByMode mode)) (reply_of result) self.new }
     {
@@ -84,7 +84,7 @@ impl<D: Disk> Shared<D> {
         result
     }
 
-    /// Ingests items into a keyspace as one command, as [`Engine::ingest`](fjall_transactions::Engine::ingest) does.
+    /// Ingests items into a keyspace as one command, as [`Engine::ingest`](fjall_core::Engine::ingest) does.
     pub fn ingest(&mut self, id: u64, items: Vec<(UserKey, Op)>) -> Result<()>
         ensures { Does D.honest self.old (OfIngestion id items.items) (reply_of result) self.new }
     {

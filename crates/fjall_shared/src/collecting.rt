@@ -6,7 +6,7 @@ ghost use Rattle.fjall_shared.specs.Does.{ClosesTickets, Collects};
 use crate::flags::Flag;
 use crate::shared::Shared;
 use fjall_base::{Disk, Error};
-use fjall_transactions::Ticket;
+use fjall_core::Ticket;
 use std::alloc::AllocError;
 
 // The first whose flag is raised, which is taken out of the list.

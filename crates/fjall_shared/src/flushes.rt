@@ -4,18 +4,19 @@ ghost use Rattle.std.specs.Prelude.{◌≡◌};
 ghost use Rattle.fjall_machine.specs.Shapes.{OfFlushBegin, OfFlushFinish};
 ghost use Rattle.fjall_shared.specs.Does.{FinishesJob, MakesCall, begin_reply, with_begun, with_flushes};
 
+use crate::begun::Begun;
+use crate::finding::find_made;
 use crate::placing::blank_place;
 use crate::shared::Shared;
 use fjall_base::{Disk, Refused, Result};
-use fjall_places::{Begun, find_made};
-use fjall_transactions::FlushMade;
+use fjall_core::FlushMade;
 
 impl<D: Disk> Shared<D> {
     /// Begins a flush of all sealed memtables of a keyspace, and gives the job away, to be run without the lock, in any thread: what it
     /// makes is left in its place, and [`flush_finish`](Shared::flush_finish) finds it there. None where no memtable is sealed, or
     /// where a flush of the keyspace is out.
     ///
-    /// Refused as [`Engine::flush_begin`](fjall_transactions::Engine::flush_begin). A job that is lost counts as out until the database is opened
+    /// Refused as [`Engine::flush_begin`](fjall_core::Engine::flush_begin). A job that is lost counts as out until the database is opened
     /// again.
     pub fn flush_begin(&mut self, id: u64) -> Result<Option<Begun<FlushMade>>>
         ensures makes { MakesCall D.honest self.old (OfFlushBegin id) (begin_reply result) self.new }
@@ -38,7 +39,7 @@ impl<D: Disk> Shared<D> {
     }
 
     /// Finishes the flush of this number by what its job made, where that came back, whoever brought it; as
-    /// [`Engine::flush_finish`](fjall_transactions::Engine::flush_finish) does.
+    /// [`Engine::flush_finish`](fjall_core::Engine::flush_finish) does.
     ///
     /// False where nothing changes: no flush of this number is out, since it is stale, of another database, or an older one's number; or
     /// nothing of it came back, since it isn't done, or it is lost. A finish that is refused keeps what came back: call again.

@@ -1,7 +1,7 @@
 //! Keyspaces and their handles.
 
 ghost use Rattle.fjall_machine.specs.Shapes.{Names, OfCount, OfCreation, OfDeletion, OfHandle, OneLess, OneMore};
-ghost use Rattle.fjall_transactions.specs.CoreStanding.{names_reply, number_reply, reply_of};
+ghost use Rattle.fjall_core.specs.CoreStanding.{names_reply, number_reply, reply_of};
 ghost use Rattle.fjall_shared.specs.Does.{Does};
 
 use crate::shared::Shared;
@@ -13,7 +13,7 @@ use std::snapshot::Snapshot;
 
 impl<D: Disk> Shared<D> {
     /// The id of the keyspace of this name, which is made with these options where none has it, as
-    /// [`Engine::keyspace`](fjall_transactions::Engine::keyspace) does.
+    /// [`Engine::keyspace`](fjall_core::Engine::keyspace) does.
     pub fn keyspace(&mut self, name: &[u8], options: KeyspaceCreateOptions) -> Result<u64>
         ensures { Does D.honest self.old (OfCreation name.now options) (number_reply result) self.new }
     {
@@ -33,7 +33,7 @@ impl<D: Disk> Shared<D> {
         result
     }
 
-    /// Deletes the keyspace of this id, as [`Engine::delete_keyspace`](fjall_transactions::Engine::delete_keyspace) does.
+    /// Deletes the keyspace of this id, as [`Engine::delete_keyspace`](fjall_core::Engine::delete_keyspace) does.
     pub fn delete_keyspace(&mut self, id: u64) -> Result<()>
         ensures { Does D.honest self.old (OfDeletion id) (reply_of result) self.new }
     {
@@ -47,14 +47,14 @@ impl<D: Disk> Shared<D> {
         result
     }
 
-    /// Counts one handle more of a keyspace, as [`Engine::retain`](fjall_transactions::Engine::retain) does.
+    /// Counts one handle more of a keyspace, as [`Engine::retain`](fjall_core::Engine::retain) does.
     pub fn retain(&mut self, id: u64) -> Result<()>
         ensures { Does D.honest self.old (OfHandle OneMore id) (reply_of result) self.new }
     {
         self.core.retain(id)
     }
 
-    /// Counts one handle less of a keyspace, as [`Engine::release`](fjall_transactions::Engine::release) does.
+    /// Counts one handle less of a keyspace, as [`Engine::release`](fjall_core::Engine::release) does.
     pub fn release(&mut self, id: u64) -> Result<()>
         ensures { Does D.honest self.old (OfHandle OneLess id) (reply_of result) self.new }
     {

@@ -3,15 +3,15 @@
 ghost use Rattle.std.specs.Prelude.{◌≡◌, [], IfErr, IfOk, IsTrue};
 ghost use Rattle.fjall_history.specs.Histories.{History, number};
 ghost use Rattle.fjall_recovery.specs.Refusals.{IsOpeningRefusal};
-ghost use Rattle.fjall_transactions.specs.Openings.{KeepsStore};
-ghost use Rattle.fjall_transactions.specs.Transactions.{none_kept};
+ghost use Rattle.fjall_core.specs.Openings.{KeepsStore};
+ghost use Rattle.fjall_core.specs.Transactions.{none_kept};
 ghost use Rattle.fjall_shared.specs.Locked.{list_of};
 ghost use Rattle.fjall_shared.specs.Openings.{IsLeftByEngine, IsOpenedFrom};
 
 use crate::shared::Shared;
 use fjall_base::{Disk, Error, Refused};
-use fjall_transactions::{Config, Core};
-use fjall_word::{CoreSeat, Origin, SeenSeat, Word};
+use fjall_core::{Config, Core};
+use fjall_history::{CoreSeat, Origin, SeenSeat, Word};
 use std::alloc::{AllocError, Global};
 use std::marker::Brand;
 use std::result;

@@ -6,26 +6,26 @@ ghost use Rattle.fjall_base.specs.Pairs.{lookup, page, pairs_between};
 ghost use Rattle.fjall_history.specs.Queries.{Get, Page};
 ghost use Rattle.fjall_history.specs.declared.ticket.View.TheVariants.{At};
 ghost use Rattle.fjall_machine.specs.Shapes.{OfRead};
-ghost use Rattle.fjall_transactions.specs.CoreStanding.{pairs_reply, value_reply};
+ghost use Rattle.fjall_core.specs.CoreStanding.{pairs_reply, value_reply};
 ghost use Rattle.fjall_tx.specs.Marks.{OfKey, OfRange};
-ghost use Rattle.fjall_transactions.specs.Transactions.{having_read};
+ghost use Rattle.fjall_core.specs.Transactions.{having_read};
 ghost use Rattle.fjall_shared.specs.Does.{Does};
 ghost use Rattle.fjall_shared.specs.Within.{ReadsOnce, seen_in};
 
 use crate::shared::Shared;
 use fjall_base::{Disk, KvPair, Result, Slice, UserValue};
+use fjall_core::{Transaction, View};
 use fjall_reading::{KeyRange, bounds_of};
-use fjall_transactions::{Transaction, View};
 
 impl<D: Disk> Shared<D> {
-    /// The value that a key of a keyspace has in a view, as [`Engine::get_at`](fjall_transactions::Engine::get_at) answers.
+    /// The value that a key of a keyspace has in a view, as [`Engine::get_at`](fjall_core::Engine::get_at) answers.
     pub fn get_at(&mut self, view: View, id: u64, key: &[u8]) -> Result<Option<UserValue>>
         ensures { Does D.honest self.old (OfRead view id (Get key.now)) (value_reply result) self.new }
     {
         self.core.get_at(view, id, key)
     }
 
-    /// The first or last pairs of a keyspace's range in a view, as [`Engine::page_at`](fjall_transactions::Engine::page_at) answers.
+    /// The first or last pairs of a keyspace's range in a view, as [`Engine::page_at`](fjall_core::Engine::page_at) answers.
     pub fn page_at(
         &mut self,
         view: View,

@@ -5,10 +5,10 @@ ghost use Rattle.std.specs.Arc.{arc_value};
 ghost use Rattle.fjall_history.specs.Moves.{HasGrown};
 
 use crate::flags::Flag;
+use crate::out::Out;
 use fjall_base::Disk;
-use fjall_places::Out;
-use fjall_transactions::{Core, Engine, FlushMade, MergeMade, Ticket};
-use fjall_word::{CoreSeat, SeenSeat, Word};
+use fjall_core::{Core, Engine, FlushMade, MergeMade, Ticket};
+use fjall_history::{CoreSeat, SeenSeat, Word};
 use std::alloc::{AllocError, Global};
 use std::marker::Model;
 use std::ops::Deref;
@@ -52,10 +52,10 @@ impl<D: Disk> Model for Shared<D> {
     ghost use Rattle.std.specs.Coded.{codes};
     ghost use Rattle.std.specs.Prelude.{◌≡◌};
     ghost use Rattle.std.specs.Arc.{arc_value};
-    ghost use Rattle.fjall_recovery.specs.Known.{records_code};
+    ghost use Rattle.fjall_replay.specs.Known.{records_code};
     ghost use Rattle.fjall_tx.specs.Places.{places_code};
     ghost use Rattle.fjall_machine.specs.Remembered.{handles_code};
-    ghost use Rattle.fjall_word.specs.Codes.{history_code};
+    ghost use Rattle.fjall_history.specs.Codes.{history_code};
     ghost use Rattle.fjall_shared.specs.Locked.{IsSettled, Locked};
 
     ghost Value = { Locked };

@@ -2,15 +2,15 @@
 
 ghost use Rattle.fjall_history.specs.declared.reply.Reply.TheVariants.{Number};
 ghost use Rattle.fjall_machine.specs.Shapes.{Clone, Close, Collect, OfTickets, Open};
-ghost use Rattle.fjall_transactions.specs.CoreStanding.{reply_of, ticket_reply};
+ghost use Rattle.fjall_core.specs.CoreStanding.{reply_of, ticket_reply};
 ghost use Rattle.fjall_shared.specs.Does.{Does};
 
 use crate::shared::Shared;
 use fjall_base::{Disk, Result};
-use fjall_transactions::Ticket;
+use fjall_core::Ticket;
 
 impl<D: Disk> Shared<D> {
-    /// Opens a snapshot, as [`Engine::snapshot`](fjall_transactions::Engine::snapshot) does.
+    /// Opens a snapshot, as [`Engine::snapshot`](fjall_core::Engine::snapshot) does.
     pub fn snapshot(&mut self) -> Result<Ticket>
         ensures { Does D.honest self.old (OfTickets Open) (ticket_reply result) self.new }
     {

@@ -4,7 +4,7 @@ ghost use Rattle.std.specs.Prelude.{◌≡◌, ◌⊎◌, ◌+◌};
 ghost use Rattle.fjall_history.specs.Histories.{number};
 ghost use Rattle.fjall_shared.specs.Takings.{Grows};
 
-use fjall_word::{CoreSeat, Saying, Word};
+use fjall_history::{CoreSeat, Saying, Word};
 use std::snapshot::Snapshot;
 
 /// Adds a command to the list, where a number was taken for it: then the word is raised by one step.

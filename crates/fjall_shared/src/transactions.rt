@@ -4,24 +4,24 @@ ghost use Rattle.std.specs.Prelude.{◌≡◌, Err, None, Some, false, true, IfO
 ghost use Rattle.fjall_base.specs.declared.error.Error.TheVariants.{TransactionOpen};
 ghost use Rattle.fjall_tx.specs.Oracles.{pruned};
 ghost use Rattle.fjall_machine.specs.Shapes.{Close, OfTickets, Open};
-ghost use Rattle.fjall_transactions.specs.CoreStanding.{reply_of};
-ghost use Rattle.fjall_transactions.specs.Commits.{begun_reply, is_writing};
-ghost use Rattle.fjall_transactions.specs.Transactions.{begun, no_marks};
+ghost use Rattle.fjall_core.specs.CoreStanding.{reply_of};
+ghost use Rattle.fjall_core.specs.Commits.{begun_reply, is_writing};
+ghost use Rattle.fjall_core.specs.Transactions.{transaction_begun, no_marks};
 ghost use Rattle.fjall_shared.specs.Does.{Does, DoesCommit, MakesCall};
 
 use crate::shared::Shared;
 use crate::telling::tell;
 use fjall_base::{Disk, Error, Result};
-use fjall_transactions::{CommitOutcome, Transaction};
+use fjall_core::{CommitOutcome, Transaction};
 use std::marker::Brand;
 use std::snapshot::Snapshot;
 
 impl<D: Disk> Shared<D> {
     /// Begins an optimistic transaction, which reads at the visible number, as
-    /// [`Core::begin_optimistic`](fjall_transactions::Core::begin_optimistic) does.
+    /// [`Core::begin_optimistic`](fjall_core::Core::begin_optimistic) does.
     pub fn begin_optimistic(&mut self) -> Result<Transaction>
         ensures does { Does D.honest self.old (OfTickets Open) (begun_reply result) self.new }
-        ensures begun { IfOk result (λ tx. tx ≡ begun (Some no_marks) tx.ticket) }
+        ensures begun { IfOk result (λ tx. tx ≡ transaction_begun (Some no_marks) tx.ticket) }
     {
         self.core.begin_optimistic()
     }
@@ -32,14 +32,14 @@ impl<D: Disk> Shared<D> {
     pub fn begin_single(&mut self) -> Result<Transaction>
         ensures due { is_writing self.old.core self.old.kept.writer ≡ true → (result ≡ Err TransactionOpen) × (self.new ≡ self.old) }
         ensures makes { is_writing self.old.core self.old.kept.writer ≡ false → MakesCall D.honest self.old (OfTickets Open) (begun_reply result) self.new }
-        ensures begun { IfOk result (λ tx. (tx ≡ begun None tx.ticket) × (self.new.kept ≡ record self.old.kept { writer = Some tx.ticket })) }
+        ensures begun { IfOk result (λ tx. (tx ≡ transaction_begun None tx.ticket) × (self.new.kept ≡ record self.old.kept { writer = Some tx.ticket })) }
         ensures unchanged { OnErr result (self.new.kept ≡ self.old.kept) }
         ensures stays { self.new ≡ record self.old { core = self.new.core; kept = self.new.kept } }
     {
         self.core.begin_single()
     }
 
-    /// Commits a transaction, which ends it whatever it answers, as [`Core::commit`](fjall_transactions::Core::commit) does. It conflicts
+    /// Commits a transaction, which ends it whatever it answers, as [`Core::commit`](fjall_core::Core::commit) does. It conflicts
     /// exactly where an entry of the list, numbered at or above the instant at which it began, meets its reads.
     pub fn commit(&mut self, transaction: Transaction) -> CommitOutcome<Error>
         ensures { DoesCommit D.honest self.old transaction result self.new }

@@ -1,15 +1,15 @@
 //! The journal, memtables, and what is evicted.
 
 ghost use Rattle.fjall_machine.specs.Shapes.{OfCount, OfJournalRotation, OfMaintenance, OfPersist, OfRotation, ToFlush};
-ghost use Rattle.fjall_transactions.specs.CoreStanding.{flag_reply, ids_reply, reply_of};
+ghost use Rattle.fjall_core.specs.CoreStanding.{flag_reply, ids_reply, reply_of};
 ghost use Rattle.fjall_shared.specs.Does.{Does};
 
 use crate::shared::Shared;
 use fjall_base::{Disk, Result};
-use fjall_transactions::PersistMode;
+use fjall_core::PersistMode;
 
 impl<D: Disk> Shared<D> {
-    /// Writes the journal's buffer out and, in the two sync modes, syncs the journal, as [`Engine::persist`](fjall_transactions::Engine::persist)
+    /// Writes the journal's buffer out and, in the two sync modes, syncs the journal, as [`Engine::persist`](fjall_core::Engine::persist)
     /// does.
     pub fn persist(&mut self, mode: PersistMode) -> Result<()>
         ensures { Does D.honest self.old (OfPersist mode) (reply_of result) self.new }
@@ -17,21 +17,21 @@ impl<D: Disk> Shared<D> {
         self.core.persist(mode)
     }
 
-    /// Seals the active memtable of a keyspace, as [`Engine::rotate_memtable`](fjall_transactions::Engine::rotate_memtable) does.
+    /// Seals the active memtable of a keyspace, as [`Engine::rotate_memtable`](fjall_core::Engine::rotate_memtable) does.
     pub fn rotate_memtable(&mut self, id: u64) -> Result<bool>
         ensures { Does D.honest self.old (OfRotation id) (flag_reply result) self.new }
     {
         self.core.rotate_memtable(id)
     }
 
-    /// Seals the active journal, as [`Engine::rotate_journal`](fjall_transactions::Engine::rotate_journal) does.
+    /// Seals the active journal, as [`Engine::rotate_journal`](fjall_core::Engine::rotate_journal) does.
     pub fn rotate_journal(&mut self) -> Result<()>
         ensures { Does D.honest self.old (OfJournalRotation) (reply_of result) self.new }
     {
         self.core.rotate_journal()
     }
 
-    /// Removes sealed journals that nobody wants any more, as [`Engine::maintenance`](fjall_transactions::Engine::maintenance) does.
+    /// Removes sealed journals that nobody wants any more, as [`Engine::maintenance`](fjall_core::Engine::maintenance) does.
     pub fn maintenance(&mut self) -> Result<()>
         ensures { Does D.honest self.old (OfMaintenance) (reply_of result) self.new }
     {

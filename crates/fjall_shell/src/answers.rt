@@ -1,7 +1,7 @@
 //! Answers to lines, and their texts.
 
-use crate::words::{LineError, Parsed};
 use fjall::{Error, KvPair, Slice};
+use fjall_recorder::{LineError, Parsed};
 use std::alloc::{AllocError, Global};
 
 /// What a line is answered that was done.

@@ -4,12 +4,13 @@ use crate::answers::{Answer, Done};
 use crate::lines::{Change, Count, Kind, Measure, Query};
 use crate::medium::{Machine, Medium};
 use crate::reads::{one, pairs};
-use crate::words::{LineError, Pair, Parsed};
+use crate::words::Pair;
 use fjall::{
     Config, Database, DatabaseBuilder, Disk, Keyspace, KeyspaceCreateOptions, Made,
     OptimisticTxDatabase, OptimisticTxKeyspace, OptimisticWriteTx, PersistMode, Result,
     SingleWriterTxDatabase, SingleWriterTxKeyspace, SingleWriterWriteTx, Slice, TransactionReader,
 };
+use fjall_recorder::{LineError, Parsed};
 use std::alloc::Global;
 use std::sync::Wait;
 

@@ -1,10 +1,8 @@
 //! What lines ask for.
 
-use crate::words::{
-    Item, KeyRange, LineError, Pair, Parsed, Wishes, bytes, counted, durability, items, mode, name,
-    number, pairs, range, read_wishes, size, text, value,
-};
+use crate::words::{Item, KeyRange, Pair, Wishes, counted, items, name, pairs, read_wishes, text};
 use fjall::{PersistMode, Slice};
+use fjall_recorder::{LineError, Parsed, bytes, durability, mode, number, range, size, value};
 use std::alloc::Global;
 
 const BAD_LINE: LineError = LineError::BadLine;

@@ -12,7 +12,7 @@ mod words;
 
 use answers::{refusal, told};
 use fjall::{Error, FolderDisk, Result};
-use fjall_memory::MemoryDisk;
+use fjall_disk_memory::MemoryDisk;
 use kinds::Settings;
 use lines::Kind;
 use medium::{Machine, Medium};

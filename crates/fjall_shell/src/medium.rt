@@ -4,7 +4,7 @@ ghost use Rattle.std.specs.Prelude.{IfOk, IsTrue};
 ghost use Rattle.fjall_shared.specs.Openings.{IsLeftByEngine};
 
 use fjall::{Disk, FolderDisk, Host, Result};
-use fjall_memory::MemoryDisk;
+use fjall_disk_memory::MemoryDisk;
 use log::Log;
 use std::alloc::Global;
 use std::sync::Wait;

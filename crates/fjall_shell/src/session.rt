@@ -5,8 +5,9 @@ use crate::kinds::{AnyDatabase, AnyKeyspace, AnyTransaction, Settings, of_each, 
 use crate::lines::{Change, Command, Query, Step, Work, parse};
 use crate::medium::{Machine, Medium};
 use crate::reads::{ends, read_shown};
-use crate::words::{Item, LineError, Pair, Wishes};
+use crate::words::{Item, Pair, Wishes};
 use fjall::{Disk, Error, Identified, Keyspace, OwnedWriteBatch, PersistMode, Result, Snapshot};
+use fjall_recorder::LineError;
 use std::alloc::Global;
 use std::sync::Wait;
 use std::thread::Threads;

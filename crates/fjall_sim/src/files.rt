@@ -2,7 +2,7 @@
 
 use crate::answer::{count, flag, word};
 use crate::session::Session;
-use fjall_memory::MemoryDisk;
+use fjall_disk_memory::MemoryDisk;
 use fjall_recorder::{Change, LineError, Parsed, Part, byte, bytes, entries, number, size};
 
 // How much of an append that fails goes out.
@@ -60,6 +60,7 @@ impl Session {
             ["len", name] => self.file(name, true),
             ["list", "/"] => self.names(""),
             ["list", folder] => self.names(folder),
+            ["has", "/", name] => self.has("", name),
             ["has", folder, name] => self.has(folder, name),
             ["digest"] => Ok(format!(in alloc; "digest {}", self.disk.digest(alloc)?)?),
             ["hold", name] => {

@@ -5,7 +5,7 @@ use crate::session::Session;
 use fjall_base::Result;
 use fjall_calls::Reply;
 use fjall_consistency::{Life, Outages, Turn, live};
-use fjall_memory::MemoryDisk;
+use fjall_disk_memory::MemoryDisk;
 use fjall_recorder::{LineError, Parsed, number, size};
 use std::mem;
 

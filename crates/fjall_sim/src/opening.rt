@@ -4,7 +4,7 @@ use crate::answer::{pairs, word};
 use crate::session::{SHUT, Session};
 use fjall_base::{Result, Slice};
 use fjall_calls::{Config, Core, Engine, View};
-use fjall_memory::MemoryDisk;
+use fjall_disk_memory::MemoryDisk;
 use fjall_options::KeyspaceCreateOptions;
 use fjall_recorder::{Handle, LineError, Parsed};
 use std::alloc::Global;

@@ -4,7 +4,7 @@ use Rattle.std.proofs.lemmas.List.Elements.{All-cons, All-head, All-nil}
 use Rattle.std.specs.Prelude.{OnOk}
 use Rattle.fjall_base.specs.declared.error.Error.{Error}
 use Rattle.fjall_journal.specs.Ops.{BatchItem}
-use Rattle.fjall_manager.specs.Places.{HasPlace, JournalPlaces}
+use Rattle.fjall_files.specs.Places.{HasPlace, JournalPlaces}
 
 pub one_placed : (result : Result Unit Error) (places : JournalPlaces) (item : BatchItem) → OnOk result (HasPlace places item.0) → OnOk result (All (λ (item : BatchItem). HasPlace places item.0) (item ∷ []))
 one_placed (Ok done) places item has = All-cons (λ (item : BatchItem). HasPlace places item.0) item [] has (All-nil (λ (item : BatchItem). HasPlace places item.0))

@@ -5,25 +5,25 @@ ghost use Rattle.std.specs.Prelude.{◌≡◌, ◌≢◌, ◌<◌, ◌≤◌, �
 ghost use Rattle.std.specs.FinMap.{empty, from_entries, get, len, values};
 ghost use Rattle.fjall_base.specs.Pairs.{Bytes, byte_order};
 ghost use Rattle.fjall_base.specs.declared.error.Error.TheVariants.{KeyspaceDeleted, UnknownKeyspace};
-ghost use Rattle.fjall_catalog.specs.Catalog.{fields, first_of};
-ghost use Rattle.fjall_manager.specs.Journals.{bytes_of};
+ghost use Rattle.fjall_manifest.specs.Catalog.{fields, first_of};
+ghost use Rattle.fjall_files.specs.Journals.{bytes_of};
 ghost use Rattle.fjall_meta.specs.Keyspaces.{id_of, is_name};
 ghost use Rattle.fjall_manifest.specs.Records.{view};
 ghost use Rattle.fjall_trees.specs.Forests.{AreBefore, tree_at};
 ghost use Rattle.fjall_trees.specs.Views.{forest_of};
 ghost use Rattle.fjall_trees.specs.Maps.{store_of};
 ghost use Rattle.fjall_history.specs.Tickets.{closed, closing_refusal, cloning_refusal, collected, is_open as is_open_in, opened, opening_refusal};
-ghost use Rattle.fjall_machine.specs.Machine.{first_due, handle_refusals, handles_of, has_name, is_among, is_living, is_read, is_unknown, one_less, persists_by_hand, view_refusals};
+ghost use Rattle.fjall_machine.specs.Machine.{first_due, handle_refusals, handles_of, names_one, is_among, is_living, is_read, is_unknown, one_less, persists_by_hand, view_refusals};
 ghost use Rattle.fjall_machine.specs.Shapes.{OneMore};
-ghost use Rattle.fjall_machine.specs.Remembered.{IsDueOrMemory, IsLawful, Remembered, facts_of, instant_in, is_last, journals_of, let_go, poisoned, released, remembered, retained, with_creation, with_deletion, with_tickets};
+ghost use Rattle.fjall_machine.specs.Remembered.{IsDueOrMemory, IsLawful, Remembered, facts_of, instant_in, is_last_in_memory, journals_of, let_go, poisoned, released_in_memory, remembered, retained, with_creation, with_deletion, with_tickets};
 
 use fjall_base::{Error, Result, Slice};
+use fjall_files::{ActiveWatermarks, JournalManager};
 use fjall_history::{Ticket, Tickets, View};
-use fjall_manager::{ActiveWatermarks, JournalManager};
 use fjall_manifest::Record;
 use fjall_meta::{LivingKeyspace, MetaKeyspace};
 use fjall_options::KeyspaceCreateOptions;
-use fjall_recovery::LastRecords;
+use fjall_replay::LastRecords;
 use fjall_trees::Trees;
 use std::alloc::Global;
 use std::collections::BTreeMap;
@@ -54,7 +54,7 @@ pub struct EngineState {
 impl Model for EngineState {
     ghost use Rattle.std.specs.Coded.{codes};
     ghost use Rattle.std.specs.FinMap.{from_entries};
-    ghost use Rattle.fjall_recovery.specs.Known.{records_code};
+    ghost use Rattle.fjall_replay.specs.Known.{records_code};
     ghost use Rattle.fjall_trees.specs.Views.{forest_of};
     ghost use Rattle.fjall_machine.specs.Remembered.{IsLawful, Remembered, handles_code, journals_of};
 
@@ -239,7 +239,7 @@ impl EngineState {
 
     /// Whether a keyspace has this name.
     pub fn keyspace_exists(&self, name: &[u8]) -> bool
-        ensures { result ≡ has_name (store_of self.now.keyspaces self.now.trees) name.now }
+        ensures { result ≡ names_one (store_of self.now.keyspaces self.now.trees) name.now }
     {
         self.keyspaces.keyspace_exists(name)
     }
@@ -247,7 +247,7 @@ impl EngineState {
     /// The id of the keyspace that has this name.
     pub fn resolve(&self, name: &[u8]) -> Option<u64>
         ensures id { result ≡ id_of name.now self.now.keyspaces.living }
-        ensures named { is_some result ≡ has_name (store_of self.now.keyspaces self.now.trees) name.now }
+        ensures named { is_some result ≡ names_one (store_of self.now.keyspaces self.now.trees) name.now }
     {
         self.keyspaces.resolve_id(name)
     }
@@ -299,7 +299,7 @@ impl EngineState {
 
     /// Whether the last handle of a deleted keyspace is counted.
     pub fn is_last(&self, id: u64) -> bool
-        ensures { result ≡ is_last self.now id }
+        ensures { result ≡ is_last_in_memory self.now id }
     {
         !self.is_living(id) && self.handle_count(id) == 1
     }
@@ -545,7 +545,7 @@ impl EngineState {
     /// and its last record. It takes no memory.
     pub fn release(&mut self, id: u64)
         requires counted { 0 < handles_of self.old.handles id }
-        ensures { self.new ≡ released id self.old }
+        ensures { self.new ≡ released_in_memory id self.old }
     {
         if self.is_last(id) {
             self.let_go(id);

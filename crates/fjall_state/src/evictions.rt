@@ -3,23 +3,23 @@
 ghost use Rattle.std.specs.Prelude.{◌≡◌, ℕ, List, length, IfOk, IsOkUnless, IsTrue, OnErr, OnOk};
 ghost use Rattle.std.specs.List.Sorted.{IsStrictlyIncreasing};
 ghost use Rattle.fjall_base.specs.Disk.{LeavesOnly, OnlyFaults, Took, state_in};
-ghost use Rattle.fjall_contents.specs.Contents.{is_beyond};
+ghost use Rattle.fjall_meta.specs.Contents.{is_beyond};
 ghost use Rattle.fjall_files.specs.Tidy.{StaysTidy};
-ghost use Rattle.fjall_manager.specs.Evictions.{StoppedBehind, TookEvictions, evicting};
-ghost use Rattle.fjall_manager.specs.Journals.{Sealed, names_of, staying, waited_for};
+ghost use Rattle.fjall_files.specs.Evictions.{StoppedBehind, TookEvictions, evicting};
+ghost use Rattle.fjall_files.specs.Journals.{Sealed, names_of, staying, waited_for};
 ghost use Rattle.fjall_recovery.specs.Places.{Journaling};
-ghost use Rattle.fjall_commit.specs.Evictions.{ForEvicting, LeavesEviction, StoppedEvicting, evicted};
-ghost use Rattle.fjall_commit.specs.Journaling.{IsWriting};
-ghost use Rattle.fjall_commit.specs.Rotations.{KeepsSyncedKeyspaces, ListsSealed};
+ghost use Rattle.fjall_changes.specs.Evictions.{ForEvicting, LeavesEviction, StoppedEvicting, evicted};
+ghost use Rattle.fjall_changes.specs.Journaling.{IsWriting};
+ghost use Rattle.fjall_changes.specs.Rotations.{KeepsSyncedKeyspaces, ListsSealed};
 ghost use Rattle.fjall_machine.specs.Evicting.{going_in};
-ghost use Rattle.fjall_machine.specs.Remembered.{flushed_by, with_sealed};
+ghost use Rattle.fjall_machine.specs.Remembered.{flushed_by, with_sealed_in_memory};
 
 use crate::engine_state::EngineState;
 use fjall_base::{Disk, Error, Result};
-use fjall_commit::evict_journals;
-use fjall_manager::Flushed;
+use fjall_changes::evict_journals;
+use fjall_files::Flushed;
 use fjall_meta::MetaKeyspace;
-use fjall_recovery::LastRecords;
+use fjall_replay::LastRecords;
 use std::alloc::Global;
 
 /// Whether a number is beyond the persisted one; where there is none, each is.
@@ -62,9 +62,9 @@ impl EngineState {
     /// Where the disk fails, the journals removed so far are gone, and the next one stays among the sealed ones, though its
     /// file may be removed: a later call removes what is there.
     pub fn evict<D: Disk>(&mut self, disk: &mut D) -> Result<()>
-        ensures ok { OnOk result (self.new ≡ with_sealed (staying (flushed_by self.old.keyspaces self.old.records) self.old.journals.sealed) self.old) }
+        ensures ok { OnOk result (self.new ≡ with_sealed_in_memory (staying (flushed_by self.old.keyspaces self.old.records) self.old.journals.sealed) self.old) }
         ensures left { OnErr result ((gone left : List Sealed)
-            × StoppedBehind (flushed_by self.old.keyspaces self.old.records) self.old.journals.sealed left gone × (self.new ≡ with_sealed left self.old)) }
+            × StoppedBehind (flushed_by self.old.keyspaces self.old.records) self.old.journals.sealed left gone × (self.new ≡ with_sealed_in_memory left self.old)) }
         ensures told { (j : Journaling) → ListsSealed self.old.journals.sealed j
             → OnOk result (ListsSealed self.new.journals.sealed (evicted (length (going_in self.old)) j)) }
         ensures served { IsTrue D.honest → ForEvicting (D.meaning disk.old) self.old.journals.sealed (λ writer j. (D.meaning disk.new).misuses ≡ (D.meaning disk.old).misuses) }

@@ -13,7 +13,7 @@ ghost use Rattle.fjall_jobs.specs.Flushes.{flush_task};
 ghost use Rattle.fjall_jobs.specs.Made.{flush_tables, flushed_task};
 ghost use Rattle.fjall_jobs.specs.Tasks.{Task};
 ghost use Rattle.fjall_journal.specs.Writer.{IsIo};
-ghost use Rattle.fjall_recovery.specs.Known.{last_known};
+ghost use Rattle.fjall_replay.specs.Known.{last_known};
 ghost use Rattle.fjall_tree.specs.Jobs.{IsFlushing, flush_finished, flush_of, is_flush_out};
 ghost use Rattle.fjall_tree.specs.Trees.{Flushing};
 ghost use Rattle.fjall_trees.specs.Maps.{store_of};
@@ -25,7 +25,7 @@ ghost use Rattle.fjall_trees.specs.Tables.{HasRoomAt, shape_in};
 ghost use Rattle.fjall_trees.specs.Views.{forest_of};
 ghost use Rattle.fjall_machine.specs.Finishing.{AreReadersOf, ForFinishing, ForFlush, IsFinishRefusal, IsFlushFinished, keyspace_of};
 ghost use Rattle.fjall_machine.specs.Machine.{begins_flush, flush_with, is_flushing, is_living};
-ghost use Rattle.fjall_machine.specs.Remembered.{IsLawful, KnowsTask, Remembered, flush_gone, flush_out};
+ghost use Rattle.fjall_machine.specs.Remembered.{IsLawful, KnowsTask, Remembered, flush_gone_in_memory, flush_out_in_memory};
 ghost use Rattle.fjall_state.specs.Flushes.{IsOfFlush};
 
 use crate::engine_state::EngineState;
@@ -35,7 +35,7 @@ use fjall_compaction::{FlushPlan, plan_flush, table_readers, write_flush};
 use fjall_history::JobId;
 use fjall_jobs::{FlushJob, FlushMade};
 use fjall_manifest::Record;
-use fjall_recovery::LastRecords;
+use fjall_replay::LastRecords;
 use fjall_table_reader::TableReader;
 use fjall_trees::Trees;
 use std::alloc::Global;
@@ -53,7 +53,7 @@ impl EngineState {
     pub fn begin_flush(&mut self, id: u64) -> Result<FlushJob>
         requires begins { begins_flush self.old.trees id ≡ true }
         requires numbered { self.old.next_job < 2 ^ 64 - 1 }
-        ensures ok { OnOk result (self.new ≡ flush_out id self.old) }
+        ensures ok { OnOk result (self.new ≡ flush_out_in_memory id self.old) }
         ensures job { IfOk result (λ job. flush_task job ≡ flush_of self.old.next_job id self.old.tickets.watermark (shape_in id self.old.trees).memory.sealed) }
         ensures out { IfOk result (λ job. IsFlushing (shape_in id self.new.trees) (flush_task job)) }
         ensures lawful { IsLawful self.old }
@@ -73,8 +73,8 @@ impl EngineState {
     /// Takes back the flush of a keyspace that was begun last, where that was the last change: its number is free again. It
     /// takes no memory.
     pub fn take_back_flush(&mut self, id: u64)
-        requires { (m : Remembered) × IsLawful m × (begins_flush m.trees id ≡ true) × (self.old ≡ flush_out id m) }
-        ensures { (m : Remembered) → IsLawful m → begins_flush m.trees id ≡ true → self.old ≡ flush_out id m → self.new ≡ m }
+        requires { (m : Remembered) × IsLawful m × (begins_flush m.trees id ≡ true) × (self.old ≡ flush_out_in_memory id m) }
+        ensures { (m : Remembered) → IsLawful m → begins_flush m.trees id ≡ true → self.old ≡ flush_out_in_memory id m → self.new ≡ m }
     {
         self.trees.drop_flush(id);
         self.next_job -= 1;
@@ -98,7 +98,7 @@ impl EngineState {
 
     /// Forgets the flush of a keyspace that is out, where one is: what it was begun with stays in memory. It takes no memory.
     pub fn drop_flush(&mut self, id: u64)
-        ensures { self.new ≡ flush_gone id self.old }
+        ensures { self.new ≡ flush_gone_in_memory id self.old }
     {
         self.trees.drop_flush(id);
     }

@@ -5,7 +5,7 @@ ghost use Rattle.std.specs.FinMap.{contains_key, get};
 ghost use Rattle.std.specs.Ordering.{is_lt};
 ghost use Rattle.fjall_base.specs.Pairs.{byte_order};
 ghost use Rattle.fjall_compaction.specs.Planned.{IsIngestionRefusal};
-ghost use Rattle.fjall_recovery.specs.Known.{last_known};
+ghost use Rattle.fjall_replay.specs.Known.{last_known};
 ghost use Rattle.fjall_tree.specs.Ingestions.{is_flush_due};
 ghost use Rattle.fjall_tree.specs.Trees.{clears_of};
 ghost use Rattle.fjall_trees.specs.Maps.{store_of};
@@ -13,7 +13,7 @@ ghost use Rattle.fjall_meta.specs.declared.living.LivingKeyspace.{LivingKeyspace
 ghost use Rattle.fjall_meta.specs.Keyspaces.{keyspace_at};
 ghost use Rattle.fjall_manifest.specs.Records.{view};
 ghost use Rattle.fjall_trees.specs.Tables.{shape_in};
-ghost use Rattle.fjall_writes.specs.Ingestions.{AreWritable, KeysAscend};
+ghost use Rattle.fjall_reading.specs.Ingestions.{AreWritable, KeysAscend};
 ghost use Rattle.fjall_machine.specs.Ingesting.{IsPlanned, IsSwapped, do_ascend, ingestion_refusals, some_key_empty, some_key_too_long, some_value_too_long, with_record, with_tables};
 ghost use Rattle.fjall_machine.specs.Machine.{first_due, is_living};
 ghost use Rattle.fjall_machine.specs.Remembered.{IsLawful, facts_of};

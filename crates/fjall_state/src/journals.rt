@@ -6,15 +6,15 @@ ghost use Rattle.fjall_files.specs.Names.{journal_name};
 ghost use Rattle.fjall_files.specs.Tidy.{StaysTidy};
 ghost use Rattle.fjall_journal.specs.Writer.{IsIo, written_out};
 ghost use Rattle.fjall_journal.specs.Rotations.{RotationTook, empty_journal, rotating};
-ghost use Rattle.fjall_commit.specs.Journaling.{IsWriting};
-ghost use Rattle.fjall_commit.specs.Rotations.{ForRotating, KeepsSyncedKeyspaces, LeavesRotation, rotated};
-ghost use Rattle.fjall_machine.specs.Remembered.{journal_rotated};
+ghost use Rattle.fjall_changes.specs.Journaling.{IsWriting};
+ghost use Rattle.fjall_changes.specs.Rotations.{ForRotating, KeepsSyncedKeyspaces, LeavesRotation, rotated};
+ghost use Rattle.fjall_machine.specs.Remembered.{journal_rotated_in_memory};
 
 use crate::engine_state::EngineState;
 use fjall_base::{Disk, Result};
-use fjall_commit::rotate_journal;
+use fjall_changes::rotate_journal;
+use fjall_files::ActiveWatermarks;
 use fjall_journal::Writer;
-use fjall_manager::ActiveWatermarks;
 use std::alloc::Global;
 
 impl EngineState {
@@ -31,7 +31,7 @@ impl EngineState {
         disk: &mut D,
     ) -> Result<()>
         requires numbered { self.old.journals.active < 2 ^ 64 - 2 }
-        ensures ok { OnOk result (self.new ≡ journal_rotated (written_out journal.old).len self.old) }
+        ensures ok { OnOk result (self.new ≡ journal_rotated_in_memory (written_out journal.old).len self.old) }
         ensures begun { OnOk result (journal.new ≡ empty_journal (journal_name (self.old.journals.active + 1))) }
         ensures unchanged { OnErr result (self.new ≡ self.old) }
         ensures untouched { IfErr result (λ e. (IsIo e → ⊥) → (journal.new ≡ journal.old) × (D.meaning disk.new ≡ D.meaning disk.old)) }

@@ -4,7 +4,7 @@ ghost use Rattle.std.specs.Prelude.{◌≡◌, IfOk, IsOkUnless, Ok, OnErr, fals
 ghost use Rattle.fjall_journal.specs.Writer.{counted};
 ghost use Rattle.fjall_trees.specs.Maps.{store_of};
 ghost use Rattle.fjall_machine.specs.Machine.{buffer_size, flush_count, rotates, wants_rotation};
-ghost use Rattle.fjall_machine.specs.Remembered.{IsLawful, rotated};
+ghost use Rattle.fjall_machine.specs.Remembered.{IsLawful, rotated_in_memory};
 
 use crate::engine_state::EngineState;
 use fjall_base::{Error, Result};
@@ -15,7 +15,7 @@ impl EngineState {
     /// nothing has changed.
     pub fn rotate_memtable(&mut self, id: u64) -> Result<bool>
         ensures value { IfOk result (λ is_sealed. is_sealed ≡ rotates self.old.trees id) }
-        ensures sealed { result ≡ Ok true → self.new ≡ rotated id self.old }
+        ensures sealed { result ≡ Ok true → self.new ≡ rotated_in_memory id self.old }
         ensures empty { result ≡ Ok false → self.new ≡ self.old }
         ensures lawful { IsLawful self.old }
         ensures unchanged { OnErr result (self.new ≡ self.old) }

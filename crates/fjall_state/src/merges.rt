@@ -12,7 +12,7 @@ ghost use Rattle.fjall_compaction.specs.FlushPlans.{HaveFiles};
 ghost use Rattle.fjall_jobs.specs.Made.{merge_tables, merged_task};
 ghost use Rattle.fjall_jobs.specs.Merges.{merge_target, merge_task};
 ghost use Rattle.fjall_journal.specs.Writer.{IsIo};
-ghost use Rattle.fjall_recovery.specs.Known.{last_known};
+ghost use Rattle.fjall_replay.specs.Known.{last_known};
 ghost use Rattle.fjall_tree.specs.Jobs.{IsMerging, is_merge_out, merge_finished};
 ghost use Rattle.fjall_tree.specs.Trees.{Merging};
 ghost use Rattle.fjall_trees.specs.Maps.{store_of};
@@ -28,7 +28,7 @@ ghost use Rattle.fjall_trees.specs.Tables.{AreReadOn, AreSameTrees, shape_in};
 ghost use Rattle.fjall_trees.specs.Views.{forest_of};
 ghost use Rattle.fjall_machine.specs.Machine.{begins_merge, is_living, is_merging, least_of, merge_count, options_in, target_size};
 ghost use Rattle.fjall_machine.specs.Merging.{AreMergeReaders, AreTaken, ForMerge, ForMerging, IsMergeFinished, IsMergeRefusal, counted_as, keyspace_of};
-ghost use Rattle.fjall_machine.specs.Remembered.{IsLawful, merge_gone, merge_out, with_merge_done, with_trees};
+ghost use Rattle.fjall_machine.specs.Remembered.{IsLawful, merge_gone_in_memory, merge_out_in_memory, with_merge_done, with_trees};
 
 use crate::engine_state::EngineState;
 use fjall_base::{Disk, Error, Result};
@@ -37,7 +37,7 @@ use fjall_history::JobId;
 use fjall_jobs::{MergeJob, MergeMade};
 use fjall_machine::MergeKind;
 use fjall_manifest::Record;
-use fjall_recovery::LastRecords;
+use fjall_replay::LastRecords;
 use fjall_table_reader::TableReader;
 use fjall_trees::Trees;
 use std::alloc::Global;
@@ -93,8 +93,8 @@ impl EngineState {
     ) -> Result<MergeJob>
         requires begins { begins_merge (store_of self.old.keyspaces self.old.trees) self.old.trees kind id ≡ true }
         requires numbered { self.old.next_job < 2 ^ 64 - 1 }
-        ensures begun { OnOk result (self.new ≡ with_trees self.new.trees (merge_out id self.old)) }
-        ensures trees { OnOk result (AreSameTrees (merge_out id self.old).trees self.new.trees) }
+        ensures begun { OnOk result (self.new ≡ with_trees self.new.trees (merge_out_in_memory id self.old)) }
+        ensures trees { OnOk result (AreSameTrees (merge_out_in_memory id self.old).trees self.new.trees) }
         ensures named { IfOk result (λ job. ((merge_task job).id ≡ self.old.next_job) × ((merge_task job).keyspace ≡ id)) }
         ensures target { IfOk result (λ job. merge_target job ≡ target_size (options_in (store_of self.old.keyspaces self.old.trees) id)) }
         ensures out { IsTrue D.honest → (entries : ℕ → List (List Entry)) → AreReadOn (D.meaning disk.old) self.old.trees entries
@@ -134,7 +134,7 @@ impl EngineState {
 
     /// Forgets the merge of a keyspace that is out, where one is: what it was begun with stays. It takes no memory.
     pub fn drop_merge(&mut self, id: u64)
-        ensures { self.new ≡ merge_gone id self.old }
+        ensures { self.new ≡ merge_gone_in_memory id self.old }
     {
         self.trees.drop_merge(id);
     }

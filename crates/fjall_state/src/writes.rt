@@ -5,12 +5,12 @@ ghost use Rattle.fjall_base.specs.Disk.{HasCause, LeavesOnly, Took, state_in};
 ghost use Rattle.fjall_files.specs.Tidy.{StaysTidy};
 ghost use Rattle.fjall_journal.specs.Changes.{change_text, of_change};
 ghost use Rattle.fjall_journal.specs.Writer.{BatchTook, after_command, batch_steps};
-ghost use Rattle.fjall_manager.specs.Places.{marked, told};
+ghost use Rattle.fjall_files.specs.Places.{marked, told};
 ghost use Rattle.fjall_trees.specs.Forests.{AreBefore, IsForest};
 ghost use Rattle.fjall_trees.specs.Maps.{store_of};
 ghost use Rattle.fjall_trees.specs.Views.{AreMarksOfTrees, forest_before, forest_of};
-ghost use Rattle.fjall_commit.specs.Given.{ChangesSome, FitsBatch, meant};
-ghost use Rattle.fjall_commit.specs.Journaling.{ForFollowing, ForWriting, IsWriting, KeepsKeyspaces, LeavesRoot, after_mode, is_out, with_batch};
+ghost use Rattle.fjall_changes.specs.Given.{ChangesSome, FitsBatch, meant};
+ghost use Rattle.fjall_changes.specs.Journaling.{ForFollowing, ForWriting, IsWriting, KeepsKeyspaces, LeavesRoot, after_mode, is_out, with_batch};
 ghost use Rattle.fjall_machine.specs.Allowed.{IsOfLiving};
 ghost use Rattle.fjall_machine.specs.Machine.{changed};
 ghost use Rattle.fjall_machine.specs.Remembered.{IsLawful, with_change};
@@ -18,9 +18,9 @@ ghost use Rattle.fjall_state.specs.Changes.{HavePlaces};
 
 use crate::engine_state::EngineState;
 use fjall_base::{Disk, Error, Result};
-use fjall_commit::{Change, append_change};
+use fjall_changes::{Change, append_change};
+use fjall_files::ActiveWatermarks;
 use fjall_journal::{PersistMode, Writer};
-use fjall_manager::ActiveWatermarks;
 use fjall_trees::{Marks, Trees};
 use std::alloc::AllocError;
 

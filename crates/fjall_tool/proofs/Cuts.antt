@@ -8,7 +8,7 @@ use Rattle.std.specs.Io.KnownBytes.{Appends, IsAtEnd}
 use Rattle.std.proofs.lemmas.Bool.{eqb-true, lt-ltb}
 use Rattle.std.proofs.lemmas.List.{append-nil}
 use Rattle.fjall_lines.specs.Lines.{lines_of}
-use Rattle.fjall_writes.specs.Ingestions.{Ascending, IsIngestible, KeyOp}
+use Rattle.fjall_reading.specs.Ingestions.{Ascending, IsIngestible, KeyOp}
 use Rattle.fjall_tool.specs.Answers.{PrintsLoaded, loaded_line}
 use Rattle.fjall_tool.specs.Pairs.{AddsPair, HasNoPair, IsNoPair, SpellItems, SpellsItem}
 

@@ -10,7 +10,7 @@ use Rattle.fjall_lines.specs.declared.command.Command.{Command}
 use Rattle.fjall_lines.specs.declared.command.Command.TheVariants.{Ask}
 use Rattle.fjall_lines.specs.declared.command.Request.TheVariants.{Batch}
 use Rattle.fjall_lines.specs.Lines.{ReadsLine, IsWrite, Write, spelling}
-use Rattle.fjall_writes.specs.Ingestions.{Ascending, with_item}
+use Rattle.fjall_reading.specs.Ingestions.{Ascending, with_item}
 use Rattle.fjall_tool.specs.Pairs.{AddsPair, Pair, IsPair, SpellsPair, only_pair, pair_line, writes_of}
 
 -- the line of the batch that is read in a pair's place

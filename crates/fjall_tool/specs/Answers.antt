@@ -3,7 +3,7 @@ use Rattle.std.specs.Prelude.{ℕ, List, ◌++◌, Option, IfSome, codes, decima
 use Rattle.std.specs.List.{AllZip}
 use Rattle.std.specs.Io.KnownBytes.{Appends}
 use Rattle.fjall_lines.specs.Lines.{lines_of}
-use Rattle.fjall_writes.specs.Ingestions.{IsIngestible, KeyOp}
+use Rattle.fjall_reading.specs.Ingestions.{IsIngestible, KeyOp}
 use Rattle.fjall_tool.specs.Pairs.{SpellsItem}
 
 -- how many pairs were loaded, as it is printed

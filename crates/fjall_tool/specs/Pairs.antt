@@ -8,7 +8,7 @@ use Rattle.fjall_lines.specs.declared.command.Command.{Command}
 use Rattle.fjall_lines.specs.declared.command.Command.TheVariants.{Ask}
 use Rattle.fjall_lines.specs.declared.command.Request.TheVariants.{Batch}
 use Rattle.fjall_lines.specs.Lines.{Write, hex_word, lines_of, value_word}
-use Rattle.fjall_writes.specs.Ingestions.{Ascending, KeyOp, with_item}
+use Rattle.fjall_reading.specs.Ingestions.{Ascending, KeyOp, with_item}
 
 -- a key, and its new value, or none where it is removed
 abbrev pub Pair : Type 0

@@ -2,7 +2,7 @@
 
 use crate::usage;
 use fjall_base::{DirEntry, Disk, Error, Result};
-use fjall_folder::FolderDisk;
+use fjall_disk_folder::FolderDisk;
 use fjall_script::Status;
 use std::alloc::{AllocError, Global};
 use std::io::{Read, Write};

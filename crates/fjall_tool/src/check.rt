@@ -2,8 +2,8 @@
 
 use anyhow::{Context, Result};
 use fjall_base::Disk;
+use fjall_disk_folder::FolderReader;
 use fjall_files::MARKER_FILE;
-use fjall_folder::FolderReader;
 use fjall_inspect::{Report, check};
 use fjall_script::Status;
 

@@ -1,10 +1,10 @@
 //! Brings a bulk write into a keyspace of a database.
 
 use fjall_base::{Disk, Result};
-use fjall_folder::FolderDisk;
+use fjall_disk_folder::FolderDisk;
 use fjall_options::KeyspaceCreateOptions;
+use fjall_reading::Ingestion;
 use fjall_script::{Config, Engine};
-use fjall_writes::Ingestion;
 use std::alloc::Global;
 
 // Opens the database on a disk.

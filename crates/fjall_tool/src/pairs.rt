@@ -7,7 +7,7 @@ ghost use Rattle.fjall_tool.specs.Pairs.{AddsPair, HasNoPair, IsNoPair, SpellIte
 
 use fjall_base::{Result, UserKey, UserValue};
 use fjall_lines::{Command, Request, Write, Writes, parse};
-use fjall_writes::Ingestion;
+use fjall_reading::Ingestion;
 use std::alloc::{AllocError, Global};
 use std::io::BufRead;
 

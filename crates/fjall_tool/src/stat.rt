@@ -3,8 +3,8 @@
 use crate::spelling::word_of;
 use anyhow::{Context, Result, bail};
 use fjall_base::Disk;
+use fjall_disk_folder::FolderReader;
 use fjall_files::journal_name;
-use fjall_folder::FolderReader;
 use fjall_inspect::{KeyspaceSurvey, TableCounts, survey};
 use fjall_journal::RecoveryMode;
 use fjall_recovery::{RecoveredFolder, read_folder};

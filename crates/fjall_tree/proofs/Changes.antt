@@ -10,12 +10,12 @@ use Rattle.fjall_base.specs.Disk.{Meaning}
 use Rattle.fjall_base.specs.Pairs.{Bytes}
 use Rattle.fjall_table.specs.Blocks.{Entry}
 use Rattle.fjall_memtable.specs.Entries.{IsAbsent, inserted, stamp_of}
-use Rattle.fjall_views.specs.Jobs.{AreBelow, OnceEach, is_at}
-use Rattle.fjall_views.specs.Views.{is_seen, later, newest, value_at, value_left}
-use Rattle.fjall_views.proofs.Newest.{newest-append}
-use Rattle.fjall_views.proofs.Sameness.{at-true, at_turned, same_newest}
-use Rattle.fjall_views.proofs.Shown.{value_shown}
-use Rattle.fjall_views.proofs.Writing.{write_keeps, write_shows}
+use Rattle.fjall_memtable.specs.Jobs.{AreBelow, OnceEach, is_at}
+use Rattle.fjall_memtable.specs.Views.{is_seen, later, newest, value_at, value_left}
+use Rattle.fjall_memtable.proofs.NewestSeen.{newest-append}
+use Rattle.fjall_memtable.proofs.Sameness.{at-true, at_turned, same_newest}
+use Rattle.fjall_memtable.proofs.Shown.{value_shown}
+use Rattle.fjall_memtable.proofs.Writing.{write_keeps, write_shows}
 use Rattle.fjall_memtable.specs.Sorted.{flat}
 use Rattle.fjall_memtable.proofs.Sorting.{inserted_same}
 use Rattle.fjall_table_reader.specs.Readers.{AreRead, Reader}

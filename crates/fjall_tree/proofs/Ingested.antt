@@ -6,10 +6,10 @@ use Rattle.std.proofs.lemmas.List.Elements.{All-append, All-filter, All-head, Al
 use Rattle.fjall_base.specs.Disk.{Meaning}
 use Rattle.fjall_base.specs.Pairs.{Bytes}
 use Rattle.fjall_table.specs.Blocks.{Entry}
-use Rattle.fjall_views.specs.Jobs.{AreBelow, AreFrom, IsAbove, OnceEach, flushed}
-use Rattle.fjall_views.specs.Views.{value_at}
-use Rattle.fjall_views.proofs.Hiding.{a_flush_keeps_views}
-use Rattle.fjall_views.proofs.Once.{parts_once}
+use Rattle.fjall_memtable.specs.Jobs.{AreBelow, AreFrom, IsAbove, OnceEach, flushed}
+use Rattle.fjall_memtable.specs.Views.{value_at}
+use Rattle.fjall_memtable.proofs.Hiding.{a_flush_keeps_views}
+use Rattle.fjall_memtable.proofs.Once.{parts_once}
 use Rattle.fjall_memtable.specs.Sorted.{flat}
 use Rattle.fjall_table_reader.specs.Readers.{AreRead, Reader}
 use Rattle.fjall_memtable.specs.Parts.{AreApart, HeldPart, IsHeld, Memory, clears_in, empty_from, parts_of, versions_in}

@@ -8,10 +8,10 @@ use Rattle.std.proofs.lemmas.List.Elements.{All-append, All-filter, All-head, Al
 use Rattle.fjall_base.specs.Disk.{Meaning}
 use Rattle.fjall_base.specs.Pairs.{Bytes}
 use Rattle.fjall_table.specs.Blocks.{Entry}
-use Rattle.fjall_views.specs.Jobs.{AreBelow, AreFrom, IsAbove, OnceEach, merged, merged_clears}
-use Rattle.fjall_views.specs.Views.{value_at}
-use Rattle.fjall_views.proofs.Merging.{a_merge_keeps_views}
-use Rattle.fjall_views.proofs.Once.{parts_once}
+use Rattle.fjall_memtable.specs.Jobs.{AreBelow, AreFrom, IsAbove, OnceEach, merged, merged_clears}
+use Rattle.fjall_memtable.specs.Views.{value_at}
+use Rattle.fjall_memtable.proofs.Merging.{a_merge_keeps_views}
+use Rattle.fjall_memtable.proofs.Once.{parts_once}
 use Rattle.fjall_memtable.specs.Sorted.{flat}
 use Rattle.fjall_table_reader.specs.Readers.{AreRead, Reader}
 use Rattle.fjall_memtable.specs.Parts.{AreApart, Ascends, IsHeld, Memory, clears_in, parts_of, versions_in}

@@ -8,25 +8,25 @@ use Rattle.std.proofs.lemmas.List.Elements.{All-cons, All-filter, All-head, All-
 use Rattle.fjall_base.specs.Pairs.{Bytes, KeyRange, Pairs, is_within, page, pairs_between}
 use Rattle.fjall_table.specs.Blocks.{Entry, IsOrdered}
 use Rattle.fjall_table.specs.Tables.{entries_within}
-use Rattle.fjall_views.specs.Jobs.{AreBelow, OnceEach}
-use Rattle.fjall_views.specs.Views.{IsView}
-use Rattle.fjall_views.proofs.Once.{parts_once}
-use Rattle.fjall_views.proofs.Sameness.{fewer_once}
+use Rattle.fjall_memtable.specs.Jobs.{AreBelow, OnceEach}
+use Rattle.fjall_memtable.specs.Views.{IsView}
+use Rattle.fjall_memtable.proofs.Once.{parts_once}
+use Rattle.fjall_memtable.proofs.Sameness.{fewer_once}
 use Rattle.fjall_memtable.specs.SortedPages.{barrier, pairs_back, pairs_of}
 use Rattle.fjall_memtable.specs.Sorted.{IsInTurn, flat, in_turn, sorted}
 use Rattle.fjall_memtable.proofs.SortedOrders.{filter_chain}
 use Rattle.fjall_memtable.proofs.SortedRanges.{bounds_first}
 use Rattle.fjall_memtable.proofs.Sorting.{chain_of, ordered_of}
 use Rattle.fjall_memtable.proofs.Viewing as Viewing
-use Rattle.fjall_runs.proofs.Heads.{taken_run}
+use Rattle.fjall_cursors.proofs.Heads.{taken_run}
 use Rattle.fjall_memtable.specs.declared.part.Part.{Part}
 use Rattle.fjall_memtable.specs.Held.{held_of}
 use Rattle.fjall_memtable.specs.Parts.{AreApart, HeldPart, IsHeld, parts_of, versions_in}
 use Rattle.fjall_memtable.specs.Shares.{shared}
 use Rattle.fjall_memtable.proofs.Onces.{once_in}
-use Rattle.fjall_runs.specs.Pages.{page_of}
-use Rattle.fjall_runs.proofs.Looping.{turned_twice}
-use Rattle.fjall_runs.proofs.Orders.{IsShuffled, flat_shuffled, once_shuffled, sorted_shuffled}
+use Rattle.fjall_cursors.specs.Pages.{page_of}
+use Rattle.fjall_cursors.proofs.Looping.{turned_twice}
+use Rattle.fjall_cursors.proofs.Orders.{IsShuffled, flat_shuffled, once_shuffled, sorted_shuffled}
 use Rattle.fjall_tree.specs.Pages.{run_of}
 use Rattle.fjall_tree.specs.Trees.{Shape, clears_of, floor_of, versions_of}
 use Rattle.fjall_tree.proofs.Flushed.{from_floor}

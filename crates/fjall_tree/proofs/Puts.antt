@@ -4,7 +4,7 @@ use Rattle.std.specs.List.{list_any}
 use Rattle.std.proofs.lemmas.Bool.{cases_Bool, cond-false, cond-true, le-leb, leb-true}
 use Rattle.std.proofs.lemmas.Option.{get_or_from_slice_get}
 use Rattle.fjall_table.specs.Blocks.{Entry}
-use Rattle.fjall_views.proofs.Tests.{any_first}
+use Rattle.fjall_memtable.proofs.Tests.{any_first}
 use Rattle.fjall_memtable.specs.Parts.{Ascends, Memory, with_active, with_version}
 use Rattle.fjall_tree.specs.Puts.{emptied_once, has_stamp, put}
 use Rattle.fjall_tree.specs.Trees.{Shape, emptied, with_memory, written}

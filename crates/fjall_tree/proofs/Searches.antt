@@ -9,8 +9,8 @@ use Rattle.fjall_table.specs.Blocks.{Entry}
 use Rattle.fjall_table.specs.Tables.{Handle, versions_at}
 use Rattle.fjall_table_reader.specs.Files.{entry_at}
 use Rattle.fjall_table.proofs.TableBlocks.{more_taken}
-use Rattle.fjall_views.specs.Views.{is_seen, later, newest}
-use Rattle.fjall_views.proofs.Newest.{newest-append}
+use Rattle.fjall_memtable.specs.Views.{is_seen, later, newest}
+use Rattle.fjall_memtable.proofs.NewestSeen.{newest-append}
 use Rattle.fjall_memtable.specs.Sorted.{flat}
 use Rattle.fjall_memtable.proofs.SortedRanges.{newest_first}
 use Rattle.fjall_table_reader.specs.declared.found.Found.{Found}

@@ -6,8 +6,8 @@ use Rattle.std.proofs.lemmas.Bool.{or_parts}
 use Rattle.std.proofs.lemmas.List.Folds.{list_any-append}
 use Rattle.fjall_base.specs.Disk.{Meaning}
 use Rattle.fjall_table.specs.Blocks.{Entry, IsOrdered}
-use Rattle.fjall_views.specs.Jobs.{OnceEach, Same, is_at}
-use Rattle.fjall_views.proofs.Sameness.{all_among, among_has, is}
+use Rattle.fjall_memtable.specs.Jobs.{OnceEach, Same, is_at}
+use Rattle.fjall_memtable.proofs.Sameness.{all_among, among_has, is}
 use Rattle.fjall_memtable.specs.Sorted.{flat}
 use Rattle.fjall_memtable.proofs.Sorting.{chain_of}
 use Rattle.fjall_table_reader.specs.Readers.{AreRead, Reader}

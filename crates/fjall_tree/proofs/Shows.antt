@@ -3,10 +3,10 @@ use Rattle.std.proofs.Common.{◌≡◌, ℕ, max, Bool, true, false, cond, ltb,
 use Rattle.std.specs.List.{All}
 use Rattle.fjall_base.specs.Pairs.{Bytes}
 use Rattle.fjall_table.specs.Blocks.{Entry}
-use Rattle.fjall_views.specs.Jobs.{AreBelow, AreFrom}
-use Rattle.fjall_views.specs.Views.{is_seen, later, newest, value_at, value_left}
-use Rattle.fjall_views.proofs.Newest.{behind_wins, later_none, newest-append}
-use Rattle.fjall_views.proofs.Shown.{value_shown}
+use Rattle.fjall_memtable.specs.Jobs.{AreBelow, AreFrom}
+use Rattle.fjall_memtable.specs.Views.{is_seen, later, newest, value_at, value_left}
+use Rattle.fjall_memtable.proofs.NewestSeen.{behind_wins, later_none, newest-append}
+use Rattle.fjall_memtable.proofs.Shown.{value_shown}
 use Rattle.fjall_memtable.specs.SortedPages.{barrier}
 use Rattle.fjall_memtable.specs.Sorted.{flat}
 use Rattle.fjall_memtable.proofs.Barriers.{barrier_stands}

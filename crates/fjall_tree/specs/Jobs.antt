@@ -2,7 +2,7 @@
 use Rattle.std.specs.Prelude.{◌≡◌, ◌≢◌, ◌⊎◌, ℕ, ◌+◌, ◌<◌, ◌≤◌, ◌==◌, Bool, false, List, [], ◌++◌, count_by, Option, Some, None, length, map, take, drop, vec_len, vec_capacity}
 use Rattle.std.specs.List.{All}
 use Rattle.fjall_table.specs.Blocks.{Entry}
-use Rattle.fjall_views.specs.Jobs.{AreBelow, AreFrom, merged_clears}
+use Rattle.fjall_memtable.specs.Jobs.{AreBelow, AreFrom, merged_clears}
 use Rattle.fjall_memtable.specs.Sorted.{flat}
 use Rattle.fjall_table_reader.specs.Readers.{Reader}
 use Rattle.fjall_memtable.specs.Parts.{HeldPart, Memory, clears_in}

@@ -2,7 +2,7 @@
 use Rattle.std.specs.Prelude.{ℕ, Bool, None, List, [], ◌∷◌, if◌then◌else◌, nat_le}
 use Rattle.std.specs.List.{list_any}
 use Rattle.fjall_table.specs.Blocks.{Entry}
-use Rattle.fjall_views.specs.Jobs.{is_at}
+use Rattle.fjall_memtable.specs.Jobs.{is_at}
 use Rattle.fjall_memtable.specs.Parts.{empty_from}
 use Rattle.fjall_tree.specs.Trees.{Shape, emptied, written}
 

@@ -7,7 +7,7 @@ use Rattle.fjall_base.specs.Disk.{Meaning}
 use Rattle.fjall_table.specs.declared.level.Level.{Level}
 use Rattle.fjall_table.specs.declared.level.Level.TheVariants.{L0, L1}
 use Rattle.fjall_table.specs.Blocks.{Entry}
-use Rattle.fjall_views.specs.Jobs.{AreBelow, OnceEach}
+use Rattle.fjall_memtable.specs.Jobs.{AreBelow, OnceEach}
 use Rattle.fjall_memtable.specs.Sorted.{flat}
 use Rattle.fjall_table_reader.specs.Readers.{AreRead, AreSameTables, Reader, all_aged, all_unread}
 use Rattle.fjall_memtable.specs.Parts.{Ascends, HeldPart, Memory, clears_in, parts_of, rotated, versions_in, with_active, with_clear, with_version}

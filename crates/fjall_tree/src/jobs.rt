@@ -5,7 +5,7 @@ ghost use Rattle.std.specs.Prelude.{false, IsTrue, IfOk, IfErr, IfSome, IsOkUnle
 ghost use Rattle.fjall_table.specs.Blocks.{Entry};
 ghost use Rattle.fjall_table_reader.specs.Files.{IsRefused};
 ghost use Rattle.fjall_table_reader.specs.Readers.{LooksOn, SomeTableIsWrong};
-ghost use Rattle.fjall_views.specs.Jobs.{merged_clears};
+ghost use Rattle.fjall_memtable.specs.Jobs.{merged_clears};
 ghost use Rattle.fjall_memtable.specs.Parts.{Ascends, clears_in};
 ghost use Rattle.fjall_jobs.specs.Flushes.{flush_task};
 ghost use Rattle.fjall_jobs.specs.Made.{flushed_task, merged_task};

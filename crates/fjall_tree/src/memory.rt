@@ -6,7 +6,7 @@ ghost use Rattle.std.specs.Option.{option_map};
 ghost use Rattle.fjall_base.specs.Pairs.{Pairs, key_range, page, pairs_between};
 ghost use Rattle.fjall_table.specs.Blocks.{value_bytes};
 ghost use Rattle.fjall_memtable.specs.Entries.{version};
-ghost use Rattle.fjall_views.specs.Views.{IsView, value_at};
+ghost use Rattle.fjall_memtable.specs.Views.{IsView, value_at};
 ghost use Rattle.fjall_memtable.specs.Parts.{Ascends};
 ghost use Rattle.fjall_tree.specs.Puts.{emptied_once, put};
 ghost use Rattle.fjall_tree.specs.Trees.{clears_of, versions_of};
@@ -15,7 +15,7 @@ use crate::pages::memory_runs;
 use crate::search::value_of;
 use crate::tree::Tree;
 use fjall_base::{Error, KeyBounds, KvPair, UserValue};
-use fjall_runs::page_of_runs;
+use fjall_cursors::page_of_runs;
 use std::alloc::AllocError;
 
 // Whether one of ascending numbers is this one or above it.

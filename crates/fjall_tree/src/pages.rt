@@ -4,7 +4,7 @@ ghost use Rattle.std.specs.Prelude.{◌≡◌, ⊤, List, map, IfOk, IfErr, IsTr
 ghost use Rattle.fjall_base.specs.Pairs.{Pairs, key_range, page, pairs_between};
 ghost use Rattle.fjall_table.specs.Blocks.{Entry};
 ghost use Rattle.fjall_table_reader.specs.Files.{IsRefused};
-ghost use Rattle.fjall_views.specs.Views.{IsView};
+ghost use Rattle.fjall_memtable.specs.Views.{IsView};
 ghost use Rattle.fjall_table_reader.specs.Readers.{LooksOn, SomeTableIsWrong};
 ghost use Rattle.fjall_memtable.specs.Held.{held_of};
 ghost use Rattle.fjall_memtable.specs.Parts.{parts_of};
@@ -14,8 +14,8 @@ ghost use Rattle.fjall_tree.specs.Trees.{IsSameShape, ReadsAll, clears_of, versi
 
 use crate::tree::Tree;
 use fjall_base::{Disk, KeyBounds, KvPair, Result};
+use fjall_cursors::{MemtableRun, PageQuery, page};
 use fjall_memtable::{Part, Parts};
-use fjall_runs::{MemtableRun, PageQuery, page};
 use std::alloc::{AllocError, Global};
 use std::result;
 

@@ -5,7 +5,7 @@ ghost use Rattle.std.specs.Option.{option_map};
 ghost use Rattle.fjall_base.specs.Pairs.{Bytes};
 ghost use Rattle.fjall_table.specs.Blocks.{Entry, seen};
 ghost use Rattle.fjall_table_reader.specs.Files.{IsRefused};
-ghost use Rattle.fjall_views.specs.Views.{later, newest};
+ghost use Rattle.fjall_memtable.specs.Views.{later, newest};
 ghost use Rattle.fjall_memtable.specs.SortedPages.{barrier};
 ghost use Rattle.fjall_memtable.specs.Sorted.{flat};
 ghost use Rattle.fjall_table_reader.specs.Finds.{IsFound, entry_found};

@@ -5,7 +5,7 @@ ghost use Rattle.std.specs.List.{All, sum_by};
 ghost use Rattle.fjall_base.specs.Disk.{Meaning};
 ghost use Rattle.fjall_table.specs.Blocks.{Entry};
 ghost use Rattle.fjall_table_reader.specs.Files.{IsRefused};
-ghost use Rattle.fjall_views.specs.Views.{newest, value_at};
+ghost use Rattle.fjall_memtable.specs.Views.{newest, value_at};
 ghost use Rattle.fjall_memtable.specs.SortedPages.{barrier};
 ghost use Rattle.fjall_table_reader.specs.Readers.{LooksOn, SomeTableIsWrongFor, kept_sizes, recent_sizes};
 ghost use Rattle.fjall_memtable.specs.Entries.{size_of, version, IsAbsent};

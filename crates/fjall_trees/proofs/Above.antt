@@ -5,10 +5,10 @@ use Rattle.std.proofs.lemmas.Bool.{and_right, le-ltb, lt-ltb}
 use Rattle.std.proofs.lemmas.List.Elements.{All-head, All-tail}
 use Rattle.fjall_base.specs.Pairs.{Bytes}
 use Rattle.fjall_table.specs.Blocks.{Entry}
-use Rattle.fjall_views.specs.Jobs.{AreBelow, AreFrom}
-use Rattle.fjall_views.specs.Views.{is_cleared, is_seen, later, newest, value_at, value_left, view_of}
-use Rattle.fjall_views.proofs.Newest.{later_none, newest-append}
-use Rattle.fjall_views.proofs.Shown.{is_view, one_view, value_shown}
+use Rattle.fjall_memtable.specs.Jobs.{AreBelow, AreFrom}
+use Rattle.fjall_memtable.specs.Views.{is_cleared, is_seen, later, newest, value_at, value_left, view_of}
+use Rattle.fjall_memtable.proofs.NewestSeen.{later_none, newest-append}
+use Rattle.fjall_memtable.proofs.Shown.{is_view, one_view, value_shown}
 
 -- instants above a number both see it
 both_see : (n a b m : ℕ) → n ≤ a → n ≤ b → m < n → ltb m a ≡ ltb m b

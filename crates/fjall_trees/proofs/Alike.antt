@@ -5,8 +5,8 @@ use Rattle.std.proofs.lemmas.List.Elements.{All-cons, All-head, All-nil, All-tai
 use Rattle.fjall_base.specs.Pairs.{Pairs}
 use Rattle.fjall_meta.specs.Keyspaces.{Keyspaces}
 use Rattle.fjall_table.specs.Blocks.{Entry}
-use Rattle.fjall_views.specs.Jobs.{AreBelow}
-use Rattle.fjall_views.specs.Views.{view_of}
+use Rattle.fjall_memtable.specs.Jobs.{AreBelow}
+use Rattle.fjall_memtable.specs.Views.{view_of}
 use Rattle.fjall_memtable.specs.Sorted.{flat}
 use Rattle.fjall_memtable.specs.Parts.{AreApart, Ascends, IsHeld, Memory, clears_in, parts_of, versions_in}
 use Rattle.fjall_tree.specs.Jobs.{flush_begun, merge_begun}

@@ -9,14 +9,14 @@ use Rattle.fjall_base.specs.Store.{Clear, Create, Delete, apply, kept}
 use Rattle.fjall_journal.specs.Ops.{BatchItem, write_of}
 use Rattle.fjall_meta.specs.declared.living.LivingKeyspace.{LivingKeyspace}
 use Rattle.fjall_meta.specs.Keyspaces.{AreKeyspaces, Keyspaces, keyspace_at, with_keyspace, without_keyspace}
-use Rattle.fjall_contents.specs.Replays.{option_pairs}
-use Rattle.fjall_contents.specs.Versions.{pairs_after}
-use Rattle.fjall_contents.proofs.Creating as Creating
-use Rattle.fjall_contents.proofs.Keeping as Keeping
-use Rattle.fjall_contents.proofs.Keeping.{lives}
-use Rattle.fjall_contents.proofs.Kept.{same_kept}
-use Rattle.fjall_contents.proofs.Living.{found_new, found_other, found_without}
-use Rattle.fjall_contents.proofs.Slots.{get_put}
+use Rattle.fjall_meta.specs.Replays.{option_pairs}
+use Rattle.fjall_meta.specs.Versions.{pairs_after}
+use Rattle.fjall_meta.proofs.Creating as Creating
+use Rattle.fjall_meta.proofs.Keeping as Keeping
+use Rattle.fjall_meta.proofs.Keeping.{lives}
+use Rattle.fjall_meta.proofs.Kept.{same_kept}
+use Rattle.fjall_meta.proofs.LivingContents.{found_new, found_other, found_without}
+use Rattle.fjall_meta.proofs.Slots.{get_put}
 use Rattle.fjall_trees.specs.MapTables.{store_by}
 use Rattle.fjall_trees.proofs.Items.{made, slot_made}
 use Rattle.fjall_trees.proofs.Stores.{held_by, kept_by, living_by, same_by}

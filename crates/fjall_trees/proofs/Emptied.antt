@@ -7,10 +7,10 @@ use Rattle.fjall_base.specs.Pairs.{Bytes, byte_order}
 use Rattle.fjall_base.specs.Store.{Clear, Store, apply, kept, map_at}
 use Rattle.fjall_meta.specs.Keyspaces.{Keyspaces, keyspace_at}
 use Rattle.fjall_table.specs.Blocks.{Entry}
-use Rattle.fjall_views.specs.Views.{value_at}
-use Rattle.fjall_views.proofs.Shown as Shown
-use Rattle.fjall_views.proofs.Writing.{clear_empties, clear_keeps}
-use Rattle.fjall_contents.proofs.Slots.{get_put}
+use Rattle.fjall_memtable.specs.Views.{value_at}
+use Rattle.fjall_memtable.proofs.Shown as Shown
+use Rattle.fjall_memtable.proofs.Writing.{clear_empties, clear_keeps}
+use Rattle.fjall_meta.proofs.Slots.{get_put}
 use Rattle.fjall_memtable.specs.Parts.{with_clear}
 use Rattle.fjall_memtable.proofs.Changes.{clear_held}
 use Rattle.fjall_tree.specs.Trees.{Shape, clears_of, emptied, versions_of}

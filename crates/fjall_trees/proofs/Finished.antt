@@ -6,8 +6,8 @@ use Rattle.std.proofs.lemmas.List.Elements.{All-weaker}
 use Rattle.fjall_base.specs.Pairs.{Pairs}
 use Rattle.fjall_meta.specs.Keyspaces.{Keyspaces}
 use Rattle.fjall_table.specs.Blocks.{Entry}
-use Rattle.fjall_views.specs.Jobs.{IsAbove}
-use Rattle.fjall_views.proofs.Shown as Shown
+use Rattle.fjall_memtable.specs.Jobs.{IsAbove}
+use Rattle.fjall_memtable.proofs.Shown as Shown
 use Rattle.fjall_table_reader.specs.Readers.{Reader}
 use Rattle.fjall_memtable.specs.Parts.{IsHeld}
 use Rattle.fjall_memtable.proofs.Apart.{apart_drop, held_behind}

@@ -8,9 +8,9 @@ use Rattle.fjall_base.specs.Pairs.{Pairs}
 use Rattle.fjall_journal.specs.Ops.{BatchItem}
 use Rattle.fjall_meta.specs.Keyspaces.{Keyspaces}
 use Rattle.fjall_table.specs.Blocks.{Entry}
-use Rattle.fjall_views.specs.Jobs.{IsAbove, OnceEach}
-use Rattle.fjall_views.specs.Views.{value_at}
-use Rattle.fjall_views.proofs.Shown as Shown
+use Rattle.fjall_memtable.specs.Jobs.{IsAbove, OnceEach}
+use Rattle.fjall_memtable.specs.Views.{value_at}
+use Rattle.fjall_memtable.proofs.Shown as Shown
 use Rattle.fjall_table_reader.specs.Readers.{Reader}
 use Rattle.fjall_memtable.specs.Sorted.{flat}
 use Rattle.fjall_memtable.specs.Parts.{IsHeld, empty_from}

@@ -13,14 +13,14 @@ use Rattle.fjall_journal.specs.declared.op.Op.{Op}
 use Rattle.fjall_journal.specs.declared.op.Op.TheVariants.{Put, Remove, RemoveWeak}
 use Rattle.fjall_journal.specs.Ops.{BatchItem, are_too_many, bytes_in, items_refusal, some_key_empty, some_key_too_long, some_value_too_long, value_in, write_of}
 use Rattle.fjall_table.specs.Blocks.{Entry, IsEntry, value_bytes}
-use Rattle.fjall_views.specs.Views.{IsView}
-use Rattle.fjall_views.proofs.Tests.{all_of}
-use Rattle.fjall_views.proofs.Writing.{write_alters}
-use Rattle.fjall_contents.specs.Versions.{Version, pairs_after, version_made}
-use Rattle.fjall_contents.proofs.Newest.{pairs_at}
-use Rattle.fjall_contents.proofs.Slots.{slot_after, slot_at}
-use Rattle.fjall_contents.proofs.Viewing.{as_view}
-use Rattle.fjall_contents.proofs.Writes.{write_by_versions}
+use Rattle.fjall_memtable.specs.Views.{IsView}
+use Rattle.fjall_memtable.proofs.Tests.{all_of}
+use Rattle.fjall_memtable.proofs.Writing.{write_alters}
+use Rattle.fjall_meta.specs.Versions.{Version, pairs_after, version_made}
+use Rattle.fjall_meta.proofs.Newest.{pairs_at}
+use Rattle.fjall_meta.proofs.Slots.{slot_after, slot_at}
+use Rattle.fjall_meta.proofs.Viewing.{as_view}
+use Rattle.fjall_meta.proofs.Writes.{write_by_versions}
 use Rattle.fjall_trees.specs.Writes.{version_of_item, versions_of_items}
 
 -- ---- what a batch may have

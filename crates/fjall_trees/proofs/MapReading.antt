@@ -6,8 +6,8 @@ use Rattle.fjall_base.specs.Store.{kept, map_at}
 use Rattle.fjall_meta.specs.declared.living.LivingKeyspace.{LivingKeyspace}
 use Rattle.fjall_meta.specs.Keyspaces.{Keyspaces, keyspace_at}
 use Rattle.fjall_table.specs.Blocks.{Entry}
-use Rattle.fjall_views.specs.Views.{IsView, value_at}
-use Rattle.fjall_views.proofs.Shown as Shown
+use Rattle.fjall_memtable.specs.Views.{IsView, value_at}
+use Rattle.fjall_memtable.proofs.Shown as Shown
 use Rattle.fjall_tree.specs.Trees.{Shape, clears_of, versions_of}
 use Rattle.fjall_trees.specs.Forests.{AreBefore, Forest, IsForest, IsTree, tree_at}
 use Rattle.fjall_trees.proofs.Changing.{tree_under}

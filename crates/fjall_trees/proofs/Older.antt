@@ -4,8 +4,8 @@ use Rattle.std.proofs.lemmas.List.Elements.{All-filter, All-nil, All-push, All-w
 use Rattle.fjall_base.specs.Disk.{Meaning}
 use Rattle.fjall_journal.specs.Ops.{BatchItem}
 use Rattle.fjall_table.specs.Blocks.{Entry}
-use Rattle.fjall_views.specs.Jobs.{AreBelow}
-use Rattle.fjall_views.proofs.Tests.{all_of}
+use Rattle.fjall_memtable.specs.Jobs.{AreBelow}
+use Rattle.fjall_memtable.proofs.Tests.{all_of}
 use Rattle.fjall_memtable.specs.Sorted.{flat}
 use Rattle.fjall_memtable.specs.Parts.{empty_from, with_clear, with_version}
 use Rattle.fjall_tree.specs.Puts.{bare_tree}

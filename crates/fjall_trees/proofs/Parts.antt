@@ -4,7 +4,7 @@ use Rattle.std.specs.List.{flat_map}
 use Rattle.std.proofs.lemmas.List.Concat.{flat_map-append}
 use Rattle.std.proofs.lemmas.List.Elements.{All-append, All-head, All-nil, All-pop, All-push, All-tail, All-weaker}
 use Rattle.fjall_table.specs.Blocks.{Entry}
-use Rattle.fjall_views.specs.Jobs.{AreBelow}
+use Rattle.fjall_memtable.specs.Jobs.{AreBelow}
 use Rattle.fjall_memtable.specs.Sorted.{flat}
 use Rattle.fjall_memtable.specs.Parts.{AreApart, HeldPart, IsHeld, clears_in, parts_of, versions_in, with_active}
 use Rattle.fjall_memtable.proofs.Apart.{IsNumbered, apart_with, clears_numbered, numbers_below, versions_numbered}

@@ -8,7 +8,7 @@ use Rattle.fjall_base.specs.Pairs.{Bytes}
 use Rattle.fjall_base.specs.Store.{Create, Delete, apply, kept}
 use Rattle.fjall_meta.specs.Keyspaces.{AreKeyspaces, Keyspaces, with_keyspace, without_keyspace}
 use Rattle.fjall_table.specs.Blocks.{Entry, IsEntry}
-use Rattle.fjall_contents.specs.Replays.{option_pairs}
+use Rattle.fjall_meta.specs.Replays.{option_pairs}
 use Rattle.fjall_memtable.specs.Parts.{IsHeld, empty_from}
 use Rattle.fjall_tree.specs.Trees.{Shape}
 use Rattle.fjall_tree.specs.Puts.{bare_tree}

@@ -12,10 +12,10 @@ use Rattle.fjall_meta.specs.Keyspaces.{Keyspaces, keyspace_at}
 use Rattle.fjall_table.specs.Blocks.{Entry, IsEntry}
 use Rattle.fjall_memtable.specs.Entries.{IsAbsent, stamp_of}
 use Rattle.fjall_memtable.specs.Stamps.{Stamp}
-use Rattle.fjall_views.specs.Views.{IsView, value_at, view_of}
-use Rattle.fjall_views.proofs.Shown as Shown
-use Rattle.fjall_contents.specs.Versions.{pairs_after}
-use Rattle.fjall_contents.proofs.Ids.{living_has}
+use Rattle.fjall_memtable.specs.Views.{IsView, value_at, view_of}
+use Rattle.fjall_memtable.proofs.Shown as Shown
+use Rattle.fjall_meta.specs.Versions.{pairs_after}
+use Rattle.fjall_meta.proofs.Ids.{living_has}
 use Rattle.fjall_memtable.specs.Parts.{IsHeld, with_version}
 use Rattle.fjall_memtable.proofs.Changes.{version_held}
 use Rattle.fjall_tree.specs.Trees.{Shape, clears_of, versions_of}

@@ -7,12 +7,12 @@ use Rattle.std.proofs.lemmas.List.Folds.{list_any-append, list_any_none}
 use Rattle.fjall_base.specs.Pairs.{Bytes}
 use Rattle.fjall_table.specs.Blocks.{Entry, IsOrdered}
 use Rattle.fjall_memtable.specs.Entries.{IsAbsent, inserted, stamp_of}
-use Rattle.fjall_views.specs.Jobs.{is_at}
-use Rattle.fjall_views.specs.Views.{is_seen, later, newest, value_at, value_left}
-use Rattle.fjall_views.proofs.Newest.{first_wins, later_assoc, later_none, newest-append, newest_among, newest_has, one, reaches, second_wins}
-use Rattle.fjall_views.proofs.Sameness.{at-from, at-true, same_newest, seen_at}
-use Rattle.fjall_views.proofs.Shown.{value_shown}
-use Rattle.fjall_views.proofs.Tests.{any_weaker}
+use Rattle.fjall_memtable.specs.Jobs.{is_at}
+use Rattle.fjall_memtable.specs.Views.{is_seen, later, newest, value_at, value_left}
+use Rattle.fjall_memtable.proofs.NewestSeen.{first_wins, later_assoc, later_none, newest-append, newest_among, newest_has, one, reaches, second_wins}
+use Rattle.fjall_memtable.proofs.Sameness.{at-from, at-true, same_newest, seen_at}
+use Rattle.fjall_memtable.proofs.Shown.{value_shown}
+use Rattle.fjall_memtable.proofs.Tests.{any_weaker}
 use Rattle.fjall_memtable.specs.Sorted.{flat}
 use Rattle.fjall_memtable.proofs.Sorting.{chain_of, inserted_chain, inserted_same, ordered_of}
 use Rattle.fjall_memtable.specs.Parts.{parts_of, versions_in}

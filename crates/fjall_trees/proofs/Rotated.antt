@@ -5,7 +5,7 @@ use Rattle.std.proofs.lemmas.List.Elements.{All-push, All-weaker}
 use Rattle.fjall_base.specs.Pairs.{Pairs}
 use Rattle.fjall_meta.specs.Keyspaces.{Keyspaces}
 use Rattle.fjall_table.specs.Blocks.{Entry}
-use Rattle.fjall_views.specs.Views.{view_of}
+use Rattle.fjall_memtable.specs.Views.{view_of}
 use Rattle.fjall_memtable.specs.Parts.{IsHeld, empty_from, parts_of}
 use Rattle.fjall_memtable.proofs.Apart.{apart_more}
 use Rattle.fjall_tree.specs.Trees.{Shape, sealed_off}

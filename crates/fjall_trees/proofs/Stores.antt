@@ -6,12 +6,12 @@ use Rattle.fjall_base.specs.Pairs.{Pairs}
 use Rattle.fjall_base.specs.Store.{kept, map_at}
 use Rattle.fjall_meta.specs.declared.living.LivingKeyspace.{LivingKeyspace}
 use Rattle.fjall_meta.specs.Keyspaces.{Keyspaces, keyspace_at}
-use Rattle.fjall_contents.specs.Replays.{option_pairs}
-use Rattle.fjall_contents.proofs.Ids.{living_has, own_id}
-use Rattle.fjall_contents.proofs.Keeping.{nothing_at}
-use Rattle.fjall_contents.proofs.Kept.{all_are_kept}
-use Rattle.fjall_contents.proofs.Living.{get_by_id}
-use Rattle.fjall_contents.proofs.Slots as Slots
+use Rattle.fjall_meta.specs.Replays.{option_pairs}
+use Rattle.fjall_meta.proofs.Ids.{living_has, own_id}
+use Rattle.fjall_meta.proofs.Keeping.{nothing_at}
+use Rattle.fjall_meta.proofs.Kept.{all_are_kept}
+use Rattle.fjall_meta.proofs.LivingContents.{get_by_id}
+use Rattle.fjall_meta.proofs.Slots as Slots
 use Rattle.fjall_trees.specs.MapTables.{store_by}
 
 pub held_by : (pairs : ℕ → Pairs) (s : Keyspaces) (id : ℕ) → get (store_by pairs s).maps id ≡ option_map (λ k. pairs id) (keyspace_at id s.living)

@@ -5,9 +5,9 @@ use Rattle.fjall_base.specs.Pairs.{Pairs}
 use Rattle.fjall_base.specs.Store.{Store}
 use Rattle.fjall_meta.specs.Keyspaces.{Keyspaces}
 use Rattle.fjall_table.specs.Blocks.{Entry}
-use Rattle.fjall_views.specs.Jobs.{AreBelow, OnceEach}
-use Rattle.fjall_views.specs.Views.{view_of}
-use Rattle.fjall_contents.specs.Replays.{bare, by_id}
+use Rattle.fjall_memtable.specs.Jobs.{AreBelow, OnceEach}
+use Rattle.fjall_memtable.specs.Views.{view_of}
+use Rattle.fjall_meta.specs.Replays.{bare, by_id}
 use Rattle.fjall_memtable.specs.Sorted.{flat}
 use Rattle.fjall_tree.specs.Trees.{Shape, clears_of, floor_of, versions_of}
 use Rattle.fjall_trees.specs.Forests.{Forest, tree_at}

@@ -7,7 +7,7 @@ ghost use Rattle.fjall_journal.specs.Ops.{BatchItem};
 ghost use Rattle.fjall_table.specs.Blocks.{Entry};
 ghost use Rattle.fjall_table_reader.specs.Files.{entry_at};
 ghost use Rattle.fjall_table_reader.specs.Readers.{AreRead, Reader};
-ghost use Rattle.fjall_views.specs.Jobs.{OnceEach};
+ghost use Rattle.fjall_memtable.specs.Jobs.{OnceEach};
 ghost use Rattle.fjall_memtable.specs.Sorted.{flat};
 ghost use Rattle.fjall_jobs.specs.declared.made_table.MadeTable.{MadeTable};
 ghost use Rattle.fjall_jobs.specs.Merges.{IsMerged};

@@ -9,8 +9,8 @@ ghost use Rattle.fjall_meta.specs.declared.living.LivingKeyspace.{LivingKeyspace
 ghost use Rattle.fjall_meta.specs.Keyspaces.{AreKeyspaces, Keyspaces, keyspace_at, with_keyspace, without_keyspace};
 ghost use Rattle.fjall_table.specs.Blocks.{Entry, IsEntry};
 ghost use Rattle.fjall_memtable.specs.Entries.{IsAbsent};
-ghost use Rattle.fjall_views.specs.Views.{IsView, value_at};
-ghost use Rattle.fjall_contents.specs.Replays.{option_pairs};
+ghost use Rattle.fjall_memtable.specs.Views.{IsView, value_at};
+ghost use Rattle.fjall_meta.specs.Replays.{option_pairs};
 ghost use Rattle.fjall_memtable.specs.Parts.{IsHeld};
 ghost use Rattle.fjall_tree.specs.Puts.{put_all};
 ghost use Rattle.fjall_tree.specs.Trees.{Shape, clears_of, emptied, sealed_off, versions_of};

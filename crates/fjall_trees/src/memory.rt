@@ -2,7 +2,7 @@
 
 ghost use Rattle.std.specs.Prelude.{◌≡◌, [], IfOk, IsOkUnless, MatchOption, Some, None};
 ghost use Rattle.fjall_base.specs.Pairs.{Pairs, key_range, page, pairs_between};
-ghost use Rattle.fjall_views.specs.Views.{IsView, value_at};
+ghost use Rattle.fjall_memtable.specs.Views.{IsView, value_at};
 ghost use Rattle.fjall_tree.specs.Trees.{Shape, clears_of, versions_of};
 ghost use Rattle.fjall_trees.specs.Forests.{tree_at};
 

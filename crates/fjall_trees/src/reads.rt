@@ -5,7 +5,7 @@ ghost use Rattle.fjall_base.specs.Disk.{Meaning};
 ghost use Rattle.fjall_base.specs.Pairs.{Pairs, key_range, page, pairs_between};
 ghost use Rattle.fjall_table.specs.Blocks.{Entry};
 ghost use Rattle.fjall_table_reader.specs.Files.{IsRefused};
-ghost use Rattle.fjall_views.specs.Views.{IsView, newest, value_at};
+ghost use Rattle.fjall_memtable.specs.Views.{IsView, newest, value_at};
 ghost use Rattle.fjall_table_reader.specs.Readers.{LooksOn, SomeTableIsWrong, SomeTableIsWrongFor};
 ghost use Rattle.fjall_memtable.specs.Parts.{parts_of, versions_in};
 ghost use Rattle.fjall_tree.specs.Trees.{Shape, clears_of, versions_of};

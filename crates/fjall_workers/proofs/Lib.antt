@@ -1,2 +1,3 @@
+mod Queues
 pub mod Starting
 pub mod Sealings

@@ -1,2 +1,3 @@
+pub mod FlushQueues
 pub mod Starting
 pub mod Waiting

@@ -3,10 +3,10 @@
 ghost use Rattle.std.specs.Prelude.{◌≡◌, true, IsOkUnless};
 ghost use Rattle.fjall_base.specs.declared.error.Error.TheVariants.{OutOfMemory};
 
+use crate::flush_manager::FlushManager;
 use crate::message::WorkerMessage;
 use crate::waiting::WaitingMessages;
 use fjall_base::Result;
-use fjall_writes::FlushManager;
 use std::alloc::Global;
 use std::sync::{Condvar, Mutex, Wait};
 

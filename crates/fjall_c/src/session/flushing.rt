@@ -9,7 +9,7 @@ use crate::mirror::MirrorDisk;
 use crate::session::Session;
 use crate::session::place::Place;
 use fjall_base::{Error, Result};
-use fjall_transactions::{Call, Engine, JobId, Reply};
+use fjall_core::{Call, Engine, JobId, Reply};
 use std::alloc::Global;
 
 // The engine's calls that a flush of a keyspace makes.

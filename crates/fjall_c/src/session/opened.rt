@@ -10,8 +10,8 @@ ghost use Rattle.fjall_c.specs.Transactions.{BeginsIn, CommitsOne, Gets, OfOne, 
 use crate::mirror::MirrorDisk;
 use crate::session::within::{get_in, insert_in, page_in, remove_in};
 use fjall_base::{Error, KvPair, Result, UserValue};
+use fjall_core::{CommitOutcome, Core, Ticket, Transaction};
 use fjall_reading::KeyRange;
-use fjall_transactions::{CommitOutcome, Core, Ticket, Transaction};
 use std::alloc::Global;
 
 /// A database that is open: its core, and the transactions that its caller began and hasn't ended.

@@ -1,15 +1,15 @@
 //! How a database is opened over files in memory.
 
 ghost use Rattle.std.specs.Prelude.{◌≡◌, [], IfErr, IfOk, OnOk};
-ghost use Rattle.fjall_memory.specs.MemoryDisk.{meaning_in};
+ghost use Rattle.fjall_disk_memory.specs.MemoryDisk.{meaning_in};
 ghost use Rattle.fjall_c.specs.Openings.{IsOpenedOver, IsRefusedOver, PutsSynced};
 
 use crate::mirror::MirrorDisk;
 use crate::mirror::log::Log;
 use crate::session::opened::Opened;
 use fjall_base::{Disk, Result};
-use fjall_memory::MemoryDisk;
-use fjall_transactions::{Config, Core};
+use fjall_core::{Config, Core};
+use fjall_disk_memory::MemoryDisk;
 use std::alloc::Global;
 
 /// Puts a file on a disk, synced, with its name.

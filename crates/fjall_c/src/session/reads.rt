@@ -7,8 +7,8 @@ ghost use Rattle.fjall_c.specs.Live.{live_of};
 use crate::session::Session;
 use crate::session::place::Place;
 use fjall_base::{Error, KvPair, Result, UserValue};
+use fjall_core::{Ticket, View};
 use fjall_reading::KeyRange;
-use fjall_transactions::{Ticket, View};
 
 impl Session {
     /// The value that a key of a keyspace has in a view; refused as `Engine::get_at` is. Nothing changes.

@@ -8,8 +8,8 @@ ghost use Rattle.fjall_c.specs.Transactions.{Begins, Commits, Gets, Pages, Rolls
 use crate::session::Session;
 use crate::session::place::Place;
 use fjall_base::{Error, KvPair, Result, UserValue};
+use fjall_core::{CommitOutcome, Ticket};
 use fjall_reading::KeyRange;
-use fjall_transactions::{CommitOutcome, Ticket};
 
 impl Session {
     /// Begins an optimistic transaction, which reads what was accepted so far; refused as `Core::begin_optimistic` is. Its ticket's id

@@ -11,13 +11,13 @@ ghost use Rattle.fjall_history.specs.declared.ticket.View.TheVariants.{At};
 ghost use Rattle.fjall_journal.specs.declared.op.Op.TheVariants as ops;
 ghost use Rattle.fjall_tx.specs.Marks.{OfKey, OfRange};
 ghost use Rattle.fjall_tx.specs.Owns.{own_written, wanted};
-ghost use Rattle.fjall_transactions.specs.Transactions.{having_read, with_own};
+ghost use Rattle.fjall_core.specs.Transactions.{having_read, with_own};
 ghost use Rattle.fjall_c.specs.Transactions.{Gets, IsUnshown, Pages as PagesIn, ShowsIn, TellsPage, TellsValue};
 
 use crate::mirror::MirrorDisk;
 use fjall_base::{Error, KvPair, Result, Slice, UserValue, check_item};
+use fjall_core::{Engine, Reader, Transaction, View};
 use fjall_reading::{KeyRange, Pages, Readable, bounds_of};
-use fjall_transactions::{Engine, Reader, Transaction, View};
 use std::alloc::Global;
 
 /// Gives a key a value.

@@ -3,7 +3,7 @@
 ghost use Rattle.std.specs.Prelude.{◌≡◌, ◌⊎◌, ◌<◌, ◌^◌, ◌++◌, ◌∷◌, ◌+◌, ◌≤◌, [], ℕ, ◌≢◌, All, List, Some, drop, is_some, map, max, take, true};
 ghost use Rattle.fjall_base.specs.Disk.{Image, LeavesOnly, Meaning, state_in};
 ghost use Rattle.fjall_base.specs.Store.{Store, kept};
-ghost use Rattle.fjall_contents.specs.Contents.{is_beyond, journal_beyond};
+ghost use Rattle.fjall_meta.specs.Contents.{is_beyond, journal_beyond};
 ghost use Rattle.fjall_files.specs.Names.{keyspace_folder};
 ghost use Rattle.fjall_files.specs.Regions.{Within};
 ghost use Rattle.fjall_manifest.specs.Homes.{Home};
@@ -24,10 +24,10 @@ ghost use Rattle.fjall_memtable.specs.Sorted.{flat};
 ghost use Rattle.fjall_table.specs.Blocks.{Entry};
 ghost use Rattle.fjall_manifest.specs.Records.{Fields, Fits, IsRecord};
 ghost use Rattle.fjall_compaction.specs.Covering.{IsSyncedTo, MayCount, ShowsBatches, TakesParts};
-ghost use Rattle.fjall_compaction.specs.Flushes.{Flush, Follows, HasAt, home_after, infos_from, record_after, tree_after};
+ghost use Rattle.fjall_compaction.specs.Flushes.{Flush, Follows, HasAt, home_after, flushed_infos, record_after_flush, tree_after};
 ghost use Rattle.std.specs.FinMap.{get, insert};
 ghost use Rattle.fjall_table_reader.specs.Readers.{Reader};
-ghost use Rattle.fjall_recovery.specs.Known.{LastFields, last_known};
+ghost use Rattle.fjall_replay.specs.Known.{LastFields, last_known};
 ghost use Rattle.fjall_meta.specs.declared.living.LivingKeyspace.{LivingKeyspace};
 ghost use Rattle.fjall_trees.specs.Forests.{Forest, IsForest, altered_at};
 ghost use Rattle.fjall_trees.specs.Tables.{entries_with, shape_in};
@@ -81,10 +81,10 @@ pub fn a_flush_that_is_out_takes_parts()
 /// those that the flush made, no key two of one number, and nothing that it holds is beyond its persisted number. So the tree after
 /// it has its versions.
 pub fn a_flushed_home_is_right()
-    ensures record { (f : Flush) (lists : List (List Entry)) (last : Fields) → Follows f lists last → Fits (record_after f last) → IsRecord last → IsRecord (record_after f last) }
+    ensures record { (f : Flush) (lists : List (List Entry)) (last : Fields) → Follows f lists last → Fits (record_after_flush f last) → IsRecord last → IsRecord (record_after_flush f last) }
     ensures versions { (f : Flush) (lists : List (List Entry)) (h : Home) (versions : List Entry) → Follows f lists h.last → HasVersions h versions
         → HasVersions (home_after f h) (versions ++ flat lists) }
-    ensures clears { (f : Flush) (lists : List (List Entry)) (last : Fields) → Follows f lists last → ClearsAreWithin last → ClearsAreWithin (record_after f last) }
+    ensures clears { (f : Flush) (lists : List (List Entry)) (last : Fields) → Follows f lists last → ClearsAreWithin last → ClearsAreWithin (record_after_flush f last) }
     ensures tree { (t : Tree) (id : ℕ) (f : Flush) (lists : List (List Entry)) (h : Home) (versions : List Entry) → HasAt t id h versions → Follows f lists h.last
         → HaveVersions t.homes t.versions → let next = tree_after id f lists h versions t in HaveVersions next.homes next.versions }
     ensures made { (t : Tree) (id : ℕ) (f : Flush) (lists : List (List Entry)) (h : Home) (versions : List Entry) → AreMade t.last t.keyspaces
@@ -128,7 +128,7 @@ pub fn a_flush_that_is_out_may_count()
 pub fn a_finished_flush_is_known()
     ensures { (j : Journaling) (t : Tree) (trees : Forest) (entries : ℕ → List (List Entry)) (records : LastFields) (k : LivingKeyspace) (task : Task)
         → (can : CanFinish j t trees entries records k task) → (tables : List MadeTable) (clears : List ℕ) (made : IsFlushed task tables clears)
-        → (h : Home) → get t.homes k.id ≡ Some h → (readers : List Reader) → map (λ t. t.info) readers ≡ infos_from h.last.next_table_id tables
+        → (h : Home) → get t.homes k.id ≡ Some h → (readers : List Reader) → map (λ t. t.info) readers ≡ flushed_infos h.last.next_table_id tables
         → let f = flush_out k.id trees tables clears in AreTreesKnown j (tree_after k.id f made.lists h (flat (entries k.id)) t) (altered_at k.id (flush_finished readers can.flushing.out) trees)
-        (entries_with k.id (entries k.id ++ made.lists) entries) (insert records k.id (record_after f h.last)) }
+        (entries_with k.id (entries k.id ++ made.lists) entries) (insert records k.id (record_after_flush f h.last)) }
 {}

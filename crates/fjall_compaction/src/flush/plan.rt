@@ -2,7 +2,7 @@
 
 ghost use Rattle.std.specs.Prelude.{◌≡◌, ◌+◌, ◌≤◌, ◌<◌, ◌^◌, Err, IfErr, IfOk, IsOkUnless, length};
 ghost use Rattle.fjall_manifest.specs.Records.{view};
-ghost use Rattle.fjall_compaction.specs.Flushes.{Flush, flush_of, raised, record_after};
+ghost use Rattle.fjall_compaction.specs.Flushes.{Flush, flush_of, raised, record_after_flush};
 ghost use Rattle.fjall_compaction.specs.FlushPlans.{IsFlushPlan, IsFlushPlanRefusal, IsNamed};
 ghost use Rattle.fjall_compaction.specs.Room.{HasPlace, LacksNextId};
 
@@ -62,7 +62,7 @@ fn next_record(
 ) -> Result<Record>
     requires few { length tables.now ≤ 1 }
     requires room { last.now.next_table_id + length tables.now < 2 ^ 64 }
-    ensures says { IfOk result (λ r. view r ≡ record_after (record { number = number; tables = tables.now; clears = clears.now }) (view last.now)) }
+    ensures says { IfOk result (λ r. view r ≡ record_after_flush (record { number = number; tables = tables.now; clears = clears.now }) (view last.now)) }
     ensures only { IsOkUnless result Error.OutOfMemory }
 {
     let mut all_tables = Vec::new(alloc);
@@ -93,7 +93,7 @@ pub(crate) fn plan_in_place(
     clears: &[u64],
 ) -> Result<FlushPlan>
     requires few { length tables.now ≤ 1 }
-    requires place { HasPlace (record_after (record { number = number; tables = tables.now; clears = clears.now }) (view last.now)) }
+    requires place { HasPlace (record_after_flush (record { number = number; tables = tables.now; clears = clears.now }) (view last.now)) }
     ensures ok { IfOk result (IsFlushPlan keyspace_id (view last.now) (record { number = number; tables = tables.now; clears = clears.now })) }
     ensures only { IsOkUnless result Error.OutOfMemory }
 {
@@ -124,7 +124,7 @@ pub fn plan_flush(
     made: &FlushMade,
 ) -> Result<FlushPlan>
     ensures ok { IfOk result (IsFlushPlan keyspace_id (view last.now) (flush_of number made.now)) }
-    ensures used_up { LacksNextId (record_after (flush_of number made.now) (view last.now)) → result ≡ Err Error.NumbersUsedUp }
+    ensures used_up { LacksNextId (record_after_flush (flush_of number made.now) (view last.now)) → result ≡ Err Error.NumbersUsedUp }
     ensures cause { IfErr result (IsFlushPlanRefusal (view last.now) (flush_of number made.now)) }
 {
     let (tables, clears) = (made.tables(), made.clears());

@@ -3,11 +3,11 @@
 ghost use Rattle.std.specs.Prelude.{◌≡◌, ◌⊎◌, ◌<◌, ◌≤◌, ◌^◌, ◌++◌, ◌∷◌, ◌+◌, [], ℕ, All, List, Option, Some, None, false, map, true};
 ghost use Rattle.fjall_base.specs.Disk.{Image, LeavesOnly, Meaning, state_in};
 ghost use Rattle.fjall_base.specs.Store.{Store, apply, kept};
-ghost use Rattle.fjall_contents.specs.Contents.{is_beyond, journal_beyond};
+ghost use Rattle.fjall_meta.specs.Contents.{is_beyond, journal_beyond};
 ghost use Rattle.fjall_files.specs.Names.{keyspace_folder};
 ghost use Rattle.fjall_files.specs.Regions.{Within};
 ghost use Rattle.fjall_compaction.specs.Covering.{MayCount, ShowsBatches};
-ghost use Rattle.fjall_compaction.specs.Flushes.{Flush, Follows, HasAt, home_after, infos_from, record_after, tree_after};
+ghost use Rattle.fjall_compaction.specs.Flushes.{Flush, Follows, HasAt, home_after, flushed_infos, record_after_flush, tree_after};
 ghost use Rattle.fjall_manifest.specs.Homes.{Home};
 ghost use Rattle.fjall_jobs.specs.declared.made_table.MadeTable.{MadeTable};
 ghost use Rattle.fjall_journal.specs.Batches.{Shown, Written, shown};
@@ -20,8 +20,8 @@ ghost use Rattle.fjall_recovery.specs.Places.{Journaling, LiesInRoot, contents_w
 ghost use Rattle.fjall_memtable.specs.Sorted.{flat};
 ghost use Rattle.fjall_table.specs.Blocks.{Entry};
 ghost use Rattle.fjall_manifest.specs.Records.{Fields, Fits, IsRecord};
-ghost use Rattle.fjall_contents.specs.Replays.{counts, first_fault};
-ghost use Rattle.fjall_writes.specs.Ingestions.{KeyOp};
+ghost use Rattle.fjall_meta.specs.Replays.{counts, first_fault};
+ghost use Rattle.fjall_reading.specs.Ingestions.{KeyOp};
 ghost use Rattle.fjall_compaction.specs.Commands.{ArePersisted, MayCome, MayIngest, MayIngestSynced};
 ghost use Rattle.fjall_compaction.specs.Ingests.{as_flush, home_with, ingestion, tree_with, versions_made};
 ghost use Rattle.fjall_compaction.specs.IngestionPlans.{AreIngestionTables};
@@ -29,7 +29,7 @@ ghost use Rattle.std.specs.FinMap.{get, insert};
 ghost use Rattle.fjall_table_reader.specs.Readers.{Reader};
 ghost use Rattle.fjall_compaction.specs.FlushFinishing.{AreTreesKnown};
 ghost use Rattle.fjall_jobs.specs.Tasks.{IsFlushed};
-ghost use Rattle.fjall_recovery.specs.Known.{LastFields, last_known};
+ghost use Rattle.fjall_replay.specs.Known.{LastFields, last_known};
 ghost use Rattle.fjall_tree.specs.Ingestions.{has_memory, ingested, memory_task};
 ghost use Rattle.fjall_meta.specs.declared.living.LivingKeyspace.{LivingKeyspace};
 ghost use Rattle.fjall_memtable.specs.Parts.{clears_in, parts_of};
@@ -79,7 +79,7 @@ pub fn all_is_persisted()
     ensures within { (persisted : Option ℕ) (id : ℕ) (batches : List Shown) → All (λ b. is_beyond persisted b.number ≡ false) batches → ArePersisted persisted id batches }
     ensures shown { (j : Journaling) (t : Tree) (id number : ℕ) (h : Home) (versions : List Entry) → MayIngest j t id number h versions → j.later ≡ []
         → MayIngestSynced j t id number h versions }
-    ensures flushed { (f : Flush) (last : Fields) (id : ℕ) (batches : List Shown) → All (λ b. b.number ≤ f.number) batches → ArePersisted (record_after f last).persisted id batches }
+    ensures flushed { (f : Flush) (last : Fields) (id : ℕ) (batches : List Shown) → All (λ b. b.number ≤ f.number) batches → ArePersisted (record_after_flush f last).persisted id batches }
 {}
 
 /// What an ingestion makes of a home is right where the home was: its record is one, its tables have the versions of before and then
@@ -87,10 +87,10 @@ pub fn all_is_persisted()
 /// versions. The ingestion's number is beyond the persisted one, as it is of one that may come.
 pub fn an_ingested_home_is_right()
     ensures record { (number : ℕ) (items : List KeyOp) (tables : List MadeTable) (last : Fields) → number < 2 ^ 63 → AreIngestionTables number items tables
-        → Fits (record_after (as_flush number tables) last) → IsRecord last → IsRecord (record_after (as_flush number tables) last) }
+        → Fits (record_after_flush (as_flush number tables) last) → IsRecord last → IsRecord (record_after_flush (as_flush number tables) last) }
     ensures versions { (number : ℕ) (items : List KeyOp) (tables : List MadeTable) (h : Home) (versions : List Entry) → number < 2 ^ 63
         → is_beyond h.last.persisted number ≡ true → AreIngestionTables number items tables → IsRecord h.last → HasVersions h versions → HasVersions (home_with number tables h) (versions ++ versions_made number items) }
-    ensures clears { (number : ℕ) (tables : List MadeTable) (last : Fields) → ClearsAreWithin last → ClearsAreWithin (record_after (as_flush number tables) last) }
+    ensures clears { (number : ℕ) (tables : List MadeTable) (last : Fields) → ClearsAreWithin last → ClearsAreWithin (record_after_flush (as_flush number tables) last) }
     ensures tree { (t : Tree) (id number : ℕ) (items : List KeyOp) (tables : List MadeTable) (h : Home) (versions : List Entry) → HasAt t id h versions → number < 2 ^ 63
         → is_beyond h.last.persisted number ≡ true → AreIngestionTables number items tables → IsRecord h.last → HaveVersions t.homes t.versions
         → let next = tree_with id number items tables h versions t in HaveVersions next.homes next.versions }
@@ -162,7 +162,7 @@ pub fn a_whole_ingestion_is_one_command()
         → number_of_contents (contents_with j (tree_behind k.id n items (shape_in k.id trees) flushes made flushed.lists h (flat (entries k.id)) t) j.later) ≡ n + 1 }
     ensures known { (j : Journaling) (t : Tree) (trees : Forest) (entries : ℕ → List (List Entry)) (records : LastFields) (k : LivingKeyspace) (n : ℕ) → CanIngest j t trees entries records k n
         → (watermark : ℕ) (items : List KeyOp) (flushes made : List MadeTable) (flushed : IsFlushed (memory_task k.id watermark (shape_in k.id trees).memory) flushes (clears_in (parts_of (shape_in k.id trees).memory)))
-        → (are : AreIngestionTables n items made) → (h : Home) → get t.homes k.id ≡ Some h → (readers : List Reader) → map (λ t. t.info) readers ≡ infos_from h.last.next_table_id (flushes ++ made)
+        → (are : AreIngestionTables n items made) → (h : Home) → get t.homes k.id ≡ Some h → (readers : List Reader) → map (λ t. t.info) readers ≡ flushed_infos h.last.next_table_id (flushes ++ made)
         → let tree = shape_in k.id trees in
         AreTreesKnown j (tree_behind k.id n items tree flushes made flushed.lists h (flat (entries k.id)) t) (altered_at k.id (ingested n readers) trees)
         (entries_with k.id (entries k.id ++ (flushed.lists ++ are.0)) entries) (insert records k.id (last_ingested n tree flushes made h.last)) }

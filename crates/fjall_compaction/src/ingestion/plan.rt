@@ -3,8 +3,8 @@
 ghost use Rattle.std.specs.Prelude.{◌≡◌, Err, IfErr, IfOk, List, length, min};
 ghost use Rattle.fjall_jobs.specs.declared.made_table.MadeTable.{MadeTable};
 ghost use Rattle.fjall_manifest.specs.Records.{view};
-ghost use Rattle.fjall_writes.specs.Ingestions.{AreWritable, KeysAscend};
-ghost use Rattle.fjall_compaction.specs.Flushes.{record_after};
+ghost use Rattle.fjall_reading.specs.Ingestions.{AreWritable, KeysAscend};
+ghost use Rattle.fjall_compaction.specs.Flushes.{record_after_flush};
 ghost use Rattle.fjall_compaction.specs.Ingests.{as_flush};
 ghost use Rattle.fjall_compaction.specs.IngestionPlans.{IsIngestPlan, IsIngestRefusal};
 ghost use Rattle.fjall_compaction.specs.Room.{LacksNextId};
@@ -43,7 +43,7 @@ pub fn plan_ingest(
     requires ascend { KeysAscend items.now }
     requires writable { AreWritable items.now }
     ensures ok { IfOk result (IsIngestPlan keyspace_id number items.now (view last.now)) }
-    ensures used_up { (tables : List MadeTable) → length tables ≡ min (length items.now) 1 → LacksNextId (record_after (as_flush number tables) (view last.now))
+    ensures used_up { (tables : List MadeTable) → length tables ≡ min (length items.now) 1 → LacksNextId (record_after_flush (as_flush number tables) (view last.now))
         → result ≡ Err Error.NumbersUsedUp }
     ensures cause { IfErr result (IsIngestRefusal number items.now (view last.now)) }
 {

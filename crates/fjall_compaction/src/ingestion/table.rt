@@ -4,7 +4,7 @@ ghost use Rattle.std.specs.Prelude.{◌≡◌, IfOk, IsOkUnless};
 ghost use Rattle.std.specs.Option.{option_map};
 ghost use Rattle.fjall_journal.specs.Ops.{value_in};
 ghost use Rattle.fjall_table.specs.Blocks.{seen};
-ghost use Rattle.fjall_writes.specs.Ingestions.{AreWritable, KeysAscend};
+ghost use Rattle.fjall_reading.specs.Ingestions.{AreWritable, KeysAscend};
 ghost use Rattle.fjall_compaction.specs.Ingests.{version_of, versions_made};
 ghost use Rattle.fjall_compaction.specs.IngestionPlans.{AreIngestionTables};
 

@@ -7,7 +7,7 @@ ghost use Rattle.fjall_files.specs.Calls.{AllServed};
 ghost use Rattle.fjall_files.specs.Names.{keyspace_folder, table_name};
 ghost use Rattle.fjall_files.specs.Regions.{Within};
 ghost use Rattle.fjall_files.specs.Tidy.{StaysTidy};
-ghost use Rattle.fjall_compaction.specs.Flushes.{Flush, record_after};
+ghost use Rattle.fjall_compaction.specs.Flushes.{Flush, record_after_flush};
 ghost use Rattle.fjall_compaction.specs.FlushPlans.{AreReadersOf, HaveFiles, KeepsBeside};
 ghost use Rattle.fjall_compaction.specs.IngestionPlans.{ForIngest, ForIngestNext, ForIngestOn};
 ghost use Rattle.fjall_jobs.specs.Sequences.{AreMadeTables};
@@ -19,7 +19,7 @@ ghost use Rattle.fjall_recovery.specs.Halves.{HasTree};
 ghost use Rattle.fjall_recovery.specs.Places.{LiesInTree};
 ghost use Rattle.fjall_table.specs.Blocks.{Entry};
 ghost use Rattle.fjall_manifest.specs.Records.{Fields, view};
-ghost use Rattle.fjall_writes.specs.Ingestions.{AreWritable, KeyOp, KeysAscend};
+ghost use Rattle.fjall_reading.specs.Ingestions.{AreWritable, KeyOp, KeysAscend};
 ghost use Rattle.fjall_compaction.specs.Planned.{ForIngestion, ForIngestionOn, ForMemory, ForMemoryOn, HasNoTableFolder, IsIngestionPlan, IsIngestionRefusal, IsMemoryPlan, KeepsGiven};
 ghost use Rattle.fjall_compaction.specs.Whole.{memory_flush};
 
@@ -110,7 +110,7 @@ fn plan_memory(
 // The keyspace's record once its memory is flushed.
 fn flushed_record<'a>(memory: &'a MemoryPlan, last: &'a Record) -> &'a Record
     ensures { (flushes : Bool) (id : ℕ) (f : Flush) → IsMemoryPlan flushes id (view last.now) f memory.now.writes
-        → view result.now ≡ (if flushes then record_after f (view last.now) else view last.now) }
+        → view result.now ≡ (if flushes then record_after_flush f (view last.now) else view last.now) }
 {
     match &memory.writes {
         Some(writes) => &writes.record,

@@ -3,7 +3,7 @@
 ghost use Rattle.std.specs.Prelude.{◌≡◌, ◌⊎◌, ◌++◌, [], ℕ, List, Some, drop, map};
 ghost use Rattle.fjall_base.specs.Disk.{Image, LeavesOnly, Meaning, state_in};
 ghost use Rattle.fjall_base.specs.Store.{Store, kept};
-ghost use Rattle.fjall_contents.specs.Contents.{journal_beyond};
+ghost use Rattle.fjall_meta.specs.Contents.{journal_beyond};
 ghost use Rattle.fjall_files.specs.Names.{keyspace_folder};
 ghost use Rattle.fjall_files.specs.Regions.{Within};
 ghost use Rattle.fjall_compaction.specs.Flushes.{HasAt};
@@ -18,14 +18,14 @@ ghost use Rattle.fjall_recovery.specs.Places.{Journaling, LiesInRoot, contents_w
 ghost use Rattle.fjall_memtable.specs.Sorted.{flat};
 ghost use Rattle.fjall_table.specs.Blocks.{Entry};
 ghost use Rattle.fjall_manifest.specs.Records.{Fields, Fits, IsRecord};
-ghost use Rattle.fjall_compaction.specs.Merges.{Merge, MergesTables, entries_after, home_after, infos_from, record_after, tree_after};
+ghost use Rattle.fjall_compaction.specs.Merges.{Merge, MergesTables, entries_after, home_after, merged_infos, record_after_merge, tree_after};
 ghost use Rattle.std.specs.FinMap.{get, insert};
 ghost use Rattle.fjall_table_reader.specs.Readers.{Reader};
 ghost use Rattle.fjall_compaction.specs.FlushFinishing.{AreTreesKnown};
 ghost use Rattle.fjall_jobs.specs.declared.made_table.MadeTable.{MadeTable};
 ghost use Rattle.fjall_jobs.specs.Merges.{IsMerged};
 ghost use Rattle.fjall_jobs.specs.Tasks.{Task};
-ghost use Rattle.fjall_recovery.specs.Known.{LastFields, last_known};
+ghost use Rattle.fjall_replay.specs.Known.{LastFields, last_known};
 ghost use Rattle.fjall_tree.specs.Jobs.{merge_finished};
 ghost use Rattle.fjall_meta.specs.declared.living.LivingKeyspace.{LivingKeyspace};
 ghost use Rattle.fjall_trees.specs.Forests.{Forest, altered_at};
@@ -49,7 +49,7 @@ pub fn a_merge_keeps_the_store()
 /// What a merge makes of a home is right where the home was: its record is one, its tables have what the merge made and what came since,
 /// no key two of one number, and nothing is beyond its persisted number. So the tree after it has its versions.
 pub fn a_merged_home_is_right()
-    ensures record { (m : Merge) (lists entries : List (List Entry)) (last : Fields) → MergesTables m lists entries last → Fits (record_after m last) → IsRecord last → IsRecord (record_after m last) }
+    ensures record { (m : Merge) (lists entries : List (List Entry)) (last : Fields) → MergesTables m lists entries last → Fits (record_after_merge m last) → IsRecord last → IsRecord (record_after_merge m last) }
     ensures versions { (m : Merge) (lists entries : List (List Entry)) (h : Home) → MergesTables m lists entries h.last → AreRight h.last.tables h.texts entries → HasVersions h (flat entries)
         → HasVersions (home_after m h) (flat (entries_after m lists entries)) }
     ensures tables { (m : Merge) (lists entries : List (List Entry)) (h : Home) → MergesTables m lists entries h.last → AreRight h.last.tables h.texts entries
@@ -93,7 +93,7 @@ pub fn a_merge_that_is_out_may_count()
 pub fn a_finished_merge_is_known()
     ensures { (j : Journaling) (t : Tree) (trees : Forest) (entries : ℕ → List (List Entry)) (records : LastFields) (k : LivingKeyspace) (task : Task)
         → (can : CanMerge j t trees entries records k task) → (target : ℕ) (tables : List MadeTable) (clears : List ℕ) (made : IsMerged target task tables clears)
-        → (h : Home) → get t.homes k.id ≡ Some h → (readers : List Reader) → map (λ r. r.info) readers ≡ infos_from h.last.next_table_id tables
+        → (h : Home) → get t.homes k.id ≡ Some h → (readers : List Reader) → map (λ r. r.info) readers ≡ merged_infos h.last.next_table_id tables
         → let m = merge_out can.merging.out tables clears in AreTreesKnown j (tree_after k.id m made.lists h (entries k.id) t) (altered_at k.id (merge_finished readers can.merging.out) trees)
-        (entries_with k.id (entries_after m made.lists (entries k.id)) entries) (insert records k.id (record_after m h.last)) }
+        (entries_with k.id (entries_after m made.lists (entries k.id)) entries) (insert records k.id (record_after_merge m h.last)) }
 {}

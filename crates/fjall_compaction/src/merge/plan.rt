@@ -3,7 +3,7 @@
 ghost use Rattle.std.specs.Prelude.{◌≡◌, ◌+◌, ◌++◌, ◌<◌, ◌^◌, IfErr, IfOk, IsOkUnless, drop, length, map, string_bytes, take};
 ghost use Rattle.fjall_files.specs.Names.{table_name};
 ghost use Rattle.fjall_manifest.specs.Records.{view};
-ghost use Rattle.fjall_compaction.specs.Merges.{infos_from, merge_of, record_after};
+ghost use Rattle.fjall_compaction.specs.Merges.{merged_infos, merge_of, record_after_merge};
 ghost use Rattle.fjall_compaction.specs.MergePlans.{AreNamed, IsMergePlan, IsMergePlanRefusal};
 ghost use Rattle.fjall_compaction.specs.Room.{HasPlace};
 
@@ -79,7 +79,7 @@ fn next_tables(
     tables: &[MadeTable],
 ) -> Result<Vec<TableInfo>>
     requires { last.now.next_table_id + length tables.now < 2 ^ 64 }
-    ensures tables { IfOk result (λ infos. infos.items ≡ infos_from last.now.next_table_id tables.now ++ drop count last.now.tables.items) }
+    ensures tables { IfOk result (λ infos. infos.items ≡ merged_infos last.now.next_table_id tables.now ++ drop count last.now.tables.items) }
     ensures only { IsOkUnless result Error.OutOfMemory }
 {
     let mut infos = Vec::new(alloc);
@@ -98,7 +98,7 @@ fn plan_in_place(
     input: (usize, usize),
     made: &MergeMade,
 ) -> Result<MergePlan>
-    requires { HasPlace (record_after (merge_of input made.now) (view last.now)) }
+    requires { HasPlace (record_after_merge (merge_of input made.now) (view last.now)) }
     ensures ok { IfOk result (IsMergePlan keyspace_id (view last.now) (merge_of input made.now)) }
     ensures only { IsOkUnless result Error.OutOfMemory }
 {

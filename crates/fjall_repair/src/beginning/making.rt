@@ -5,7 +5,7 @@ ghost use Rattle.fjall_base.specs.Disk.{LeavesOnly, OnlyFaults, state_in};
 ghost use Rattle.fjall_meta.specs.Keyspaces.{no_keyspaces};
 ghost use Rattle.fjall_files.specs.Calls.{seen, AllServed};
 ghost use Rattle.fjall_files.specs.Tidy.{IsTidy, StaysTidy};
-ghost use Rattle.fjall_contents.specs.Replays.{bare};
+ghost use Rattle.fjall_meta.specs.Replays.{bare};
 ghost use Rattle.fjall_recovery.specs.Folders.{Contents, ImageStandsFor, IsOpenable, IsUnfinished};
 ghost use Rattle.fjall_repair.specs.Begun.{IsBegunOn};
 ghost use Rattle.fjall_repair.specs.Making.{ComesBackUnfinished, IsMaking, KeepsAllTables, KeepsHomeRecords, MakingGoesOn};

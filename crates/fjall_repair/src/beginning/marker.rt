@@ -8,7 +8,7 @@ ghost use Rattle.fjall_files.specs.Calls.{seen, AllServed};
 ghost use Rattle.fjall_files.specs.Marker.{header as header_of};
 ghost use Rattle.fjall_files.specs.Tidy.{IsTidy, StaysTidy};
 ghost use Rattle.fjall_files.specs.Names.{journal_name};
-ghost use Rattle.fjall_contents.specs.Replays.{bare};
+ghost use Rattle.fjall_meta.specs.Replays.{bare};
 ghost use Rattle.fjall_recovery.specs.Folders.{ImageStandsFor, IsUnfinished};
 ghost use Rattle.fjall_repair.specs.Begun.{IsBegunOn};
 ghost use Rattle.fjall_repair.specs.Making.{IsKept, KeepsHomeRecords, KeepsAllTables, ComesBackUnfinished};

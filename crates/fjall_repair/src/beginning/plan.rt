@@ -15,8 +15,8 @@ ghost use Rattle.fjall_repair.specs.Begun.{IsActive};
 ghost use Rattle.fjall_repair.specs.Plans.{AreToBe, IsBeginPlan, IsFound};
 
 use fjall_base::{Disk, Error, Result};
-use fjall_catalog::first_record;
 use fjall_files::{MARKER_FILE, TREE_RECORDS, journal_name, journals, write_file_header};
+use fjall_manifest::first_record;
 use std::alloc::Global;
 
 /// What a file has of the bytes that it is to hold.

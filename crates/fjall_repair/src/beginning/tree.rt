@@ -6,7 +6,7 @@ ghost use Rattle.fjall_files.specs.Calls.{seen, AllServed};
 ghost use Rattle.fjall_files.specs.Regions.{Within};
 ghost use Rattle.fjall_files.specs.Names.{current_name, keyspace_folder};
 ghost use Rattle.fjall_files.specs.Tidy.{IsTidy, StaysTidy};
-ghost use Rattle.fjall_catalog.specs.Catalog.{records_in};
+ghost use Rattle.fjall_manifest.specs.Catalog.{records_in};
 ghost use Rattle.fjall_repair.specs.Making.{KeepsHomeRecords, MakingGoesOn};
 ghost use Rattle.fjall_repair.specs.Plans.{HasFirstTree, first_text, FindsFirst};
 

@@ -4,9 +4,8 @@ ghost use Rattle.std.specs.Prelude.{◌≡◌, ◌∷◌, IfOk, IsOkUnless, map,
 ghost use Rattle.fjall_repair.specs.Steps.{IsMendPlan, active_of, end_of, folder_names, home_end, tree_end, whole_names};
 
 use fjall_base::{Error, Result};
-use fjall_catalog::LoadedCatalog;
 use fjall_files::{KEYSPACES_FOLDER, MARKER_FILE, current_name, journal_name, keyspace_folder};
-use fjall_manifest::LoadedHome;
+use fjall_manifest::{LoadedCatalog, LoadedHome};
 use fjall_recovery::RecoveredFolder;
 use std::alloc::Global;
 

@@ -4,7 +4,7 @@ use Rattle.fjall_base.specs.Pairs.{Bytes}
 use Rattle.fjall_base.specs.declared.error.Error.{Error}
 use Rattle.fjall_base.specs.declared.error.Error.TheVariants.{OutOfMemory}
 use Rattle.fjall_tx.specs.Marks.{OfKey}
-use Rattle.fjall_transactions.specs.Transactions.{having_read, replace_refusal, replacing}
+use Rattle.fjall_core.specs.Transactions.{having_read, replace_refusal, replacing}
 use Rattle.fjall_calls.specs.Serving.{LooksWithin}
 use Rattle.fjall_calls.proofs.Acting.{fetch_done, fetch_refused, look_failed}
 use Rattle.fjall_calls.proofs.acts.fetch_update.Goals as goal

@@ -5,7 +5,7 @@ use Rattle.fjall_base.specs.declared.error.Error.{Error}
 use Rattle.fjall_base.specs.declared.error.Error.TheVariants.{OutOfMemory}
 use Rattle.fjall_tx.specs.Marks.{OfKey}
 use Rattle.fjall_history.specs.declared.reply.Reply.TheVariants.{Refused, Value}
-use Rattle.fjall_transactions.specs.Transactions.{Tx, having_read}
+use Rattle.fjall_core.specs.Transactions.{Tx, having_read}
 use Rattle.fjall_calls.specs.declared.call.Within.TheVariants as within
 use Rattle.fjall_calls.specs.Serving.{ActsOn, LooksWithin}
 use Rattle.fjall_calls.proofs.Acting.{look_failed, look_got, look_ran_out}

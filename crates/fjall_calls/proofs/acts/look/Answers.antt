@@ -5,7 +5,7 @@ use Rattle.fjall_history.specs.Queries.{Get}
 use Rattle.fjall_history.specs.declared.ticket.Ticket.{Ticket}
 use Rattle.fjall_history.specs.declared.ticket.View.TheVariants.{At}
 use Rattle.fjall_machine.specs.Shapes.{OfRead}
-use Rattle.fjall_transactions.specs.CoreStanding.{Owes, Serves, value_reply}
+use Rattle.fjall_core.specs.CoreStanding.{Owes, Serves, value_reply}
 use Rattle.fjall_calls.proofs.Looking.{look_refused, look_seen}
 use Rattle.fjall_calls.proofs.Same.{all_so}
 use Rattle.fjall_calls.proofs.acts.look.Goals as goal

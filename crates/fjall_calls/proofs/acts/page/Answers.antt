@@ -9,7 +9,7 @@ use Rattle.fjall_history.specs.declared.reply.Reply.TheVariants.{Refused}
 use Rattle.fjall_history.specs.declared.ticket.Ticket.{Ticket}
 use Rattle.fjall_history.specs.declared.ticket.View.TheVariants.{At}
 use Rattle.fjall_machine.specs.Shapes.{OfRead}
-use Rattle.fjall_transactions.specs.CoreStanding.{Owes, Serves, pairs_reply}
+use Rattle.fjall_core.specs.CoreStanding.{Owes, Serves, pairs_reply}
 use Rattle.fjall_calls.specs.declared.call.Within.TheVariants as within
 use Rattle.fjall_calls.specs.Serving.{ActsOn}
 use Rattle.fjall_calls.proofs.Looking.{page_acts, page_refused, page_unasked}

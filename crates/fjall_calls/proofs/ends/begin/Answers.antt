@@ -1,7 +1,7 @@
 use Rattle.std.proofs.Common.{rules, ◌≡◌, ◌∷◌, ◌++◌, [], Result, OnErr, subst}
 use Rattle.fjall_base.specs.declared.error.Error.{Error}
 use Rattle.fjall_history.specs.declared.reply.Reply.TheVariants.{Done, Refused}
-use Rattle.fjall_transactions.specs.Transactions.{Tx}
+use Rattle.fjall_core.specs.Transactions.{Tx}
 use Rattle.fjall_calls.proofs.Beginning.{begin_err, begin_keeps, begin_ok}
 use Rattle.fjall_calls.proofs.Jobs.{one_reply_more}
 use Rattle.fjall_calls.proofs.ends.begin.Goals as goal

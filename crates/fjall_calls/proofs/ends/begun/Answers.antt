@@ -1,7 +1,7 @@
 use Rattle.std.proofs.Common.{◌≡◌, Bool, true, false, not, refl, sym, subst}
 use Rattle.std.proofs.lemmas.Bool.{true≢false}
 use Rattle.fjall_calls.specs.declared.call.Kind.{Kind}
-use Rattle.fjall_transactions.specs.Commits.{is_writing}
+use Rattle.fjall_core.specs.Commits.{is_writing}
 use Rattle.fjall_calls.specs.Serving.{may_begin}
 use Rattle.fjall_calls.proofs.ends.begun.Goals as goal
 

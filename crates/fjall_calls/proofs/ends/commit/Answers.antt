@@ -8,8 +8,8 @@ use Rattle.fjall_calls.specs.Names.{Takes, is_wanted, is_of_kind}
 use Rattle.fjall_calls.specs.declared.call.TxCall.TheVariants as calls
 use Rattle.fjall_calls.specs.declared.named.Named.{Named}
 use Rattle.fjall_calls.proofs.Jobs.{one_reply_more}
-use Rattle.fjall_transactions.specs.CoreStanding.{Owes, Serves}
-use Rattle.fjall_transactions.proofs.ServedCalls.{either_owes, either_serves}
+use Rattle.fjall_core.specs.CoreStanding.{Owes, Serves}
+use Rattle.fjall_core.proofs.ServedCalls.{either_owes, either_serves}
 use Rattle.fjall_calls.specs.Serving.{ServesTx}
 use Rattle.fjall_calls.proofs.Beginning.{unknown}
 use Rattle.fjall_calls.proofs.Ending.{commit_keeps, commit_serves, ends_chain, ends_writer, in_list, in_list_has, no_job_told, wanted_open}

@@ -6,7 +6,7 @@ use Rattle.fjall_calls.specs.Names.{Takes, is_wanted}
 use Rattle.fjall_calls.specs.declared.call.TxCall.TheVariants as calls
 use Rattle.fjall_calls.specs.declared.named.Named.{Named}
 use Rattle.fjall_calls.proofs.Jobs.{one_reply_more, kept_on}
-use Rattle.fjall_transactions.specs.CoreStanding.{reply_of}
+use Rattle.fjall_core.specs.CoreStanding.{reply_of}
 use Rattle.fjall_machine.specs.Shapes.{Close, OfTickets}
 use Rattle.fjall_calls.specs.Serving.{ServesTx}
 use Rattle.fjall_calls.proofs.Beginning.{unknown}

@@ -1,8 +1,8 @@
 use Rattle.std.proofs.Common.{rules, ◌≡◌, ◌∷◌, ◌++◌, [], List, None, Option, refl, sym, subst}
 use Rattle.fjall_base.specs.declared.error.Error.TheVariants.{SnapshotClosed}
 use Rattle.fjall_history.specs.declared.reply.Reply.TheVariants.{Refused}
-use Rattle.fjall_transactions.specs.Holding.{Held}
-use Rattle.fjall_transactions.specs.Jobs.{KeepsJobs}
+use Rattle.fjall_core.specs.Holding.{Held}
+use Rattle.fjall_core.specs.Jobs.{KeepsJobs}
 use Rattle.fjall_calls.specs.Names.{Takes, is_wanted}
 use Rattle.fjall_calls.specs.declared.call.TxCall.TheVariants as calls
 use Rattle.fjall_calls.specs.declared.named.Named.{Named}

@@ -3,9 +3,9 @@ use Rattle.std.proofs.lemmas.List.{take_all, take_more}
 use Rattle.std.proofs.lemmas.Iterator.Adapters.{YieldsList-from_vec}
 use Rattle.std.proofs.lemmas.Iterator.Consumers.{YieldsList-end, YieldsList-turn}
 use Rattle.fjall_history.specs.declared.reply.Reply.{Reply}
-use Rattle.fjall_transactions.specs.CoreJob.{Job}
-use Rattle.fjall_transactions.specs.Jobs.{KeepsJobs}
-use Rattle.fjall_transactions.proofs.KeptJobs.{none_kept}
+use Rattle.fjall_core.specs.CoreJob.{Job}
+use Rattle.fjall_core.specs.Jobs.{KeepsJobs}
+use Rattle.fjall_core.proofs.KeptJobs.{none_kept}
 use Rattle.fjall_calls.specs.declared.call.TxCall.{TxCall}
 use Rattle.fjall_calls.specs.declared.named.Named.{Named}
 use Rattle.fjall_calls.specs.Serving.{ServesListed}

@@ -1,5 +1,5 @@
 use Rattle.std.proofs.Common.{◌≡◌, ◌≤◌, length, take, vec_len, vec_capacity}
-use Rattle.fjall_transactions.specs.Jobs.{KeepsJobs}
+use Rattle.fjall_core.specs.Jobs.{KeepsJobs}
 use Rattle.fjall_calls.proofs.SoFar.{RunSoFar}
 use Rattle.fjall_calls.proofs.serving.run.Given as goal
 

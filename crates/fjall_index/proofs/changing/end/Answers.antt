@@ -1,5 +1,5 @@
 use Rattle.std.proofs.Common.{rules, Err, refl}
-use Rattle.fjall_transactions.specs.CoreStanding.{reply_of}
+use Rattle.fjall_core.specs.CoreStanding.{reply_of}
 use Rattle.fjall_index.proofs.Answering.{answers_commit, answers_rollback}
 use Rattle.fjall_index.proofs.Ending.{done_so, ends_commit, ends_rollback, refused_so}
 use Rattle.fjall_index.proofs.Refusing.{commit_cause, rollback_cause}

@@ -1,9 +1,9 @@
 use Rattle.std.proofs.Common.{◌≡◌, Some, subst}
 use Rattle.std.specs.FinMap.{get}
 use Rattle.fjall_machine.specs.Shapes.{OfCreation}
-use Rattle.fjall_transactions.specs.Holding.{Held}
-use Rattle.fjall_transactions.specs.CoreStanding.{Serves, number_reply}
-use Rattle.fjall_transactions.proofs.Standing.{served_goes_on}
+use Rattle.fjall_core.specs.Holding.{Held}
+use Rattle.fjall_core.specs.CoreStanding.{Serves, number_reply}
+use Rattle.fjall_core.proofs.Standing.{served_goes_on}
 use Rattle.fjall_index.proofs.OpeningStates.{creation_arrives, creation_keeps, if_refused, still_arrives, still_keeps}
 use Rattle.fjall_index.proofs.indexed.keyspace_of.Goals as goal
 

@@ -1,6 +1,6 @@
 use Rattle.std.proofs.Common.{◌∙◌, ◌++◌, ℕ, List, ap}
-use Rattle.fjall_views.specs.Views.{value_at}
-use Rattle.fjall_views.proofs.Merging.{a_merge_keeps_views}
+use Rattle.fjall_memtable.specs.Views.{value_at}
+use Rattle.fjall_memtable.proofs.Merging.{a_merge_keeps_views}
 use Rattle.fjall_memtable.specs.Sorted.{flat}
 use Rattle.fjall_jobs.proofs.laws.what_a_merge_made_keeps_views.Goals as goal
 

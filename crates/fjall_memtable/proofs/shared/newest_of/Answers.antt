@@ -1,7 +1,7 @@
 use Rattle.std.proofs.Common.{ap, ◌∙◌}
 use Rattle.std.specs.Option.{option_map}
 use Rattle.fjall_table.specs.Blocks.{seen}
-use Rattle.fjall_views.specs.Views.{newest}
+use Rattle.fjall_memtable.specs.Views.{newest}
 use Rattle.fjall_memtable.specs.declared.part.Part.{Part}
 use Rattle.fjall_memtable.specs.Parts.{versions_in}
 use Rattle.fjall_memtable.specs.Held.{held_of}

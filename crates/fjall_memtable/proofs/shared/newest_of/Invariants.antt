@@ -1,5 +1,5 @@
 use Rattle.std.proofs.Common.{◌≡◌, length}
-use Rattle.fjall_views.specs.Views.{newest}
+use Rattle.fjall_memtable.specs.Views.{newest}
 use Rattle.fjall_memtable.specs.Parts.{AreApart, versions_in}
 use Rattle.fjall_memtable.specs.Shares.{shared}
 use Rattle.fjall_memtable.proofs.shared.newest_of.Given as goal

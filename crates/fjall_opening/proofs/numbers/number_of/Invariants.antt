@@ -1,6 +1,6 @@
 use Rattle.std.proofs.Common.{◌≡◌, ◌∷◌, All, map, max, take}
 use Rattle.fjall_manifest.specs.Records.{view}
-use Rattle.fjall_catalog.specs.Catalog.{fields}
+use Rattle.fjall_manifest.specs.Catalog.{fields}
 use Rattle.fjall_recovery.specs.Folders.{past_records}
 use Rattle.fjall_opening.specs.Opened.{HasNumbers, records_of}
 use Rattle.fjall_opening.proofs.numbers.number_of.Given as goal

@@ -5,7 +5,7 @@ use Rattle.std.proofs.lemmas.Result.{err_from_is_err_and}
 use Rattle.fjall_base.specs.Disk.{DiskState, Image, Meaning, standing, state_in}
 use Rattle.fjall_base.proofs.Moments.{stays}
 use Rattle.fjall_meta.specs.Keyspaces.{AreKeyspaces, Keyspaces}
-use Rattle.fjall_catalog.specs.declared.catalog.Catalog.{Catalog}
+use Rattle.fjall_manifest.specs.declared.catalog.Catalog.{Catalog}
 use Rattle.fjall_recovery.specs.Folders.{IsFinished, IsOpenable, IsSound}
 use Rattle.fjall_repair.specs.Mended.{IsMendingOf}
 use Rattle.fjall_repair.specs.Sweeps.{BringsNoTable, FindsTables, IsSwept, HasAll}

@@ -8,8 +8,8 @@ use Rattle.fjall_base.specs.Disk.{DiskState, Meaning, standing, state_in}
 use Rattle.fjall_base.proofs.Moments.{stays}
 use Rattle.fjall_files.specs.Names.{journal_name}
 use Rattle.fjall_meta.specs.Keyspaces.{AreKeyspaces, Keyspaces, no_keyspaces}
-use Rattle.fjall_catalog.specs.declared.catalog.Catalog.{Catalog}
-use Rattle.fjall_catalog.specs.Catalog.{first_catalog}
+use Rattle.fjall_manifest.specs.declared.catalog.Catalog.{Catalog}
+use Rattle.fjall_manifest.specs.Catalog.{first_catalog}
 use Rattle.fjall_repair.specs.Making.{ComesBackUnfinished}
 use Rattle.fjall_repair.specs.Plans.{IsBeginPlan as IsMakingOf, journals_begun}
 use Rattle.fjall_opening.specs.Opened.{nothing}
@@ -23,7 +23,7 @@ use Rattle.fjall_files.proofs.Tidying.{stays_both, stays_none as tidy_none}
 use Rattle.fjall_opening.proofs.Amid.{amid_now, amid_on}
 use Rattle.fjall_recovery.specs.Folders.{IsUnfinished}
 use Rattle.fjall_opening.proofs.Counting.{active_begun, none_begun}
-use Rattle.fjall_manager.specs.Places.{told}
+use Rattle.fjall_files.specs.Places.{told}
 use Rattle.fjall_opening.proofs.opening.open_unfinished.Goals as goal
 
 pub returns-in_err-opened-clause-any_moment : goal.returns-in_err-opened-clause-any_moment

@@ -5,13 +5,13 @@ use Rattle.std.proofs.lemmas.Result.{err_from_is_err_and}
 use Rattle.fjall_base.specs.Disk.{Image, standing, state_in}
 use Rattle.fjall_journal.specs.Batches.{shown}
 use Rattle.fjall_meta.specs.Keyspaces.{Keyspaces}
-use Rattle.fjall_recovery.specs.Beside.{AreEndedBy}
-use Rattle.fjall_recovery.specs.Parted.{AreUnwritten}
+use Rattle.fjall_replay.specs.Beside.{AreEndedBy}
+use Rattle.fjall_replay.specs.Parted.{AreUnwritten}
 use Rattle.fjall_trees.specs.Views.{forest_of}
-use Rattle.fjall_recovery.specs.Opening.{opened}
+use Rattle.fjall_replay.specs.Opening.{opened}
 use Rattle.fjall_recovery.specs.Folders.{Contents, IsOpenable, ShowsContents}
 use Rattle.fjall_recovery.specs.Journals.{EndsAt, AreJournalsRead, batches_in}
-use Rattle.fjall_contents.specs.declared.recovery.Persisted.{Persisted}
+use Rattle.fjall_meta.specs.declared.recovery.Persisted.{Persisted}
 use Rattle.fjall_opening.specs.Readings.{persisted_of}
 use Rattle.fjall_opening.specs.Replaying.{IsHeldBy, ShowBeyond}
 use Rattle.fjall_repair.specs.Steps.{active_of}

@@ -1,6 +1,6 @@
 use Rattle.std.proofs.Common.{◌≡◌, ◌∙◌, ap, get_or, []}
-use Rattle.fjall_manager.specs.Journals.{Sealed}
-use Rattle.fjall_manager.specs.Marks.{JournalMarks}
+use Rattle.fjall_files.specs.Journals.{Sealed}
+use Rattle.fjall_files.specs.Marks.{JournalMarks}
 use Rattle.fjall_recovery.proofs.Telling.{turn_ids}
 use Rattle.fjall_opening.proofs.Counting.{empty_more}
 use Rattle.fjall_opening.proofs.ready.empty_journals.Goals as goal

@@ -4,8 +4,8 @@ use Rattle.std.specs.Ordering.{nat_cmp}
 use Rattle.std.proofs.lemmas.List.Elements.{All-nil}
 use Rattle.fjall_meta.specs.declared.living.LivingKeyspace.{LivingKeyspace}
 use Rattle.fjall_meta.specs.Keyspaces.{Keyspaces}
-use Rattle.fjall_manager.specs.Places.{told}
-use Rattle.fjall_recovery.specs.Known.{LastFields}
+use Rattle.fjall_files.specs.Places.{told}
+use Rattle.fjall_replay.specs.Known.{LastFields}
 use Rattle.fjall_trees.specs.Views.{forest_of}
 use Rattle.fjall_opening.proofs.Counting.{none_written}
 use Rattle.fjall_opening.proofs.Replayed.{IsStill}

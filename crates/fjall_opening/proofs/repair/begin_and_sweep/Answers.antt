@@ -3,9 +3,9 @@ use Rattle.std.specs.List.{Contains}
 use Rattle.fjall_base.specs.Disk.{Meaning, state_in}
 use Rattle.fjall_base.proofs.Moments.{runs_on}
 use Rattle.fjall_files.specs.Names.{journal_name, table_name}
-use Rattle.fjall_catalog.specs.Catalog.{fields, first_catalog}
+use Rattle.fjall_manifest.specs.Catalog.{fields, first_catalog}
 use Rattle.fjall_meta.specs.Keyspaces.{no_keyspaces}
-use Rattle.fjall_contents.specs.Replays.{bare}
+use Rattle.fjall_meta.specs.Replays.{bare}
 use Rattle.fjall_recovery.proofs.Holding.{tree_of}
 use Rattle.fjall_recovery.specs.Places.{LiesInTree}
 use Rattle.fjall_opening.specs.Opened.{IsRepaired, nothing}

@@ -3,7 +3,7 @@ use Rattle.std.proofs.lemmas.Result.{err_from_is_err_and}
 use Rattle.fjall_base.specs.Disk.{Folder, Image, standing, state_in}
 use Rattle.fjall_base.specs.declared.error.Error.TheVariants.{Unrecoverable}
 use Rattle.fjall_files.specs.Names.{keyspace_folder}
-use Rattle.fjall_catalog.specs.Catalog.{Says}
+use Rattle.fjall_manifest.specs.Catalog.{Says}
 use Rattle.fjall_recovery.specs.Journals.{AreJournalIds}
 use Rattle.fjall_recovery.specs.Naming.{KeyspacesAreNamed}
 use Rattle.fjall_recovery.proofs.Finishing.{holds_journals, names_refuse, tree_refuses, homes_refuse, folders_along, finished_of}

@@ -3,8 +3,8 @@ use Rattle.std.proofs.lemmas.Bool.{true≢false}
 use Rattle.std.proofs.lemmas.Result.{err_from_is_err_and}
 use Rattle.fjall_meta.specs.Keyspaces.{Keyspaces}
 use Rattle.fjall_meta.specs.declared.living.LivingKeyspace.{LivingKeyspace}
-use Rattle.fjall_catalog.specs.declared.catalog.Catalog.{Catalog}
-use Rattle.fjall_catalog.specs.Catalog.{fields}
+use Rattle.fjall_manifest.specs.declared.catalog.Catalog.{Catalog}
+use Rattle.fjall_manifest.specs.Catalog.{fields}
 use Rattle.fjall_recovery.specs.Folders.{AreMade, past_record}
 use Rattle.fjall_recovery.proofs.Homing.{same_id}
 use Rattle.fjall_recovery.proofs.Finishing.{catalog_refuses}

@@ -1,14 +1,14 @@
 use Rattle.std.proofs.Common.{◌∙◌, List, true, refl, sym, ap, subst}
 use Rattle.std.proofs.lemmas.Result.{err_from_is_err_and}
 use Rattle.fjall_base.specs.Disk.{Image, standing, state_in}
-use Rattle.fjall_manager.specs.Journals.{Sealed}
-use Rattle.fjall_manager.specs.Telling.{AreMarksOf}
+use Rattle.fjall_files.specs.Journals.{Sealed}
+use Rattle.fjall_files.specs.Telling.{AreMarksOf}
 use Rattle.fjall_recovery.specs.Told.{AreTold}
 use Rattle.fjall_recovery.specs.Refusals.{TailRefuses}
 use Rattle.fjall_recovery.proofs.Telling.{last_told, none_told}
 use Rattle.fjall_recovery.proofs.Gathering.{front_refuses, active_batch, active_tail, last_found}
 use Rattle.fjall_recovery.proofs.Looking.{fault_listed}
-use Rattle.fjall_contents.specs.Replays.{first_fault}
+use Rattle.fjall_meta.specs.Replays.{first_fault}
 use Rattle.fjall_recovery.proofs.journals.read_journals.Goals as goal
 
 pub returns-in_err-journals-clause-cause : goal.returns-in_err-journals-clause-cause

@@ -2,8 +2,8 @@ use Rattle.std.proofs.Common.{◌∙◌, ◌+◌, ◌++◌, ◌∷◌, List, tak
 use Rattle.std.proofs.lemmas.Result.{err_from_is_err_and}
 use Rattle.fjall_base.specs.Disk.{standing, state_in}
 use Rattle.fjall_journal.proofs.Writing.{took_none}
-use Rattle.fjall_manager.specs.Journals.{Sealed}
-use Rattle.fjall_manager.specs.Telling.{AreMarksOf}
+use Rattle.fjall_files.specs.Journals.{Sealed}
+use Rattle.fjall_files.specs.Telling.{AreMarksOf}
 use Rattle.fjall_recovery.specs.Refusals.{TailRefuses}
 use Rattle.fjall_recovery.specs.Told.{AreSealedAs}
 use Rattle.fjall_recovery.proofs.Telling.{sealed_as, turn_ids, turn_told}

@@ -2,7 +2,7 @@ use Rattle.std.proofs.Common.{◌++◌, List, map, refl, subst}
 use Rattle.fjall_journal.specs.declared.batch.Batch.{Batch}
 use Rattle.fjall_journal.specs.Batches.{view}
 use Rattle.fjall_journal.proofs.Readings.{one_less}
-use Rattle.fjall_manager.specs.Telling.{AreMarksOf}
+use Rattle.fjall_files.specs.Telling.{AreMarksOf}
 use Rattle.fjall_recovery.proofs.Looking.{look_on, looked}
 use Rattle.fjall_recovery.proofs.look.look_through.Goals as goal
 

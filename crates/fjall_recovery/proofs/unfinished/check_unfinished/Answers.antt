@@ -1,7 +1,7 @@
 use Rattle.std.proofs.Common.{◌∙◌, ap, subst}
 use Rattle.std.proofs.lemmas.Result.{err_from_is_err_and}
 use Rattle.fjall_base.specs.Disk.{Image, standing, state_in}
-use Rattle.fjall_catalog.specs.Catalog.{records_in}
+use Rattle.fjall_manifest.specs.Catalog.{records_in}
 use Rattle.fjall_recovery.specs.Folders.{IsBegun}
 use Rattle.fjall_recovery.specs.Naming.{KeyspacesAreNamed}
 use Rattle.fjall_recovery.proofs.Finishing.{begun_names, begun_tree_err, ok_along, on_ok_of}

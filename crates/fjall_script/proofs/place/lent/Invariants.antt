@@ -1,6 +1,6 @@
 use Rattle.std.proofs.Common.{◌≡◌, map, take}
 use Rattle.fjall_lines.specs.Fills.{named_bytes}
-use Rattle.fjall_memory.specs.Wild.{fills_of}
+use Rattle.fjall_disk_memory.specs.Wild.{fills_of}
 use Rattle.fjall_script.proofs.place.lent.Given as goal
 
 -- those so far

@@ -1,5 +1,5 @@
 use Rattle.std.proofs.Common.{◌∙◌, ap, sym}
-use Rattle.fjall_transactions.specs.Holding.{Held}
+use Rattle.fjall_core.specs.Holding.{Held}
 use Rattle.fjall_shared.proofs.opening.seated.Goals as goal
 
 pub open-requires : goal.open-requires

@@ -1,6 +1,6 @@
 use Rattle.std.proofs.Common.{◌≡◌, ℕ, List, rules, subst, sym}
 use Rattle.fjall_base.specs.declared.error.Error.TheVariants.{OutOfMemory}
-use Rattle.fjall_compaction.specs.Flushes.{flush_of, record_after}
+use Rattle.fjall_compaction.specs.Flushes.{flush_of, record_after_flush}
 use Rattle.fjall_compaction.specs.FlushPlans.{AreReadersOf, IsNamed}
 use Rattle.fjall_compaction.proofs.Room.{fits_placed}
 use Rattle.fjall_manifest.specs.Records.{view}
@@ -15,7 +15,7 @@ pub returns-in_err-readers-clause-cause : goal.returns-in_err-readers-clause-cau
 returns-in_err-readers-clause-cause c =
     let only : c.in_err-readers.field-0.0 ≡ OutOfMemory = memory_ran_out c.args.made.now c.in_err-readers.field-0.0
     (λ lists made. c.in_err-readers.ensures.only lists (subst (λ (l : List MadeTable). AreMadeTables l lists) (sym c.tables.ensures.value) made)) in
-    let place = fits_placed (record_after (flush_of c.args.number c.args.made.now) (view c.args.last.now)) c.in_ok-writes.ensures.ok.fits in
+    let place = fits_placed (record_after_flush (flush_of c.args.number c.args.made.now) (view c.args.last.now)) c.in_ok-writes.ensures.ok.fits in
     search rules
 
 pub returns-clause-readers : goal.returns-clause-readers

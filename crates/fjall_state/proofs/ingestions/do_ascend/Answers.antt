@@ -2,7 +2,7 @@ use Rattle.std.proofs.Common.{rules}
 use Rattle.std.specs.Ordering.{is_lt}
 use Rattle.std.proofs.lemmas.List.Sorted.{answers_always}
 use Rattle.fjall_base.specs.Pairs.{byte_order}
-use Rattle.fjall_writes.specs.Ingestions.{KeyOp}
+use Rattle.fjall_reading.specs.Ingestions.{KeyOp}
 use Rattle.fjall_machine.proofs.Ascending.{ascend_is}
 use Rattle.fjall_state.proofs.ingestions.do_ascend.Goals as goal
 

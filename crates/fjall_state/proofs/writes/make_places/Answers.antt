@@ -1,8 +1,8 @@
 use Rattle.std.proofs.Common.{subst, sym}
 use Rattle.std.specs.Prelude.{OnOk}
 use Rattle.fjall_journal.specs.Ops.{op_of}
-use Rattle.fjall_commit.specs.Given.{meant}
-use Rattle.fjall_commit.specs.declared.journaling.Change.{Change}
+use Rattle.fjall_changes.specs.Given.{meant}
+use Rattle.fjall_changes.specs.declared.journaling.Change.{Change}
 use Rattle.fjall_state.specs.Changes.{HavePlaces}
 use Rattle.fjall_state.proofs.Watermarks.{one_placed}
 use Rattle.fjall_state.proofs.writes.make_places.Goals as goal

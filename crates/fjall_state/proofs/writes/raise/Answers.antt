@@ -1,7 +1,7 @@
 use Rattle.std.proofs.Common.{subst}
 use Rattle.fjall_journal.specs.Ops.{op_of}
-use Rattle.fjall_commit.specs.Given.{meant}
-use Rattle.fjall_commit.specs.declared.journaling.Change.{Change}
+use Rattle.fjall_changes.specs.Given.{meant}
+use Rattle.fjall_changes.specs.declared.journaling.Change.{Change}
 use Rattle.fjall_state.specs.Changes.{HavePlaces}
 use Rattle.fjall_state.proofs.Watermarks.{place_of_one}
 use Rattle.fjall_state.proofs.writes.raise.Goals as goal

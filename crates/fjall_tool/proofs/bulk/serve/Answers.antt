@@ -1,5 +1,5 @@
 use Rattle.std.proofs.Common.{rules}
-use Rattle.fjall_writes.specs.Ingestions.{IsIngestible}
+use Rattle.fjall_reading.specs.Ingestions.{IsIngestible}
 use Rattle.fjall_tool.specs.Pairs.{SpellItems}
 use Rattle.fjall_tool.proofs.Cuts.{printed}
 use Rattle.fjall_tool.proofs.bulk.serve.Goals as goal

@@ -1,5 +1,5 @@
 use Rattle.std.proofs.Common.{refl}
-use Rattle.fjall_memory.specs.MemoryDisk.{meaning_in}
+use Rattle.fjall_disk_memory.specs.MemoryDisk.{meaning_in}
 use Rattle.fjall_c.proofs.Opening.{opened_so, refused_so}
 use Rattle.fjall_c.proofs.session.opening.open_core.Goals as goal
 

@@ -3,7 +3,7 @@ use Rattle.std.specs.Prelude.{OnOk}
 use Rattle.fjall_base.specs.Disk.{Append, File, Meaning, Name, Sync, Took, making, state_in}
 use Rattle.fjall_base.specs.Pairs.{Bytes}
 use Rattle.fjall_base.specs.declared.error.Error.{Error}
-use Rattle.fjall_memory.specs.MemoryDisk.{meaning_in}
+use Rattle.fjall_disk_memory.specs.MemoryDisk.{meaning_in}
 use Rattle.fjall_c.specs.Openings.{PutsSynced}
 use Rattle.fjall_c.proofs.session.opening.put_synced.Goals as goal
 

@@ -1,5 +1,5 @@
 use Rattle.std.proofs.Common.{◌≡◌, rules, subst}
-use Rattle.fjall_transactions.specs.Holding.{Held}
+use Rattle.fjall_core.specs.Holding.{Held}
 use Rattle.fjall_c.specs.Transactions.{ShowsIn, TellsValue}
 use Rattle.fjall_c.proofs.Reading.{shows_so}
 use Rattle.fjall_c.proofs.session.within.value_in.Goals as goal

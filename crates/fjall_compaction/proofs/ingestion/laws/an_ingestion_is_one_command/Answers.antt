@@ -1,6 +1,6 @@
 use Rattle.std.proofs.Common.{◌∙◌, ap, sym}
 use Rattle.fjall_base.specs.Store.{kept}
-use Rattle.fjall_commit.proofs.CrashedJournals.{store_is_kept}
+use Rattle.fjall_changes.proofs.CrashedJournals.{store_is_kept}
 use Rattle.fjall_recovery.specs.Places.{contents_with}
 use Rattle.fjall_compaction.specs.Ingests.{tree_with}
 use Rattle.fjall_compaction.proofs.Numbers as Numbers

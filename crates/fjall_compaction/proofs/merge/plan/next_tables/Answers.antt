@@ -1,6 +1,6 @@
 use Rattle.std.proofs.Common.{◌++◌, ◌∷◌, [], List, ap, drop, ◌∙◌, sym, take_all}
 use Rattle.fjall_jobs.specs.declared.made_table.MadeTable.{MadeTable}
-use Rattle.fjall_compaction.specs.Merges.{infos_from}
+use Rattle.fjall_compaction.specs.Merges.{merged_infos}
 use Rattle.fjall_compaction.proofs.Naming.{infos_more}
 use Rattle.fjall_compaction.proofs.merge.plan.next_tables.Goals as goal
 
@@ -15,5 +15,5 @@ loop-at-preserved c =
 
 pub returns-clause-tables : goal.returns-clause-tables
 returns-clause-tables c =
-    let all = ap (λ (l : List MadeTable). infos_from c.args.last.now.next_table_id l) (take_all c.loop-at.at c.args.tables.now c.loop-at-test.false) in
+    let all = ap (λ (l : List MadeTable). merged_infos c.args.last.now.next_table_id l) (take_all c.loop-at.at c.args.tables.now c.loop-at-test.false) in
     c.in_ok-extend_from_slice.ensures.items ∙ (λ k. (c.loop-at.invariant ∙ all) k ++ (c.behind.ensures ∙ ap (drop c.args.count) c.deref.ensures.value) k)

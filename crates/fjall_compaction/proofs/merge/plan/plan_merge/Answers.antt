@@ -1,6 +1,6 @@
 use Rattle.std.proofs.Common.{◌≡◌, ◌∙◌, Err, ap, drop, length, rules}
 use Rattle.fjall_manifest.specs.Records.{view}
-use Rattle.fjall_compaction.specs.Merges.{merge_of, record_after}
+use Rattle.fjall_compaction.specs.Merges.{merge_of, record_after_merge}
 use Rattle.fjall_compaction.proofs.Room.{memory_last, merge_placed, merge_refused}
 use Rattle.fjall_compaction.proofs.merge.plan.plan_merge.Goals as goal
 
@@ -30,4 +30,4 @@ returns-clause-cause c =
     (λ i. length ((c.behind.ensures ∙ ap (drop c.args.input.0) c.deref.ensures.value) i)) (λ i. length (c.tables.ensures.value i))
     (λ i. length ((c.behind-2.ensures ∙ ap (drop c.args.input.1) c.deref-2.ensures.value) i)) (λ i. length (c.clears.ensures.value i))
     ok.0 ok.1 in
-    memory_last (record_after m (view c.args.last.now)) c.plan_in_place.result place c.plan_in_place.ensures.only
+    memory_last (record_after_merge m (view c.args.last.now)) c.plan_in_place.result place c.plan_in_place.ensures.only

@@ -1,9 +1,9 @@
 use Rattle.std.proofs.Common.{sym, subst}
 use Rattle.fjall_history.specs.declared.reply.Reply.TheVariants.{Opened}
 use Rattle.fjall_machine.specs.Shapes.{OfTickets, Open}
-use Rattle.fjall_transactions.specs.Commits.{begun_reply}
-use Rattle.fjall_transactions.specs.CoreStanding.{Owes}
-use Rattle.fjall_transactions.specs.Transactions.{Tx}
+use Rattle.fjall_core.specs.Commits.{begun_reply}
+use Rattle.fjall_core.specs.CoreStanding.{Owes}
+use Rattle.fjall_core.specs.Transactions.{Tx}
 use Rattle.fjall_index.specs.Changes.{IsIndexedTx}
 use Rattle.fjall_index.proofs.Keeping.{begin_goes, not_begun}
 use Rattle.fjall_index.proofs.Refusing.{not_begun_so}

@@ -1,10 +1,10 @@
 use Rattle.std.proofs.Common.{rules, Result, IfErr, subst}
 use Rattle.fjall_base.specs.declared.error.Error.{Error}
 use Rattle.fjall_history.specs.declared.ticket.Ticket.{Ticket}
-use Rattle.fjall_transactions.specs.Durables.{Durable}
-use Rattle.fjall_transactions.specs.Holding.{Held}
-use Rattle.fjall_transactions.specs.Standing.{Told}
-use Rattle.fjall_transactions.specs.Commits.{begun_reply}
+use Rattle.fjall_core.specs.Durables.{Durable}
+use Rattle.fjall_core.specs.Holding.{Held}
+use Rattle.fjall_core.specs.Standing.{CoreState}
+use Rattle.fjall_core.specs.Commits.{begun_reply}
 use Rattle.fjall_index.proofs.Putting.{change_goes, passed_goes, refused_goes}
 use Rattle.fjall_index.proofs.Refusing.{of_engine, once_cause, put_writes}
 use Rattle.fjall_index.specs.Refusing.{HasPut, IsNotBegun, IsPutRefusal, IsWriteRefusal}
@@ -52,7 +52,7 @@ returns g c = record {
   keeps = λ h since t d all.
       let of = g.E.Extract.field_of c.args.self.now.extract in
       let items = putting of c.args.self.now.main c.args.self.now.index c.args.key c.args.new in
-      subst (λ (r : Result Unit Error). (next : Told) × (e : Durable) × GoesOnIndexed of c.args.self.now.main c.args.self.now.index since (where_done r items t.state) t d next e c.end.new.core.engine c.end.new.core.transactions) c.in_ok-end.was
+      subst (λ (r : Result Unit Error). (next : CoreState) × (e : Durable) × GoesOnIndexed of c.args.self.now.main c.args.self.now.index since (where_done r items t.state) t d next e c.end.new.core.engine c.end.new.core.transactions) c.in_ok-end.was
       (change_goes of c.args.self.now.main c.args.self.now.index since g.D.Disk.honest c.args.core.now.engine c.begin_optimistic.new.self.engine c.deref_mut.result.now c.write_in-done.new.engine _ c.end.new.core.engine
       c.args.core.now.transactions c.begin_optimistic.new.self.transactions c.end.new.core.transactions t d c.in_ok-transaction.transaction c.write_in-done.new.transaction c.args.key c.args.new c.write_in-done.result c.end.result
       c.own_writes_keep_the_index.ensures.keeps c.own_writes_keep_the_index.ensures.reads c.own_writes_grow.ensures.many h all

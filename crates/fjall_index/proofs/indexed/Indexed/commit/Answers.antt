@@ -1,9 +1,9 @@
 use Rattle.std.proofs.Common.{◌≡◌, inl, inr, None, refl, subst}
 use Rattle.std.specs.FinMap.{get}
 use Rattle.fjall_history.specs.declared.ticket.Ticket.{Ticket}
-use Rattle.fjall_transactions.specs.CoreStanding.{reply_of}
-use Rattle.fjall_transactions.specs.Standing.{CommitStep}
-use Rattle.fjall_transactions.specs.Transactions.{Tx}
+use Rattle.fjall_core.specs.CoreStanding.{reply_of}
+use Rattle.fjall_core.specs.Standing.{CommitStep}
+use Rattle.fjall_core.specs.Transactions.{Tx}
 use Rattle.fjall_index.proofs.Keeping.{closes_tx, commits_tx}
 use Rattle.fjall_index.proofs.Refusing.{close_none}
 use Rattle.fjall_index.proofs.indexed.Indexed.commit.Goals as goal

@@ -2,7 +2,7 @@ use Rattle.std.proofs.Common.{ℕ, rules, subst}
 use Rattle.fjall_base.specs.Pairs.{Pairs}
 use Rattle.fjall_base.specs.Store.{map_at}
 use Rattle.fjall_machine.specs.Machine.{maps_in}
-use Rattle.fjall_transactions.specs.Shown.{Shows}
+use Rattle.fjall_core.specs.Shown.{Shows}
 use Rattle.fjall_index.proofs.Going.{lent_goes}
 use Rattle.fjall_index.proofs.Showing.{shows}
 use Rattle.fjall_index.proofs.indexed.Indexed.find.Goals as goal

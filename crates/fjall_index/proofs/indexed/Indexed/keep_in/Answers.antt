@@ -2,7 +2,7 @@ use Rattle.std.proofs.Common.{◌≡◌, inl, inr, rules, true, Option, sym, sub
 use Rattle.fjall_base.specs.Pairs.{Bytes}
 use Rattle.fjall_history.specs.declared.ticket.Ticket.{Ticket}
 use Rattle.fjall_history.specs.declared.ticket.View.TheVariants.{At}
-use Rattle.fjall_transactions.specs.Shown.{Shows}
+use Rattle.fjall_core.specs.Shown.{Shows}
 use Rattle.fjall_index_entries.specs.Index.{field_in}
 use Rattle.fjall_index_entries.specs.Putting.{has_long_entry}
 use Rattle.fjall_index.specs.Refusing.{IsChangeRefusal}

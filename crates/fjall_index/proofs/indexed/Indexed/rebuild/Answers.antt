@@ -2,8 +2,8 @@ use Rattle.std.proofs.Common.{rules, Result, Ok, Err, IfErr, refl, subst}
 use Rattle.fjall_base.specs.declared.error.Error.{Error}
 use Rattle.fjall_history.specs.declared.ticket.Ticket.{Ticket}
 use Rattle.fjall_machine.specs.Shapes.{Open}
-use Rattle.fjall_transactions.specs.Commits.{begun_reply}
-use Rattle.fjall_transactions.specs.Holding.{Held}
+use Rattle.fjall_core.specs.Commits.{begun_reply}
+use Rattle.fjall_core.specs.Holding.{Held}
 use Rattle.fjall_index_entries.specs.declared.error.IndexError.{IndexError}
 use Rattle.fjall_index_entries.specs.declared.error.IndexError.TheVariants.{SameKeyspace}
 use Rattle.fjall_index.specs.Refusing.{HasRebuilt, IsNotBegun, IsRebuildRefusal, IsRepairRefusal}

@@ -2,7 +2,7 @@ use Rattle.std.proofs.Common.{ℕ, inl, inr, rules, refl, sym, subst}
 use Rattle.fjall_base.specs.Pairs.{Pairs}
 use Rattle.fjall_history.specs.declared.ticket.Ticket.{Ticket}
 use Rattle.fjall_history.specs.declared.ticket.View.TheVariants.{At}
-use Rattle.fjall_transactions.specs.Shown.{Shows}
+use Rattle.fjall_core.specs.Shown.{Shows}
 use Rattle.fjall_index.specs.Refusing.{IsRepairReadRefusal, IsRepairRefusal}
 use Rattle.fjall_index.proofs.Refusing.{on_ok, same_error, wrong_items}
 use Rattle.fjall_index.proofs.indexed.Indexed.rebuild_in.Goals as goal

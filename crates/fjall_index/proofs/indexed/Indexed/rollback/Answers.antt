@@ -1,4 +1,4 @@
-use Rattle.fjall_transactions.specs.CoreStanding.{reply_of}
+use Rattle.fjall_core.specs.CoreStanding.{reply_of}
 use Rattle.fjall_index.proofs.Keeping.{closes_tx}
 use Rattle.fjall_index.proofs.indexed.Indexed.rollback.Goals as goal
 

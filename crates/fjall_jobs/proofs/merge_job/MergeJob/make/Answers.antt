@@ -1,6 +1,6 @@
 use Rattle.std.proofs.Common.{◌≡◌, ◌∙◌, ◌+◌, List, Err, None, Some, true, refl, ap, subst, sym, rules}
 use Rattle.fjall_table.specs.Blocks.{Entry}
-use Rattle.fjall_views.specs.Jobs.{merged_clears}
+use Rattle.fjall_memtable.specs.Jobs.{merged_clears}
 use Rattle.fjall_memtable.specs.SortedPages.{barrier}
 use Rattle.fjall_memtable.specs.Sorted.{flat, sorted}
 use Rattle.fjall_jobs.specs.Keeping.{AreSorted, kept_by}

@@ -5,7 +5,7 @@ use Rattle.std.proofs.lemmas.List.Elements.{All-push}
 use Rattle.std.specs.declared.alloc.Global.{Global}
 use Rattle.std.specs.declared.sync.Arc.{Arc}
 use Rattle.fjall_table.specs.Blocks.{Entry, seen}
-use Rattle.fjall_views.specs.Views.{newest}
+use Rattle.fjall_memtable.specs.Views.{newest}
 use Rattle.fjall_memtable.specs.declared.part.Part.{Part}
 use Rattle.fjall_memtable.specs.Parts.{AreApart, IsHeld, parts_of, versions_in}
 use Rattle.fjall_memtable.specs.Held.{held_of}

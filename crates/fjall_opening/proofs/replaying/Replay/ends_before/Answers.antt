@@ -1,5 +1,5 @@
 use Rattle.std.proofs.Common.{List, ◌∙◌, ap, get_or}
-use Rattle.fjall_manager.specs.Journals.{Sealed}
+use Rattle.fjall_files.specs.Journals.{Sealed}
 use Rattle.fjall_opening.proofs.JournalsLeft.{none_at, told_at}
 use Rattle.fjall_opening.proofs.replaying.Replay.ends_before.Goals as goal
 

@@ -1,5 +1,5 @@
 use Rattle.std.proofs.Common.{◌+◌, ◌<◌, ◌≤◌, ◌∙◌, [], List, ap, drop, length, refl, subst}
-use Rattle.fjall_manager.specs.Journals.{Sealed}
+use Rattle.fjall_files.specs.Journals.{Sealed}
 use Rattle.fjall_trees.specs.Views.{forest_of}
 use Rattle.fjall_opening.specs.Replaying.{made_of}
 use Rattle.fjall_opening.proofs.JournalsLeft.{none_left, seals_rest}

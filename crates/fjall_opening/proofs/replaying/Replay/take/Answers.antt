@@ -3,7 +3,7 @@ use Rattle.fjall_journal.specs.declared.batch.Batch.{Batch}
 use Rattle.fjall_journal.specs.Batches.{Shown, view}
 use Rattle.fjall_trees.specs.Forests.{Forest}
 use Rattle.fjall_trees.specs.Views.{forest_of}
-use Rattle.fjall_contents.specs.Replays.{first_fault, least_after}
+use Rattle.fjall_meta.specs.Replays.{first_fault, least_after}
 use Rattle.fjall_opening.specs.declared.replaying.Progress.{Progress}
 use Rattle.fjall_opening.specs.Replaying.{counted_by}
 use Rattle.fjall_opening.proofs.JournalByJournal.{too_high, unfit}

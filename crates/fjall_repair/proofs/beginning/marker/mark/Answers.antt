@@ -4,7 +4,7 @@ use Rattle.fjall_base.proofs.Moments.{weaken}
 use Rattle.fjall_base.specs.declared.error.FormatVersion.TheVariants.{V3}
 use Rattle.fjall_files.specs.Marker.{header}
 use Rattle.fjall_meta.specs.Keyspaces.{no_keyspaces}
-use Rattle.fjall_contents.specs.Replays.{bare}
+use Rattle.fjall_meta.specs.Replays.{bare}
 use Rattle.fjall_recovery.specs.Folders.{ImageStandsFor}
 use Rattle.fjall_repair.specs.Making.{CanHold}
 use Rattle.fjall_repair.specs.Plans.{IsFound}

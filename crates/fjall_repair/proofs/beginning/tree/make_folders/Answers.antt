@@ -2,7 +2,7 @@ use Rattle.std.proofs.Common.{◌≡◌, Ok, false, codes, refl, ◌∙◌, ap}
 use Rattle.fjall_base.specs.Disk.{DiskState, Folder, Meaning, Name, Place, state_in}
 use Rattle.fjall_files.proofs.Made.{within_both, within_none}
 use Rattle.fjall_files.specs.Names.{current_name}
-use Rattle.fjall_catalog.proofs.Naming.{folder_zero}
+use Rattle.fjall_manifest.proofs.CatalogNaming.{folder_zero}
 use Rattle.fjall_repair.proofs.Moments.{goes_both, goes_none}
 use Rattle.fjall_repair.proofs.Named.{keyspaces_no_table}
 use Rattle.fjall_repair.proofs.Trees.{folder_other, goes_folder, inner_no_table, inner_records, inner_stands, keyspaces_stands, on_ok_as, on_ok_of, outer_records, records_along, within_folder}

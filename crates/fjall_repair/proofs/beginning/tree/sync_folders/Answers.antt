@@ -5,7 +5,7 @@ use Rattle.fjall_files.proofs.Made.{within_both, within_none}
 use Rattle.fjall_repair.proofs.Moments.{goes_both, goes_none, goes_settled}
 use Rattle.fjall_repair.proofs.Trees.{first_tree, settled_under}
 use Rattle.fjall_files.proofs.Tidying.{stays_both as tidy_both, stays_none as tidy_none, stays_settling}
-use Rattle.fjall_catalog.proofs.Naming.{folder_zero}
+use Rattle.fjall_manifest.proofs.CatalogNaming.{folder_zero}
 use Rattle.fjall_repair.proofs.BeginServed.{homes_both, homes_settled, outer_settled}
 use Rattle.fjall_repair.proofs.beginning.tree.sync_folders.Goals as goal
 

@@ -1,5 +1,5 @@
 use Rattle.std.proofs.Common.{sym, ◌∙◌, ap, subst}
-use Rattle.fjall_word.specs.Seats.{Place}
+use Rattle.fjall_history.specs.Seats.{Place}
 use Rattle.fjall_shared.specs.Locked.{Locked}
 use Rattle.fjall_seen.specs.Naming.{IsNamed}
 use Rattle.fjall_seen.proofs.Seeing.{collected_seat}

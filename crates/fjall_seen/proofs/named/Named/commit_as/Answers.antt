@@ -1,5 +1,5 @@
 use Rattle.std.proofs.Common.{sym, ◌∙◌, refl, subst}
-use Rattle.fjall_word.specs.Seats.{Place}
+use Rattle.fjall_history.specs.Seats.{Place}
 use Rattle.fjall_seen.specs.Told.{CommitTold}
 use Rattle.fjall_seen.proofs.Seeing.{commit_seen, not_other, stood_open}
 use Rattle.fjall_seen.proofs.named.Named.commit_as.Goals as goal

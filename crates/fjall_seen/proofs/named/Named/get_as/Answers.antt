@@ -3,7 +3,7 @@ use Rattle.std.specs.Prelude.{IfErr, IfOk}
 use Rattle.fjall_base.specs.Pairs.{lookup}
 use Rattle.fjall_base.specs.Store.{map_at}
 use Rattle.fjall_history.specs.Histories.{latest}
-use Rattle.fjall_word.specs.Seats.{Place}
+use Rattle.fjall_history.specs.Seats.{Place}
 use Rattle.fjall_seen.specs.Told.{IsReadCause}
 use Rattle.fjall_seen.proofs.Seeing.{get_cause, read_now}
 use Rattle.fjall_seen.proofs.named.Named.get_as.Goals as goal

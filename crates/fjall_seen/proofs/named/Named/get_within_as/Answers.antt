@@ -5,7 +5,7 @@ use Rattle.fjall_base.specs.Store.{map_at}
 use Rattle.fjall_base.specs.declared.error.Error.{Error}
 use Rattle.fjall_tx.specs.Owns.{own_written}
 use Rattle.fjall_history.specs.Histories.{view}
-use Rattle.fjall_word.specs.Seats.{Place}
+use Rattle.fjall_history.specs.Seats.{Place}
 use Rattle.fjall_seen.proofs.Seeing.{held_open, same_option, within_then}
 use Rattle.fjall_seen.proofs.named.Named.get_within_as.Goals.{else-eq, then-eq}
 use Rattle.fjall_seen.proofs.named.Named.get_within_as.Goals as goal

@@ -2,7 +2,7 @@ use Rattle.std.proofs.Common.{sym, subst, [], ◌∷◌}
 use Rattle.std.specs.Prelude.{IfErr, OnOk}
 use Rattle.fjall_journal.specs.declared.op.Op.TheVariants.{Put}
 use Rattle.fjall_history.specs.Histories.{latest}
-use Rattle.fjall_word.specs.Seats.{Place}
+use Rattle.fjall_history.specs.Seats.{Place}
 use Rattle.fjall_seen.specs.Told.{EndsWithWrite, IsChangeCause}
 use Rattle.fjall_seen.proofs.Seeing.{write_cause, wrote}
 use Rattle.fjall_seen.proofs.named.Named.insert_as.Goals as goal

@@ -1,7 +1,7 @@
 use Rattle.std.proofs.Common.{sym, subst}
 use Rattle.std.specs.Prelude.{IfOk}
 use Rattle.fjall_history.specs.Histories.{latest}
-use Rattle.fjall_word.specs.Seats.{Place}
+use Rattle.fjall_history.specs.Seats.{Place}
 use Rattle.fjall_seen.specs.Told.{HasName}
 use Rattle.fjall_seen.proofs.Seeing.{named_now}
 use Rattle.fjall_seen.proofs.named.Named.keyspace_as.Goals as goal

@@ -4,7 +4,7 @@ use Rattle.fjall_base.specs.Pairs.{Bytes, lookup}
 use Rattle.fjall_base.specs.Store.{map_at}
 use Rattle.fjall_base.specs.declared.error.Error.{Error}
 use Rattle.fjall_history.specs.Histories.{view}
-use Rattle.fjall_word.specs.Seats.{Place}
+use Rattle.fjall_history.specs.Seats.{Place}
 use Rattle.fjall_seen.proofs.Seeing.{held_open, read_then, same_option}
 use Rattle.fjall_seen.proofs.named.Named.read_as.Goals.{else-eq, then-eq}
 use Rattle.fjall_seen.proofs.named.Named.read_as.Goals as goal

@@ -1,7 +1,7 @@
 use Rattle.std.proofs.Common.{refl, subst, sym}
 use Rattle.fjall_machine.specs.Shapes.{OfTickets, Open}
-use Rattle.fjall_transactions.specs.Commits.{begun_reply}
-use Rattle.fjall_transactions.specs.Transactions.{Kept}
+use Rattle.fjall_core.specs.Commits.{begun_reply}
+use Rattle.fjall_core.specs.Transactions.{Kept}
 use Rattle.fjall_shared.specs.Does.{Does}
 use Rattle.fjall_shared.specs.Locked.{IsSettled, Locked}
 use Rattle.fjall_shared.proofs.Settled.{quiet_done, quiet_settles}

@@ -1,9 +1,9 @@
 use Rattle.std.proofs.Common.{◌≡◌, Bool, true, false, Result, OnErr, refl, subst, sym}
 use Rattle.fjall_base.specs.declared.error.Error.{Error}
 use Rattle.fjall_machine.specs.Shapes.{OfTickets, Open}
-use Rattle.fjall_transactions.specs.Holding.{Held}
-use Rattle.fjall_transactions.specs.Commits.{begun_reply, is_writing}
-use Rattle.fjall_transactions.specs.Transactions.{Kept, Tx}
+use Rattle.fjall_core.specs.Holding.{Held}
+use Rattle.fjall_core.specs.Commits.{begun_reply, is_writing}
+use Rattle.fjall_core.specs.Transactions.{Kept, Tx}
 use Rattle.fjall_shared.specs.Locked.{IsSettled, Locked}
 use Rattle.fjall_shared.proofs.Settled.{kept_makes, kept_settles}
 use Rattle.fjall_shared.proofs.shared.Shared.begin_single.Goals as goal

@@ -1,6 +1,6 @@
 use Rattle.std.proofs.Common.{subst, sym}
 use Rattle.fjall_machine.specs.Shapes.{OfHandle, OneLess}
-use Rattle.fjall_transactions.specs.CoreStanding.{reply_of}
+use Rattle.fjall_core.specs.CoreStanding.{reply_of}
 use Rattle.fjall_shared.specs.Does.{Collects, Does, Releases}
 use Rattle.fjall_shared.specs.Locked.{Locked}
 use Rattle.fjall_shared.proofs.Collected.{closed_collects}

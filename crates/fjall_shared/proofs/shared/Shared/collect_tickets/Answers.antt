@@ -1,6 +1,6 @@
 use Rattle.std.proofs.Common.{subst, sym}
 use Rattle.fjall_machine.specs.Shapes.{Close, OfTickets}
-use Rattle.fjall_transactions.specs.CoreStanding.{reply_of}
+use Rattle.fjall_core.specs.CoreStanding.{reply_of}
 use Rattle.fjall_shared.specs.Does.{ClosesNone, ClosesOne, ClosesTickets, Does}
 use Rattle.fjall_shared.specs.Locked.{Locked}
 use Rattle.fjall_shared.proofs.shared.Shared.collect_tickets.Goals as goal

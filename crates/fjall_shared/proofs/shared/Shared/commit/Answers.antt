@@ -2,9 +2,9 @@ use Rattle.std.proofs.Common.{◌∙◌, sym, ap, subst, ℕ, Option, unwrap_or}
 use Rattle.std.specs.FinMap.{get}
 use Rattle.fjall_tx.specs.Owns.{items_of}
 use Rattle.fjall_history.specs.declared.ticket.Ticket.{Ticket}
-use Rattle.fjall_transactions.specs.Holding.{Held}
-use Rattle.fjall_transactions.specs.CoreStanding.{StandsFor}
-use Rattle.fjall_transactions.specs.Transactions.{Tx}
+use Rattle.fjall_core.specs.Holding.{Held}
+use Rattle.fjall_core.specs.CoreStanding.{StandsFor}
+use Rattle.fjall_core.specs.Transactions.{Tx}
 use Rattle.fjall_shared.specs.Locked.{Locked}
 use Rattle.fjall_shared.specs.Does.{entry_of}
 use Rattle.fjall_shared.proofs.Settled.{grown_so, more_as}

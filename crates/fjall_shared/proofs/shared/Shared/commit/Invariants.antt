@@ -1,5 +1,5 @@
 use Rattle.fjall_tx.specs.Owns.{items_of}
-use Rattle.fjall_transactions.specs.Standing.{accepted_of}
+use Rattle.fjall_core.specs.Standing.{accepted_of}
 use Rattle.fjall_shared.proofs.shared.Shared.commit.Given as goal
 
 abbrev pub ghosts-tell : goal.ghosts-tell

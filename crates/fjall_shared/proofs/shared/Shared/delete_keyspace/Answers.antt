@@ -2,8 +2,8 @@ use Rattle.std.proofs.Common.{◌∙◌, ap, refl, subst, ℕ}
 use Rattle.fjall_base.specs.Store.{Delete}
 use Rattle.fjall_history.specs.Histories.{plain}
 use Rattle.fjall_machine.specs.Shapes.{OfDeletion}
-use Rattle.fjall_transactions.specs.Holding.{Held}
-use Rattle.fjall_transactions.specs.CoreStanding.{Owes, Serves, reply_of}
+use Rattle.fjall_core.specs.Holding.{Held}
+use Rattle.fjall_core.specs.CoreStanding.{Owes, Serves, reply_of}
 use Rattle.fjall_shared.specs.Locked.{Locked}
 use Rattle.fjall_shared.proofs.Settled.{call_done, call_settles, grown_so, told_more}
 use Rattle.fjall_shared.proofs.shared.Shared.delete_keyspace.Goals as goal

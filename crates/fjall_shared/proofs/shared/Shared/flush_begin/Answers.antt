@@ -6,9 +6,9 @@ use Rattle.fjall_jobs.specs.declared.flush_job.FlushJob.{FlushJob}
 use Rattle.fjall_jobs.specs.Flushes.{flush_task}
 use Rattle.fjall_machine.specs.Remembered.{KnowsTask}
 use Rattle.fjall_machine.specs.Shapes.{OfFlushBegin}
-use Rattle.fjall_transactions.specs.Holding.{Held}
-use Rattle.fjall_transactions.specs.CoreStanding.{Owes, Serves, job_reply, job_of, no_job_reply}
-use Rattle.fjall_places.specs.Labels.{Label, flush_label}
+use Rattle.fjall_core.specs.Holding.{Held}
+use Rattle.fjall_core.specs.CoreStanding.{Owes, Serves, job_reply, job_of, no_job_reply}
+use Rattle.fjall_shared.specs.Labels.{Label, flush_label}
 use Rattle.fjall_shared.specs.Does.{MakesCall}
 use Rattle.fjall_shared.specs.Locked.{IsSettled, Locked}
 use Rattle.fjall_shared.proofs.Jobs.{flush_makes, flush_settles}

@@ -2,8 +2,8 @@ use Rattle.std.proofs.Common.{◌≡◌, ◌∙◌, List, set, get_or, take, dro
 use Rattle.std.specs.Prelude.{remove, slice_get}
 use Rattle.std.proofs.lemmas.Option.{slice_get_within}
 use Rattle.fjall_machine.specs.Shapes.{OfFlushFinish}
-use Rattle.fjall_transactions.specs.CoreStanding.{KnowsIfDue, Owes, Serves, finish_reply, flag_reply, job_of}
-use Rattle.fjall_places.specs.Labels.{Label, flush_made_of}
+use Rattle.fjall_core.specs.CoreStanding.{KnowsIfDue, Owes, Serves, finish_reply, flag_reply, job_of}
+use Rattle.fjall_shared.specs.Labels.{Label, flush_made_of}
 use Rattle.fjall_shared.specs.Locked.{IsSettled, Locked}
 use Rattle.fjall_shared.specs.Does.{FinishesJob, with_flushes}
 use Rattle.fjall_shared.proofs.Jobs.{asked, flush_known_at, flushed_done, flushed_settles, found_there, put_back, written_back}

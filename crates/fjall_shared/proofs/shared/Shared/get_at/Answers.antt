@@ -1,8 +1,8 @@
 use Rattle.std.proofs.Common.{refl, subst}
 use Rattle.fjall_history.specs.Queries.{Get}
 use Rattle.fjall_machine.specs.Shapes.{OfRead}
-use Rattle.fjall_transactions.specs.Holding.{Held}
-use Rattle.fjall_transactions.specs.CoreStanding.{Owes, Serves, value_reply}
+use Rattle.fjall_core.specs.Holding.{Held}
+use Rattle.fjall_core.specs.CoreStanding.{Owes, Serves, value_reply}
 use Rattle.fjall_shared.specs.Locked.{Locked}
 use Rattle.fjall_shared.proofs.Settled.{quiet_done, quiet_settles}
 use Rattle.fjall_shared.proofs.shared.Shared.get_at.Goals as goal

@@ -9,7 +9,7 @@ use Rattle.fjall_history.specs.declared.ticket.Ticket.{Ticket}
 use Rattle.fjall_history.specs.declared.ticket.View.TheVariants.{At}
 use Rattle.fjall_machine.specs.Machine.{instant_of}
 use Rattle.fjall_machine.specs.Shapes.{OfRead}
-use Rattle.fjall_transactions.specs.CoreStanding.{value_reply}
+use Rattle.fjall_core.specs.CoreStanding.{value_reply}
 use Rattle.fjall_shared.specs.Does.{Does}
 use Rattle.fjall_shared.specs.Locked.{list_of}
 use Rattle.fjall_shared.proofs.Viewing.{got_at}

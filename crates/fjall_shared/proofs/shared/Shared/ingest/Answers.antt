@@ -1,10 +1,10 @@
 use Rattle.std.proofs.Common.{◌∙◌, ap, subst, ℕ, Vec, Global}
-use Rattle.fjall_writes.specs.Ingestions.{KeyOp}
+use Rattle.fjall_reading.specs.Ingestions.{KeyOp}
 use Rattle.fjall_compaction.specs.Ingests.{ingestion}
 use Rattle.fjall_history.specs.Histories.{plain}
 use Rattle.fjall_machine.specs.Shapes.{OfIngestion}
-use Rattle.fjall_transactions.specs.Holding.{Held}
-use Rattle.fjall_transactions.specs.CoreStanding.{Owes, Serves, reply_of}
+use Rattle.fjall_core.specs.Holding.{Held}
+use Rattle.fjall_core.specs.CoreStanding.{Owes, Serves, reply_of}
 use Rattle.fjall_shared.specs.Locked.{Locked}
 use Rattle.fjall_shared.proofs.Settled.{call_done, call_settles, grown_so, says_ingested, told_more}
 use Rattle.fjall_shared.proofs.shared.Shared.ingest.Goals as goal

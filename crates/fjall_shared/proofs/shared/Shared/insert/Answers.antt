@@ -5,8 +5,8 @@ use Rattle.fjall_journal.specs.Changes.{Items, command_of}
 use Rattle.fjall_journal.specs.declared.op.Op.TheVariants as ops
 use Rattle.fjall_history.specs.Histories.{plain}
 use Rattle.fjall_machine.specs.Shapes.{of_write}
-use Rattle.fjall_transactions.specs.Holding.{Held}
-use Rattle.fjall_transactions.specs.CoreStanding.{Owes, Serves, reply_of}
+use Rattle.fjall_core.specs.Holding.{Held}
+use Rattle.fjall_core.specs.CoreStanding.{Owes, Serves, reply_of}
 use Rattle.fjall_shared.specs.Locked.{Locked}
 use Rattle.fjall_shared.proofs.Settled.{call_done, call_settles, grown_so, told_more}
 use Rattle.fjall_shared.proofs.shared.Shared.insert.Goals as goal

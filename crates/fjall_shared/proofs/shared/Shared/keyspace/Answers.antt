@@ -1,10 +1,10 @@
 use Rattle.std.proofs.Common.{◌∙◌, ap, refl, subst, ℕ, List, Bor}
 use Rattle.fjall_base.specs.Store.{Create}
-use Rattle.fjall_contents.specs.Replays.{option_pairs}
+use Rattle.fjall_meta.specs.Replays.{option_pairs}
 use Rattle.fjall_history.specs.Histories.{plain}
 use Rattle.fjall_machine.specs.Shapes.{OfCreation}
-use Rattle.fjall_transactions.specs.Holding.{Held}
-use Rattle.fjall_transactions.specs.CoreStanding.{Owes, Serves, number_reply}
+use Rattle.fjall_core.specs.Holding.{Held}
+use Rattle.fjall_core.specs.CoreStanding.{Owes, Serves, number_reply}
 use Rattle.fjall_shared.specs.Locked.{Locked}
 use Rattle.fjall_shared.proofs.Settled.{call_done, call_settles, grown_so, told_more}
 use Rattle.fjall_shared.proofs.shared.Shared.keyspace.Goals as goal

@@ -1,5 +1,5 @@
 use Rattle.fjall_base.specs.Store.{Create}
-use Rattle.fjall_contents.specs.Replays.{option_pairs}
+use Rattle.fjall_meta.specs.Replays.{option_pairs}
 use Rattle.fjall_history.specs.Histories.{plain}
 use Rattle.fjall_shared.proofs.shared.Shared.keyspace.Given as goal
 

@@ -8,9 +8,9 @@ use Rattle.fjall_machine.specs.Machine.{merge_out}
 use Rattle.fjall_machine.specs.Merging.{KnowsMerge}
 use Rattle.fjall_machine.specs.Shapes.{OfMergeBegin}
 use Rattle.fjall_machine.specs.declared.merge_kind.MergeKind.TheVariants.{Major}
-use Rattle.fjall_transactions.specs.Holding.{Held}
-use Rattle.fjall_transactions.specs.CoreStanding.{Owes, ReadsOn, Serves, StandsFor, merge_job_reply, job_of, no_job_reply}
-use Rattle.fjall_places.specs.Labels.{Label, merge_label}
+use Rattle.fjall_core.specs.Holding.{Held}
+use Rattle.fjall_core.specs.CoreStanding.{Owes, ReadsOn, Serves, StandsFor, merge_job_reply, job_of, no_job_reply}
+use Rattle.fjall_shared.specs.Labels.{Label, merge_label}
 use Rattle.fjall_shared.specs.Does.{MakesCall}
 use Rattle.fjall_shared.specs.Locked.{IsSettled, Locked}
 use Rattle.fjall_shared.proofs.Jobs.{merge_makes, merge_settles}

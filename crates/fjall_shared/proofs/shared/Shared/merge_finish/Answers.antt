@@ -5,9 +5,9 @@ use Rattle.fjall_history.specs.declared.reply.Reply.{Reply}
 use Rattle.fjall_jobs.specs.Made.{merged_job}
 use Rattle.fjall_jobs.specs.Merges.{merge_target}
 use Rattle.fjall_machine.specs.Shapes.{OfMergeFinish}
-use Rattle.fjall_transactions.specs.Holding.{Held}
-use Rattle.fjall_transactions.specs.CoreStanding.{KnowsMergeIfDue, Owes, ServesWhere, merge_reply, job_of}
-use Rattle.fjall_places.specs.Labels.{Label, merge_made_of}
+use Rattle.fjall_core.specs.Holding.{Held}
+use Rattle.fjall_core.specs.CoreStanding.{KnowsMergeIfDue, Owes, ServesWhere, merge_reply, job_of}
+use Rattle.fjall_shared.specs.Labels.{Label, merge_made_of}
 use Rattle.fjall_shared.specs.Locked.{IsSettled, Locked}
 use Rattle.fjall_shared.specs.Does.{FinishesJob, with_merges}
 use Rattle.fjall_shared.proofs.Jobs.{found_there, merged_done, merged_settles, put_back, written_back}

@@ -1,9 +1,9 @@
 use Rattle.std.proofs.Common.{◌∙◌, List, ap, subst, sym}
 use Rattle.fjall_base.specs.Disk.{Meaning}
-use Rattle.fjall_transactions.specs.Openings.{KeepsStore, OpensAmid, OpensWithin}
-use Rattle.fjall_places.specs.Labels.{Label}
-use Rattle.fjall_transactions.specs.Transactions.{Kept}
-use Rattle.fjall_word.specs.Seats.{Place}
+use Rattle.fjall_core.specs.Openings.{KeepsStore, OpensAfterCrash, OpensBetween}
+use Rattle.fjall_shared.specs.Labels.{Label}
+use Rattle.fjall_core.specs.Transactions.{Kept}
+use Rattle.fjall_history.specs.Seats.{Place}
 use Rattle.fjall_shared.specs.Locked.{IsSettled}
 use Rattle.fjall_shared.specs.Openings.{IsOpenedFrom}
 use Rattle.fjall_shared.proofs.Beginning.{First, begins, in_ok}
@@ -14,8 +14,8 @@ seated-requires g c =
     let core = c.in-Ok.core.engine in
     subst (λ (m : Meaning). First g.D.Disk.honest m core) (ap g.D.Disk.meaning (sym c.of-opened.ensures))
     (begins g.D.Disk.honest (g.D.Disk.meaning c.args.disk) core c.requires.left
-    (λ is base pending holds. in_ok _ _ c.in-Ok.is (λ k. OpensAmid (g.D.Disk.meaning c.args.disk) k.engine base pending) (c.«open».ensures.amid is base pending holds))
-    (λ is base least all left. in_ok _ _ c.in-Ok.is (λ k. OpensWithin k.engine base least all) (c.«open».ensures.any_bytes is base least all left)))
+    (λ is base pending holds. in_ok _ _ c.in-Ok.is (λ k. OpensAfterCrash (g.D.Disk.meaning c.args.disk) k.engine base pending) (c.«open».ensures.amid is base pending holds))
+    (λ is base least all left. in_ok _ _ c.in-Ok.is (λ k. OpensBetween k.engine base least all) (c.«open».ensures.any_bytes is base least all left)))
 
 pub returns-in_default-clause-any_moment_err : goal.returns-in_default-clause-any_moment_err
 returns-in_default-clause-any_moment_err g c is =

@@ -1,6 +1,6 @@
 use Rattle.std.proofs.Common.{refl}
 use Rattle.fjall_machine.specs.Shapes.{Close, OfTickets}
-use Rattle.fjall_transactions.specs.CoreStanding.{reply_of}
+use Rattle.fjall_core.specs.CoreStanding.{reply_of}
 use Rattle.fjall_shared.specs.Locked.{Locked}
 use Rattle.fjall_shared.proofs.Settled.{kept_makes, kept_settles}
 use Rattle.fjall_shared.proofs.shared.Shared.rollback.Goals as goal

@@ -1,4 +1,4 @@
-use Rattle.fjall_memory.specs.MemoryDisk.{meaning_in}
+use Rattle.fjall_disk_memory.specs.MemoryDisk.{meaning_in}
 use Rattle.fjall_shared.proofs.NewDisks.{new_is_left}
 use Rattle.fjall_shell.proofs.medium.MemoryDiskMedium.open_disk.Goals as goal
 

@@ -4,7 +4,7 @@ use Rattle.fjall_jobs.specs.declared.flush_job.FlushJob.{FlushJob}
 use Rattle.fjall_tree.specs.Jobs.{flush_begun}
 use Rattle.fjall_trees.specs.Forests.{altered_at}
 use Rattle.fjall_trees.specs.Views.{forest_of}
-use Rattle.fjall_machine.specs.Remembered.{Remembered, flush_out}
+use Rattle.fjall_machine.specs.Remembered.{Remembered, flush_out_in_memory}
 use Rattle.fjall_state.proofs.Inside.{memory_in}
 use Rattle.fjall_machine.proofs.Flushing.{out_is_lawful}
 use Rattle.fjall_machine.proofs.Lawful.{alike}
@@ -19,4 +19,4 @@ invariant_of-self-in-Some c =
     let trees : forest_of c.begin_flush.new.self ≡ altered_at id (flush_begun a.next_job a.tickets.tickets.watermark) (forest_of a.trees) =
     subst (λ (o : Option FlushJob). IfSome o (λ _. forest_of c.begin_flush.new.self ≡ altered_at id (flush_begun a.next_job c.watermark-watermark.result) (forest_of a.trees))) c.in-Some.is c.in_ok-job.ensures.begun
     ∙ ap (λ w. altered_at id (flush_begun a.next_job w) (forest_of a.trees)) c.watermark-watermark.ensures.value in
-    alike (flush_out id m) _ (out_is_lawful id m c.self.invariant small) refl trees refl refl refl refl
+    alike (flush_out_in_memory id m) _ (out_is_lawful id m c.self.invariant small) refl trees refl refl refl refl

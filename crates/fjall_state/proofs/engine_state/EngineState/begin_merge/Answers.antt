@@ -8,7 +8,7 @@ use Rattle.fjall_table_reader.specs.Files.{IsRefused}
 use Rattle.fjall_trees.specs.Forests.{altered_at}
 use Rattle.fjall_trees.specs.Tables.{AreReadOn, AreSameTrees, shape_in}
 use Rattle.fjall_trees.specs.Views.{forest_of}
-use Rattle.fjall_machine.specs.Remembered.{Remembered, merge_out, with_trees}
+use Rattle.fjall_machine.specs.Remembered.{Remembered, merge_out_in_memory, with_trees}
 use Rattle.fjall_state.proofs.Inside.{memory_in}
 use Rattle.fjall_machine.proofs.Lawful.{alike, read_is_lawful}
 use Rattle.fjall_machine.proofs.MergesLawful.{merge_out_is_lawful}
@@ -42,7 +42,7 @@ invariant_of-self-in-Some g c =
     let small = subst (λ (k : Remembered). k.next_job < 2 ^ 64 - 1) (sym c.self.view_is) c.requires.numbered in
     let begun = subst (λ (o : Option MergeJob). IfSome o (λ _. AreSameTrees (altered_at id (merge_begun a.next_job c.watermark-watermark.result) (forest_of a.trees)) trees)) c.in-Some.is c.in_ok-job.ensures.begun in
     let same = subst (λ (w : ℕ). AreSameTrees (altered_at id (merge_begun a.next_job w) (forest_of a.trees)) trees) c.watermark-watermark.ensures.value begun in
-    alike (with_trees trees (merge_out id m)) _ (read_is_lawful trees (merge_out id m) same (merge_out_is_lawful id m c.self.invariant small)) refl refl refl refl refl refl
+    alike (with_trees trees (merge_out_in_memory id m)) _ (read_is_lawful trees (merge_out_in_memory id m) same (merge_out_is_lawful id m c.self.invariant small)) refl refl refl refl refl refl
 
 pub returns-clause-out : goal.returns-clause-out
 returns-clause-out g c = λ honest entries read.

@@ -3,8 +3,8 @@ use Rattle.fjall_base.specs.Disk.{LeavesOnly, state_in}
 use Rattle.fjall_journal.specs.Changes.{change_text, of_change}
 use Rattle.fjall_journal.specs.Writer.{BatchTook}
 use Rattle.fjall_trees.specs.Views.{forest_of}
-use Rattle.fjall_commit.specs.Given.{meant}
-use Rattle.fjall_commit.specs.Journaling.{ForFollowing, LeavesRoot}
+use Rattle.fjall_changes.specs.Given.{meant}
+use Rattle.fjall_changes.specs.Journaling.{ForFollowing, LeavesRoot}
 use Rattle.fjall_history.specs.Tickets.{Tracked}
 use Rattle.fjall_machine.specs.Machine.{changed}
 use Rattle.fjall_machine.specs.Remembered.{IsLawful, Remembered, with_change}

@@ -1,6 +1,6 @@
 use Rattle.std.proofs.Common.{◌≡◌, ◌+◌, ℕ, ap, arith, refl, subst, rules, ◌∙◌}
 use Rattle.std.specs.FinMap.{insert}
-use Rattle.fjall_catalog.specs.Catalog.{fields, first_of}
+use Rattle.fjall_manifest.specs.Catalog.{fields, first_of}
 use Rattle.fjall_manifest.specs.Records.{view}
 use Rattle.fjall_meta.specs.Keyspaces.{AreKeyspaces, with_keyspace}
 use Rattle.fjall_history.specs.Tickets.{Tracked}

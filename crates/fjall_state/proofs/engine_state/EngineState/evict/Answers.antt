@@ -1,6 +1,6 @@
 use Rattle.std.proofs.Common.{List, OnErr, subst}
-use Rattle.fjall_manager.specs.Evictions.{StoppedBehind, TookEvictions}
-use Rattle.fjall_manager.specs.Journals.{Sealed}
+use Rattle.fjall_files.specs.Evictions.{StoppedBehind, TookEvictions}
+use Rattle.fjall_files.specs.Journals.{Sealed}
 use Rattle.fjall_machine.specs.Remembered.{Remembered, flushed_by}
 use Rattle.fjall_state.proofs.Inside.{memory_in}
 use Rattle.fjall_machine.proofs.Evicting.{left_by}

@@ -5,7 +5,7 @@ use Rattle.fjall_base.specs.Disk.{IsNoFolder, LeavesOnly, state_in}
 use Rattle.fjall_files.specs.Calls.{AllServed}
 use Rattle.fjall_files.specs.Names.{table_name}
 use Rattle.fjall_base.specs.declared.error.Error.TheVariants.{OutOfMemory}
-use Rattle.fjall_compaction.specs.Flushes.{flush_of, record_after}
+use Rattle.fjall_compaction.specs.Flushes.{flush_of, record_after_flush}
 use Rattle.fjall_compaction.specs.FlushPlans.{HaveFiles, KeepsTables}
 use Rattle.fjall_compaction.proofs.Room.{fits_placed}
 use Rattle.fjall_compaction.proofs.Beside.{tables_stay}
@@ -62,7 +62,7 @@ returns-in_err-reserve-clause-cause g c = λ of k out at was.
     let number = c.saturating_sub-number.result in
     let may = may_finish old now made last c.keyspace_id-id.result c.flush_end.result number c.self.view_is c.keyspace_id-id.ensures c.in-Some.ensures c.flush_end.ensures c.saturating_sub-number.ensures of in
     let disk = g.D.Disk.meaning c.args.disk.now in
-    let place = fits_placed (record_after (flush_of number made) last) c.in_ok-planned.ensures.writes.fits in
+    let place = fits_placed (record_after_flush (flush_of number made) last) c.in_ok-planned.ensures.writes.fits in
     let is = refused now made last number may k out at was disk.faults disk.faults OutOfMemory place in
     search rules
 

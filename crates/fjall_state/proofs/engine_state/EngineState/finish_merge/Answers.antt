@@ -6,7 +6,7 @@ use Rattle.fjall_compaction.specs.FlushPlans.{HaveFiles}
 use Rattle.fjall_compaction.proofs.Behind.{nothing_written}
 use Rattle.fjall_jobs.specs.declared.made_table.MadeTable.{MadeTable}
 use Rattle.fjall_jobs.specs.Made.{merge_tables, merged_task}
-use Rattle.fjall_recovery.specs.Known.{last_known}
+use Rattle.fjall_replay.specs.Known.{last_known}
 use Rattle.fjall_compaction.specs.Merges.{merge_of}
 use Rattle.fjall_compaction.specs.MergePlans.{HasNoTableFolder, MergeKeepsTables}
 use Rattle.fjall_recovery.specs.Halves.{HasTree}

@@ -2,7 +2,7 @@ use Rattle.std.proofs.Common.{◌≡◌, ◌∙◌, ap, subst, rules}
 use Rattle.std.proofs.lemmas.Fn.{filter_same}
 use Rattle.std.specs.FinMap.{remove}
 use Rattle.fjall_trees.specs.Forests as forests
-use Rattle.fjall_machine.specs.Machine.{without}
+use Rattle.fjall_machine.specs.Machine.{without_id}
 use Rattle.fjall_machine.specs.Remembered.{IsLawful, Remembered, journals_of, let_go}
 use Rattle.fjall_machine.proofs.Counting.{map_of}
 use Rattle.fjall_machine.proofs.Lawful.{alike, let_go_is_lawful}
@@ -18,7 +18,7 @@ invariant_of-self c =
 
 pub returns : goal.returns
 returns c =
-    let ids : c.retain.new.self.items ≡ without c.self.inside.lasting.items c.args.id = filter_same _ _ _ (λ x b f' k. search rules) _ _ c.retain.ensures.filtered in
+    let ids : c.retain.new.self.items ≡ without_id c.self.inside.lasting.items c.args.id = filter_same _ _ _ (λ x b f' k. search rules) _ _ c.retain.ensures.filtered in
     (λ i.
     record {
       keyspaces = c.self.inside.keyspaces;

@@ -2,7 +2,7 @@ use Rattle.std.proofs.Common.{◌≡◌, ◌∙◌, ◌+◌, ℕ, ap, subst, sym
 use Rattle.fjall_base.specs.Disk.{IsNoFolder, state_in}
 use Rattle.fjall_files.specs.Names.{journal_name}
 use Rattle.fjall_journal.specs.Rotations.{RotationTook}
-use Rattle.fjall_commit.specs.Rotations.{ForRotating}
+use Rattle.fjall_changes.specs.Rotations.{ForRotating}
 use Rattle.fjall_machine.specs.Remembered.{Remembered}
 use Rattle.fjall_machine.proofs.Writing.{untouched_rotation}
 use Rattle.fjall_state.proofs.engine_state.EngineState.rotate_journal.Goals as goal

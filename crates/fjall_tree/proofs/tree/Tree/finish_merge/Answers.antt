@@ -1,5 +1,5 @@
 use Rattle.std.proofs.Common.{◌≡◌, ◌++◌, ℕ, List, drop, subst, sym, take, ◌∙◌}
-use Rattle.fjall_views.specs.Jobs.{merged_clears}
+use Rattle.fjall_memtable.specs.Jobs.{merged_clears}
 use Rattle.fjall_memtable.specs.Memories.{memory_of}
 use Rattle.fjall_tree.specs.Trees.{IsShape}
 use Rattle.fjall_tree.proofs.Merged.{shape_merged}

@@ -6,7 +6,7 @@ use Rattle.std.proofs.lemmas.List.Elements.{All-push}
 use Rattle.std.proofs.lemmas.Result.{IfOk-weaker}
 use Rattle.fjall_base.specs.Pairs.{key_range}
 use Rattle.fjall_table.specs.Blocks.{Entry}
-use Rattle.fjall_views.specs.Jobs.{OnceEach}
+use Rattle.fjall_memtable.specs.Jobs.{OnceEach}
 use Rattle.fjall_memtable.specs.Sorted.{IsInTurn, flat, in_turn}
 use Rattle.fjall_table_reader.specs.Readers.{AreRead, Reader}
 use Rattle.fjall_memtable.specs.Held.{held_of}

@@ -3,14 +3,14 @@ use Rattle.std.specs.List.{All}
 use Rattle.std.proofs.lemmas.List.Elements.{All-push}
 use Rattle.fjall_base.specs.Pairs.{key_range}
 use Rattle.fjall_table.specs.Blocks.{Entry}
-use Rattle.fjall_views.specs.Jobs.{OnceEach}
+use Rattle.fjall_memtable.specs.Jobs.{OnceEach}
 use Rattle.fjall_memtable.specs.Sorted.{IsInTurn, flat, in_turn, sorted}
 use Rattle.fjall_memtable.specs.Held.{held_of}
 use Rattle.fjall_memtable.specs.Memories.{memory_of}
 use Rattle.fjall_memtable.specs.Parts.{IsHeld, parts_of}
 use Rattle.fjall_memtable.specs.Shares.{shared}
 use Rattle.fjall_memtable.proofs.Apart.{all_held}
-use Rattle.fjall_runs.specs.Pages.{page_of}
+use Rattle.fjall_cursors.specs.Pages.{page_of}
 use Rattle.fjall_tree.specs.Shapes.{shape_of}
 use Rattle.fjall_tree.proofs.Paging.{memory_once, memory_ordered, memory_page, page_told, runs_themselves}
 use Rattle.fjall_tree.proofs.tree.Tree.page_in_memory.Goals as goal

@@ -2,7 +2,7 @@ use Rattle.std.proofs.Common.{◌≡◌, ◌≢◌, List, None, sym, subst, ◌�
 use Rattle.std.specs.Result.{IfErr, IfOk}
 use Rattle.fjall_base.proofs.Codecs.{some_is}
 use Rattle.fjall_table_reader.specs.Files.{IsRefused}
-use Rattle.fjall_views.specs.Views.{newest, value_at}
+use Rattle.fjall_memtable.specs.Views.{newest, value_at}
 use Rattle.fjall_table_reader.specs.Readers.{SomeTableIsWrongFor}
 use Rattle.fjall_table_reader.proofs.Readers.{looks_none, wrong_tables}
 use Rattle.fjall_memtable.specs.Parts.{parts_of, versions_in}

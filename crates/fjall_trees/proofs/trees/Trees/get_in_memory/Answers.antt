@@ -1,7 +1,7 @@
 use Rattle.std.proofs.Common.{◌≡◌, [], None, Option, sym, subst}
 use Rattle.std.specs.Prelude.{MatchOption}
 use Rattle.std.specs.Result.{IfOk}
-use Rattle.fjall_views.specs.Views.{value_at}
+use Rattle.fjall_memtable.specs.Views.{value_at}
 use Rattle.fjall_tree.specs.Trees.{Shape, clears_of, versions_of}
 use Rattle.fjall_trees.proofs.Places.{found_tree, tree_here}
 use Rattle.fjall_trees.proofs.trees.Trees.get_in_memory.Goals as goal

@@ -2,7 +2,7 @@ use Rattle.std.proofs.Common.{◌≡◌, List, None, sym, subst, ◌∙◌}
 use Rattle.std.specs.Result.{IfErr}
 use Rattle.fjall_base.proofs.Codecs.{some_is}
 use Rattle.fjall_table_reader.specs.Files.{IsRefused}
-use Rattle.fjall_views.specs.Views.{IsView}
+use Rattle.fjall_memtable.specs.Views.{IsView}
 use Rattle.fjall_table_reader.specs.Readers.{SomeTableIsWrong}
 use Rattle.fjall_table_reader.proofs.Readers.{looks_none}
 use Rattle.fjall_tree.specs.Shapes.{shape_of}

@@ -1,6 +1,6 @@
 use Rattle.std.proofs.Common.{[], sym, subst, ◌∙◌}
 use Rattle.fjall_base.proofs.Codecs.{some_is}
-use Rattle.fjall_views.specs.Views.{IsView}
+use Rattle.fjall_memtable.specs.Views.{IsView}
 use Rattle.fjall_tree.specs.Shapes.{shape_of}
 use Rattle.fjall_tree.specs.Trees.{Shape, clears_of, versions_of}
 use Rattle.fjall_trees.proofs.Places.{found_tree, tree_here}

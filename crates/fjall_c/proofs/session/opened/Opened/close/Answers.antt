@@ -1,5 +1,5 @@
 use Rattle.std.proofs.Common.{refl}
-use Rattle.fjall_memory.specs.MemoryDisk.{meaning_in}
+use Rattle.fjall_disk_memory.specs.MemoryDisk.{meaning_in}
 use Rattle.fjall_c.proofs.session.opened.Opened.close.Goals as goal
 
 pub returns : goal.returns

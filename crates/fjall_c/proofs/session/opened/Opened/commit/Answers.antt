@@ -1,7 +1,7 @@
 use Rattle.std.proofs.Common.{◌≡◌, ◌<◌, List, Some, length, ap, refl, subst, sym, ◌∙◌}
 use Rattle.fjall_base.specs.declared.error.Error.{Error}
 use Rattle.fjall_tx.specs.declared.outcome.CommitOutcome.TheVariants.{Aborted}
-use Rattle.fjall_transactions.specs.Transactions.{Tx}
+use Rattle.fjall_core.specs.Transactions.{Tx}
 use Rattle.fjall_c.specs.Live.{Live, live}
 use Rattle.fjall_c.specs.Transactions.{CommitsOne, place_of}
 use Rattle.fjall_c.proofs.Going.{of_one}

@@ -1,7 +1,7 @@
 use Rattle.std.proofs.Common.{◌≡◌, ◌<◌, List, Some, Err, length, ap, refl, subst, sym, ◌∙◌}
 use Rattle.fjall_base.specs.declared.error.Error.{Error}
 use Rattle.fjall_journal.specs.declared.op.Op.TheVariants.{Remove}
-use Rattle.fjall_transactions.specs.Transactions.{Tx}
+use Rattle.fjall_core.specs.Transactions.{Tx}
 use Rattle.fjall_c.specs.Live.{live}
 use Rattle.fjall_c.specs.Transactions.{Writes, place_of}
 use Rattle.fjall_c.proofs.Going.{within_one}

@@ -1,6 +1,6 @@
 use Rattle.std.proofs.Common.{◌≡◌, ◌<◌, List, Some, Err, length, ap, refl, subst, sym, ◌∙◌}
 use Rattle.fjall_base.specs.declared.error.Error.{Error}
-use Rattle.fjall_transactions.specs.Transactions.{Tx}
+use Rattle.fjall_core.specs.Transactions.{Tx}
 use Rattle.fjall_c.specs.Live.{Live, live}
 use Rattle.fjall_c.specs.Transactions.{RollsOneBack, place_of}
 use Rattle.fjall_c.proofs.Going.{of_one}

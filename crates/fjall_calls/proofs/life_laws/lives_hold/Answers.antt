@@ -1,0 +1,5 @@
+use Rattle.fjall_calls.proofs.Lives as Lives
+use Rattle.fjall_calls.proofs.life_laws.lives_hold.Goals as goal
+
+pub returns : goal.returns
+returns c = Lives.lives_hold

@@ -1,5 +1,0 @@
-use Rattle.fjall_catalog.proofs.Resting as Resting
-use Rattle.fjall_catalog.proofs.laws.last_is_a_record.Goals as goal
-
-pub returns : goal.returns
-returns c = Resting.last_record

@@ -1,5 +1,0 @@
-use Rattle.fjall_catalog.proofs.Meanings as Meanings
-use Rattle.fjall_catalog.proofs.laws.regions_say_the_catalog.Goals as goal
-
-pub returns : goal.returns
-returns c region state image records last s more rests is = Meanings.regions_say region state image records last s more rests is

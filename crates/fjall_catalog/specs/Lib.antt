@@ -1,3 +1,0 @@
-pub mod Catalog
-pub mod Updates
-pub mod Refusals

@@ -1,5 +1,0 @@
-use Rattle.fjall_commit.proofs.Batches.{kept-persist}
-use Rattle.fjall_commit.proofs.laws.a_persist_keeps_all.Goals as goal
-
-pub returns : goal.returns
-returns c = kept-persist

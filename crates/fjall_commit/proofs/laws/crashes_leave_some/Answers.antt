@@ -1,5 +1,0 @@
-use Rattle.fjall_commit.proofs.CrashesInWrites.{root_left}
-use Rattle.fjall_commit.proofs.laws.crashes_leave_some.Goals as goal
-
-pub returns : goal.returns
-returns c = λ state writer j image writing is. root_left state j image writing.root is

@@ -1,5 +1,0 @@
-use Rattle.fjall_commit.proofs.CrashesInWrites.{whole_left}
-use Rattle.fjall_commit.proofs.laws.synced_batches_stay.Goals as goal
-
-pub returns : goal.returns
-returns c = λ state writer j image writing none is. whole_left state j image writing.root none is

@@ -1,5 +1,0 @@
-use Rattle.fjall_contents.proofs.Keyspacing as Keyspacing
-use Rattle.fjall_contents.proofs.laws.deletion_is_a_command.Goals as goal
-
-pub returns : goal.returns
-returns c = Keyspacing.deletion

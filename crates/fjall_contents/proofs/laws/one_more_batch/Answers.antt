@@ -1,8 +1,0 @@
-use Rattle.fjall_contents.proofs.Following as Following
-use Rattle.fjall_contents.proofs.laws.one_more_batch.Goals as goal
-
-pub returns-clause-more : goal.returns-clause-more
-returns-clause-more c = Following.one_more_batch
-
-pub returns-clause-beyond_all : goal.returns-clause-beyond_all
-returns-clause-beyond_all c = Following.beyond_all

@@ -1,5 +1,0 @@
-use Rattle.fjall_contents.proofs.Writes as Writes
-use Rattle.fjall_contents.proofs.replay_laws.a_clear_is_a_command.Goals as goal
-
-pub returns-clause-command : goal.returns-clause-command
-returns-clause-command c = Writes.clear_command

@@ -1,5 +1,0 @@
-use Rattle.fjall_contents.proofs.Creating as Creating
-use Rattle.fjall_contents.proofs.replay_laws.a_creation_is_replayed.Goals as goal
-
-pub returns : goal.returns
-returns c = Creating.creation_of_batches

@@ -1,5 +1,0 @@
-use Rattle.fjall_contents.proofs.Keeping as Keeping
-use Rattle.fjall_contents.proofs.replay_laws.a_deletion_is_replayed.Goals as goal
-
-pub returns : goal.returns
-returns c = Keeping.deletion_of_batches

@@ -1,5 +1,0 @@
-use Rattle.fjall_contents.proofs.Replaying as Replaying
-use Rattle.fjall_contents.proofs.replay_laws.one_item_is_a_write.Goals as goal
-
-pub returns : goal.returns
-returns c = Replaying.one_item

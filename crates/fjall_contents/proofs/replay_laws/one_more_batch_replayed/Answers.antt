@@ -1,5 +1,0 @@
-use Rattle.fjall_contents.proofs.Replaying as Replaying
-use Rattle.fjall_contents.proofs.replay_laws.one_more_batch_replayed.Goals as goal
-
-pub returns : goal.returns
-returns c = Replaying.one_more_batch

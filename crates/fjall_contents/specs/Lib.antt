@@ -1,4 +1,0 @@
-pub mod Replays
-pub mod Versions
-pub mod Views
-pub mod Contents

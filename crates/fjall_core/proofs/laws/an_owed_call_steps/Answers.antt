@@ -1,5 +1,0 @@
-use Rattle.fjall_core.proofs.OwedSteps.{owes_step}
-use Rattle.fjall_core.proofs.laws.an_owed_call_steps.Goals as goal
-
-pub returns : goal.returns
-returns c = λ old new call reply owes bare s stands. owes_step old new call reply s bare owes stands

@@ -1,5 +1,0 @@
-use Rattle.fjall_core.proofs.ApproximateLengths.{a_view_fits}
-use Rattle.fjall_core.proofs.laws.no_view_is_longer.Goals as goal
-
-pub returns : goal.returns
-returns c = a_view_fits

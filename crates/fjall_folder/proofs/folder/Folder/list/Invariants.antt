@@ -1,5 +1,0 @@
-use Rattle.fjall_folder.specs.Names.{AreEntries}
-use Rattle.fjall_folder.proofs.folder.Folder.list.Given as goal
-
-abbrev pub invariant-loop-entry : goal.invariant-loop-entry
-invariant-loop-entry l = AreEntries l.name l.listed.items

@@ -1,5 +1,0 @@
-use Rattle.fjall_lives.proofs.CrashedDisks as CrashedDisks
-use Rattle.fjall_lives.proofs.laws.new_disk_holds.Goals as goal
-
-pub returns : goal.returns
-returns c = CrashedDisks.new_disk_holds

@@ -1,5 +1,0 @@
-use Rattle.fjall_manager.proofs.Telling.{mark_is_greatest}
-use Rattle.fjall_manager.proofs.laws.a_watermark_is_the_greatest_number.Goals as goal
-
-pub returns : goal.returns
-returns c = mark_is_greatest

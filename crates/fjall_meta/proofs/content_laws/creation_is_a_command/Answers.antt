@@ -1,0 +1,5 @@
+use Rattle.fjall_meta.proofs.Keyspacing as Keyspacing
+use Rattle.fjall_meta.proofs.content_laws.creation_is_a_command.Goals as goal
+
+pub returns : goal.returns
+returns c = Keyspacing.creation

@@ -1,5 +1,0 @@
-use Rattle.fjall_recovery.proofs.LeftCounts.{one_for_each}
-use Rattle.fjall_recovery.proofs.replay_laws.a_sealed_journal_leaves_one_memtable.Goals as goal
-
-pub returns : goal.returns
-returns c = one_for_each

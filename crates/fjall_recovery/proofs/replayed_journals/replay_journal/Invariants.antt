@@ -1,9 +1,0 @@
-use Rattle.std.proofs.Common.{◌≡◌, map, take}
-use Rattle.fjall_journal.specs.Batches.{view}
-use Rattle.fjall_trees.specs.Views.{forest_of}
-use Rattle.fjall_contents.specs.Replays.{counts_unpersisted}
-use Rattle.fjall_recovery.specs.Steps.{with_batches}
-use Rattle.fjall_recovery.proofs.replayed_journals.replay_journal.Given as goal
-
-abbrev pub invariant-loop-batch : goal.invariant-loop-batch
-invariant-loop-batch l = forest_of l.trees ≡ with_batches (counts_unpersisted l.keyspaces l.persisted) (map view (take l.batch-index l.batches)) (forest_of l.fn.trees)

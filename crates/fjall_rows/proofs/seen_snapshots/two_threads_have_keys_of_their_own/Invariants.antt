@@ -1,0 +1,6 @@
+use Rattle.std.specs.Prelude.{Some}
+use Rattle.fjall_rows.proofs.seen_snapshots.two_threads_have_keys_of_their_own.Given as goal
+
+-- the word of the database that was just opened
+abbrev pub ghosts-run : goal.ghosts-run
+ghosts-run g a = record { table = Some a.opened.table }

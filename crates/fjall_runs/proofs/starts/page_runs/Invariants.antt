@@ -1,6 +1,0 @@
-use Rattle.fjall_base.specs.Pairs.{key_range}
-use Rattle.fjall_runs.specs.Tables.{StartsAt}
-use Rattle.fjall_runs.proofs.starts.page_runs.Given as goal
-
-abbrev pub invariant-loop-run : goal.invariant-loop-run
-invariant-loop-run l = StartsAt (key_range l.range) l.back l.tables l.yielded l.runs.items

@@ -1,5 +1,0 @@
-use Rattle.fjall_wild.proofs.Folders.{wild_stands}
-use Rattle.fjall_wild.proofs.laws.a_wild_image_stands.Goals as goal
-
-pub returns : goal.returns
-returns c state steps wild folder leaves opens = wild_stands state steps wild folder leaves opens

@@ -1,2 +1,0 @@
-mod Ascents
-mod Queues

@@ -1,3 +1,0 @@
-pub mod FlushQueues
-pub mod Ingestions
-pub mod WriteBatches
