@@ -1,17 +1,20 @@
 -- Why no wrong story of any life is told.
-use Rattle.std.proofs.Common.{◌≡◌, ◌≢◌, ℕ, ◌<◌, Bool, true, false, true≢false, List, [], ◌∷◌, ◌++◌, length, All, Some, is_some, Result, refl, sym, ap, subst, ◌∙◌, arith}
+use Rattle.std.proofs.Common.{◌≡◌, ◌≢◌, ℕ, ◌<◌, Bool, true, false, true≢false, List, [], ◌∷◌, ◌++◌, length, map, All, AllPairs, Less, Some, is_some, Result, refl, sym, ap, subst, ◌∙◌, arith}
 use Rattle.std.specs.FinMap.{get, get-empty}
 use Rattle.std.specs.Ordering.{nat_cmp}
-use Rattle.fjall_base.specs.Pairs.{Bytes}
+use Rattle.fjall_base.specs.Pairs.{Bytes, byte_order}
 use Rattle.fjall_base.specs.Store.{Store, fold}
 use Rattle.fjall_base.specs.declared.error.Error.{Error}
-use Rattle.fjall_history.specs.declared.reply.Reply.TheVariants.{Done, Number, Value}
+use Rattle.fjall_base.specs.declared.error.Error.TheVariants.{Io}
+use Rattle.fjall_journal.specs.declared.op.Op.{Op}
+use Rattle.fjall_history.specs.declared.reply.Reply.TheVariants.{Done, Number, Refused, Value}
 use Rattle.fjall_machine.specs.declared.call.Call.TheVariants as core
 use Rattle.fjall_calls.specs.declared.call.Kind.TheVariants.{Single}
 use Rattle.fjall_calls.specs.declared.call.TxCall.TheVariants.{Begin, Core}
 use Rattle.fjall_consistency.specs.declared.life.Life.{Life}
 use Rattle.fjall_consistency.specs.declared.life.Told.{Told}
 use Rattle.fjall_consistency.specs.Consistency.{AreLives, IsMade, Known, accepted, after, asked, begins, is_living, no_store}
+use Rattle.fjall_consistency.proofs.Causes.{ingested_in}
 use Rattle.fjall_wrong_stories.specs.Stories as stories
 use Rattle.fjall_wrong_stories.specs.Stories.{Ended, LeavesOpen, Never, SomeLife, Step, delete_keyspace, insert, keyspace}
 use Rattle.fjall_wrong_stories.proofs.Chapters.{goes}
@@ -97,14 +100,12 @@ given k name options id behind below are = below_fold k.present (asked k (keyspa
         number_is : Number id ≡ Number told → told ≡ id
         number_is e = cc
 
--- a deleted one that was given takes no insert
-never_inserts : (k : Known) (name : Bytes) (options : List Bytes) (id : ℕ) (key value : Bytes) (before between more behind : List Step) → AreBelow k.present
-    → AreTold k (before ++ ((keyspace name options, Number id) ∷ between ++ ((delete_keyspace id, Done) ∷ more ++ (insert id key value, Done) ∷ behind))) → ⊥
-never_inserts k name options id key value before between more behind below are = true≢false (sym lives ∙ gone.gone)
+-- of a deleted one that was given nothing is told that asks for one that lives
+never_again : (k : Known) (name : Bytes) (options : List Bytes) (id : ℕ) (before between more last : List Step) → AreBelow k.present
+    → ((known : Known) → AreTold known last → is_living known.present id ≡ true)
+    → AreTold k (before ++ ((keyspace name options, Number id) ∷ between ++ ((delete_keyspace id, Done) ∷ more ++ last))) → ⊥
+never_again k name options id before between more last below asks are = true≢false (sym lives ∙ gone.gone)
   where
-    last : List Step
-    last = (insert id key value, Done) ∷ behind
-
     then_deleted : List Step
     then_deleted = (delete_keyspace id, Done) ∷ more ++ last
 
@@ -125,13 +126,22 @@ never_inserts k name options id key value before between more behind below are =
         (given_after id made between (given (known_after k before) name options id (between ++ then_deleted) (below_after k before below) makes)))
 
     lives : is_living (known_after deleted more).present id ≡ true
-    lives = insert_lives (known_after deleted more) id key value behind (told_behind deleted more last deletes.1)
+    lives = asks (known_after deleted more) (told_behind deleted more last deletes.1)
 
 pub no_deleted_keyspace_is_written : Never stories.ADeletedKeyspaceTakesWrites
 no_deleted_keyspace_is_written wild lives told end are story =
     let life = found wild _ lives told end are story in
     let (name, options, id, key, value, before, between, more, behind, had) = life.so in
-    never_inserts (begins life.start) name options id key value before between more behind life.sound (life_told wild life.start life.next life.life life.told _ life.is had)
+    never_again (begins life.start) name options id before between more ((insert id key value, Done) ∷ behind) life.sound
+    (λ k told. insert_lives k id key value behind told) (life_told wild life.start life.next life.life life.told _ life.is had)
+
+-- nor is it cleared, where a fault is told
+pub no_fault_clears_a_deleted_keyspace : Never stories.AFaultClearsADeletedKeyspace
+no_fault_clears_a_deleted_keyspace wild lives told end are story =
+    let life = found wild _ lives told end are story in
+    let (name, options, id, fault, before, between, more, behind, had) = life.so in
+    never_again (begins life.start) name options id before between more ((Core (core.Clear id), Refused (Io fault)) ∷ behind) life.sound
+    (λ k told. told.0.0) (life_told wild life.start life.next life.life life.told _ life.is had)
 
 -- ---- keys
 
@@ -151,6 +161,21 @@ no_write_into_no_keyspace wild lives told end are story =
     let gone = along (λ k. is_living k.present id ≡ false) (λ step. (name : Bytes) (options : List Bytes) → step ≢ (keyspace name options, Number id)) (untold id)
     (begins no_store) before last life.served.answers untold_before (none_lives id) in
     true≢false (sym (insert_lives (known_after (begins no_store) before) id key value behind (told_behind (begins no_store) before last life.served.answers)) ∙ gone)
+
+-- two items whose keys ascend
+two_ascend : (id : ℕ) (items : List (Bytes × Op)) (first second : Bytes × Op) → items ≡ first ∷ second ∷ [] → AllPairs (λ a b. byte_order a.key b.key ≡ Less) (map (ingested_in id) items)
+    → byte_order first.0 second.0 ≡ Less
+two_ascend id items first second are all =
+    let two = subst (λ (those : List (Bytes × Op)). AllPairs (λ a b. byte_order a.key b.key ≡ Less) (map (ingested_in id) those)) are all in
+    two 0 1 (ingested_in id first) (omega arith) (omega arith)
+
+pub no_fault_ingests_out_of_order : Never stories.AFaultIngestsOutOfOrder
+no_fault_ingests_out_of_order wild lives told end are story =
+    let life = found wild _ lives told end are story in
+    let (id, items, first, second, items_are, back, fault, before, behind, had) = life.so in
+    let k = begins life.start in
+    let last = told_behind k before ((Core (core.Ingest id items), Refused (Io fault)) ∷ behind) (life_told wild life.start life.next life.life life.told _ life.is had) in
+    back (two_ascend id items.items first second items_are last.0.0.1)
 
 -- ---- reads
 

@@ -1,11 +1,14 @@
 -- Wrong stories: what engines can't have told, over any names, ids, keys, values and options.
 use Rattle.std.specs.Prelude.{◌≡◌, ◌≢◌, ◌⊎◌, ⊤, ℕ, Bool, true, false, List, [], ◌∷◌, ◌++◌, length, map, is_some, All, Contains, Option, Some, None, Result, Ok, Err, Vec}
 use Rattle.std.specs.declared.alloc.Global.{Global}
-use Rattle.fjall_base.specs.Pairs.{Bytes}
+use Rattle.std.specs.declared.cmp.Ordering.TheVariants.{Less}
+use Rattle.std.specs.declared.io.ErrorKind.{ErrorKind}
+use Rattle.fjall_base.specs.Pairs.{Bytes, byte_order}
 use Rattle.fjall_base.specs.Store.{Store}
 use Rattle.fjall_base.specs.declared.error.Error.{Error}
-use Rattle.fjall_base.specs.declared.error.Error.TheVariants.{UnknownKeyspace}
+use Rattle.fjall_base.specs.declared.error.Error.TheVariants.{Io, UnknownKeyspace}
 use Rattle.fjall_journal.specs.Ops.{BatchItem}
+use Rattle.fjall_journal.specs.declared.op.Op.{Op}
 use Rattle.fjall_journal.specs.declared.op.Op.TheVariants.{Put}
 use Rattle.fjall_journal.specs.declared.persist_mode.PersistMode.{PersistMode}
 use Rattle.fjall_journal.specs.declared.persist_mode.PersistMode.TheVariants.{Buffer}
@@ -241,6 +244,19 @@ ADeletedKeyspaceTakesWrites = SomeLife (λ life told.
     (name : Bytes) × (options : List Bytes) × (id : ℕ) × (key value : Bytes) × (before between more behind : List Step)
     × HadSteps life told (
     before ++ ((keyspace name options, Number id) ∷ between ++ ((delete_keyspace id, Done) ∷ more ++ (insert id key value, Done) ∷ behind))))
+
+-- A keyspace was made and deleted, and to clear it in the same life is told a fault of the disk, behind which it may take effect.
+abbrev pub AFaultClearsADeletedKeyspace : Story
+AFaultClearsADeletedKeyspace = SomeLife (λ life told.
+    (name : Bytes) × (options : List Bytes) × (id : ℕ) × (fault : ErrorKind) × (before between more behind : List Step)
+    × HadSteps life told (
+    before ++ ((keyspace name options, Number id) ∷ between ++ ((delete_keyspace id, Done) ∷ more ++ (Core (core.Clear id), Refused (Io fault)) ∷ behind))))
+
+-- An ingestion of two items whose keys don't ascend is told a fault of the disk, behind which it may take effect.
+abbrev pub AFaultIngestsOutOfOrder : Story
+AFaultIngestsOutOfOrder = SomeLife (λ life told.
+    (id : ℕ) × (items : Vec (Bytes × Op) Global) × (first second : Bytes × Op) × (items.items ≡ first ∷ second ∷ []) × (byte_order first.0 second.0 ≢ Less)
+    × (fault : ErrorKind) × (before behind : List Step) × HadSteps life told (before ++ (Core (core.Ingest id items), Refused (Io fault)) ∷ behind))
 
 -- An insert under the empty key is done.
 abbrev pub AWriteWithoutAKey : Story

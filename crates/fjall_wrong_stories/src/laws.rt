@@ -1,4 +1,4 @@
-//! Eighteen wrong stories, each with the law that it is never told, whether or not crashes may be wild, but for one of them.
+//! Nineteen wrong stories, each with the law that it is never told, whether or not crashes may be wild, but for one of them.
 
 ghost use Rattle.fjall_base.specs.declared.error.Error.{Error};
 ghost use Rattle.fjall_base.specs.declared.error.Error.TheVariants.{JournalRecovery, Unrecoverable};
@@ -7,7 +7,7 @@ ghost use Rattle.fjall_consistency.specs.Consistency.{RunsOut};
 ghost use Rattle.fjall_wrong_stories.specs.Stories.{AClosedLifeLostSomething, ADeletedKeyspaceComesBack, ALaterCallWithoutAnEarlierOne, ARefusedCallTakesEffect, ARefusedCallTakesEffectLater};
 ghost use Rattle.fjall_wrong_stories.specs.Stories.{ASnapshotMoves, AValueFromAnotherKey, AValueFromNowhere, AValueThatNobodyWrote, AWriteSkew, AnAcknowledgedSyncIsLost, AnOpeningForgets};
 ghost use Rattle.fjall_wrong_stories.specs.Stories.{ADeletedKeyspaceTakesWrites, ALifeThatWasLetGoClosed, AWriteIntoNoKeyspace, AWriteWithoutAKey};
-ghost use Rattle.fjall_wrong_stories.specs.Stories.{AFaultShiftsTheIds, AWriteBehindAFault, AnUnknownKeyspaceIsRead};
+ghost use Rattle.fjall_wrong_stories.specs.Stories.{AFaultClearsADeletedKeyspace, AFaultIngestsOutOfOrder, AFaultShiftsTheIds, AWriteBehindAFault, AnUnknownKeyspaceIsRead};
 ghost use Rattle.fjall_wrong_stories.specs.Stories.{AnOpeningIsRefused, AnUnknownKeyspaceThatLives, HalfABatch, Never, NeverTame, TwoSingleWriters};
 
 /// A sync was told anything but a refusal, and the next life doesn't find the value that was inserted before it.
@@ -103,6 +103,13 @@ pub fn a_life_that_was_let_go_closed()
 pub fn a_fault_shifts_the_ids()
     ensures made { Never AFaultShiftsTheIds }
     ensures written { Never AWriteBehindAFault }
+{}
+
+/// A fault of the disk is told of a call that is refused without one: a clear of a deleted keyspace, or an ingestion whose keys don't
+/// ascend. Behind a fault each may take effect.
+pub fn a_fault_begins_what_is_refused()
+    ensures cleared { Never AFaultClearsADeletedKeyspace }
+    ensures ingested { Never AFaultIngestsOutOfOrder }
 {}
 
 /// A read in the first life is told a value or none, in an id that no creation told before.

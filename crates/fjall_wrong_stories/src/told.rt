@@ -7,6 +7,7 @@ ghost use Rattle.fjall_consistency.specs.Links.{IsFresh};
 ghost use Rattle.fjall_wrong_stories.specs.Stories.{AClosedLifeLostSomething, ADeletedKeyspaceComesBack, ADeletedKeyspaceTakesWrites, AFaultShiftsTheIds, ALaterCallWithoutAnEarlierOne};
 ghost use Rattle.fjall_wrong_stories.specs.Stories.{ALifeThatWasLetGoClosed, ARefusedCallTakesEffect, ARefusedCallTakesEffectLater, ASnapshotMoves, AValueFromAnotherKey, AValueFromNowhere};
 ghost use Rattle.fjall_wrong_stories.specs.Stories.{AValueThatNobodyWrote, AWriteBehindAFault, AWriteIntoNoKeyspace, AWriteSkew, AWriteWithoutAKey, AnAcknowledgedSyncIsLost, AnOpeningForgets};
+ghost use Rattle.fjall_wrong_stories.specs.Stories.{AFaultClearsADeletedKeyspace, AFaultIngestsOutOfOrder};
 ghost use Rattle.fjall_wrong_stories.specs.Stories.{AnOpeningIsRefused, AnUnknownKeyspaceIsRead, AnUnknownKeyspaceThatLives, HalfABatch, TwoSingleWriters};
 
 use fjall_base::Result;
@@ -45,6 +46,8 @@ pub fn told_truly<P: Power>(
     ensures no_unknown_keyspace_is_read { IsTrue P.Disk.honest → IfOk result (λ told. AnUnknownKeyspaceIsRead lives.items told.items → ⊥) }
     ensures no_fault_shifts_ids { IsTrue P.Disk.honest → IfOk result (λ told. AFaultShiftsTheIds lives.items told.items → ⊥) }
     ensures no_write_behind_a_fault { IsTrue P.Disk.honest → IfOk result (λ told. AWriteBehindAFault lives.items told.items → ⊥) }
+    ensures no_fault_clears_a_deleted_keyspace { IsTrue P.Disk.honest → IfOk result (λ told. AFaultClearsADeletedKeyspace lives.items told.items → ⊥) }
+    ensures no_fault_ingests_out_of_order { IsTrue P.Disk.honest → IfOk result (λ told. AFaultIngestsOutOfOrder lives.items told.items → ⊥) }
 {
     live(alloc, power, disk, lives)
 }

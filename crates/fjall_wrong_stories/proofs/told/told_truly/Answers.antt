@@ -10,7 +10,7 @@ use Rattle.fjall_wrong_stories.specs.Stories.{Never, Story}
 use Rattle.fjall_wrong_stories.proofs.Refuted.{no_closed_life_loses, no_deleted_keyspace_returns, no_half_batch, no_later_call_alone, no_living_keyspace_is_unknown, no_opening_forgets}
 use Rattle.fjall_wrong_stories.proofs.Refuted.{no_opening_is_refused, no_other_value, no_refused_call_is_found, no_refused_call_is_seen, no_snapshot_moves, no_sync_is_lost, no_value_from_nowhere}
 use Rattle.fjall_wrong_stories.proofs.Refuted.{no_value_of_another_key, no_write_skew}
-use Rattle.fjall_wrong_stories.proofs.AnyLife.{no_deleted_keyspace_is_written, no_let_go_life_closes, no_two_writers, no_unknown_keyspace_is_read, no_write_into_no_keyspace, no_write_without_a_key}
+use Rattle.fjall_wrong_stories.proofs.AnyLife.{no_deleted_keyspace_is_written, no_fault_clears_a_deleted_keyspace, no_fault_ingests_out_of_order, no_let_go_life_closes, no_two_writers, no_unknown_keyspace_is_read, no_write_into_no_keyspace, no_write_without_a_key}
 use Rattle.fjall_wrong_stories.proofs.Faults.{no_fault_shifts_ids, no_write_behind_a_fault}
 use Rattle.fjall_wrong_stories.proofs.told.told_truly.Goals as goal
 
@@ -98,3 +98,9 @@ returns-clause-no_fault_shifts_ids g c = λ h. none g.P.Power.wild stories.AFaul
 
 pub returns-clause-no_write_behind_a_fault : goal.returns-clause-no_write_behind_a_fault
 returns-clause-no_write_behind_a_fault g c = λ h. none g.P.Power.wild stories.AWriteBehindAFault no_write_behind_a_fault c.args.lives.items c.live.result (c.live.ensures.lives h)
+
+pub returns-clause-no_fault_clears_a_deleted_keyspace : goal.returns-clause-no_fault_clears_a_deleted_keyspace
+returns-clause-no_fault_clears_a_deleted_keyspace g c = λ h. none g.P.Power.wild stories.AFaultClearsADeletedKeyspace no_fault_clears_a_deleted_keyspace c.args.lives.items c.live.result (c.live.ensures.lives h)
+
+pub returns-clause-no_fault_ingests_out_of_order : goal.returns-clause-no_fault_ingests_out_of_order
+returns-clause-no_fault_ingests_out_of_order g c = λ h. none g.P.Power.wild stories.AFaultIngestsOutOfOrder no_fault_ingests_out_of_order c.args.lives.items c.live.result (c.live.ensures.lives h)
